@@ -1,0 +1,4 @@
+pub mod Paper
+pub mod Decimal
+pub mod Shortest
+pub mod Demands

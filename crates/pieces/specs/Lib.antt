@@ -1,0 +1,4 @@
+pub mod Paper
+pub mod Pieces
+pub mod Entries
+pub mod Demands

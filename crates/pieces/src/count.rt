@@ -1,0 +1,23 @@
+// Counting a byte.
+ghost use mathlib.Core.Path.{_≡_};
+ghost use Rattle.pieces.specs.Pieces.{countOf, oneIf};
+
+// How often the byte `b` stands in `s`.
+pub fn count_byte(s: &[u8], b: u8) -> usize
+    ensures { λ r. ⌜ r ≡ countOf b (now (s .entry)) ⌝ }
+{
+    let mut n = 0;
+    let mut i = 0;
+    while i < s.len() {
+        n += one_if(s[i], b);
+        i += 1;
+    }
+    n
+}
+
+// 1 where the two bytes are equal, else 0.
+fn one_if(a: u8, b: u8) -> usize
+    ensures { λ r. ⌜ r ≡ oneIf a b ⌝ }
+{
+    if a == b { 1 } else { 0 }
+}

@@ -1,0 +1,4 @@
+// A text as a list: of the pieces between separators, and of the entries that their ends give.
+pub mod count;
+pub mod entries;
+pub mod step;

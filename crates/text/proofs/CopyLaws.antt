@@ -1,0 +1,49 @@
+-- Copying byte by byte: what is left to copy lies over what stands. Assumes nothing.
+use Prim.Native.Nat.{ℕ, suc, _+_, _-_, _<_, _≤_}
+use mathlib.Core.Path.{_≡_, refl, sym, ap, _∙_}
+use mathlib.Core.List.{List, [], _∷_, _++_}
+use native.Mathlib.Omega.{arith}
+use native.Mathlib.Numerals.{add-one}
+use native.Mathlib.Nat.{zero-add}
+use lib.ListN.{length, getD, take, drop, set, length-set, drop-of-length-le}
+use lib.Seq.{sets, sets-eq, drop-cons}
+use borrow.Author.Tests.{le-leb, lt-leb}
+use Rattle.text.specs.Over.{over, roomAnswer, leaves, Writes}
+use Rattle.text.specs.Paper.{writtenPaper}
+use Rattle.text.specs.declared.copy.Written.{Written}
+use Rattle.text.specs.declared.copy.Written.the-variants.{Done, Short}
+
+-- i bytes of vs are copied, and l stands where l₀ stood
+pub record Copying (vs l₀ l : List ℕ) (i : ℕ) : Type 0 where
+  pub len : length l ≡ length l₀
+  pub fits : length vs ≤ length l₀
+  pub within : i ≤ length vs
+  pub same : sets l i (drop i vs) ≡ sets l₀ 0 vs
+
+pub copy-first : (vs l : List ℕ) → length vs ≤ length l → Copying vs l l 0
+copy-first vs l h = record { len = refl; fits = h; within = omega arith; same = refl }
+
+pub copy-turn : {vs l₀ l : List ℕ} {i : ℕ} → Copying vs l₀ l i → i < length vs → Copying vs l₀ (set l i (getD vs i 0)) (i + 1)
+copy-turn {vs} {l₀} {l} {i} g h =
+    record {
+      len = simp length-set (g .len);
+      fits = g .fits;
+      within = omega arith;
+      same = rw add-one (rw (drop-cons vs i 0 h) at (g .same));
+    }
+
+pub copy-past : {vs l₀ l : List ℕ} {i : ℕ} → Copying vs l₀ l i → length vs ≤ i → Writes vs l₀ (Done i) l
+unfolding over roomAnswer leaves writtenPaper
+copy-past {vs} {l₀} {l} {i} g h =
+    let e : i ≡ length vs = omega arith in
+    let s : sets l₀ 0 vs ≡ vs ++ drop (length vs) l₀ = simp zero-add at (sets-eq vs l₀ 0 (omega arith)) in
+    record {
+      answer = rw (e, le-leb _ _ (g .fits));
+      bytes = rw (le-leb _ _ (g .fits)) ((rw (drop-of-length-le vs h) at (g .same)) ∙ s);
+    }
+
+pub copy-short : {vs l : List ℕ} → length l < length vs → Writes vs l Short l
+unfolding roomAnswer leaves writtenPaper
+copy-short h = record { answer = rw (lt-leb _ _ h); bytes = rw (lt-leb _ _ h) }
+
+pub ruleset laws = (copy-first, copy-turn, copy-past, copy-short)

@@ -1,0 +1,71 @@
+-- Laws of lists as loops and lent parts have them. Assumes nothing.
+use Prim.Native.Nat.{ℕ, suc, _+_, _-_, _<_, _≤_}
+use mathlib.Core.Path.{_≡_, refl, sym, ap, _∙_}
+use mathlib.Core.List.{List, [], _∷_, _++_, append-assoc, append-nil}
+use native.Mathlib.Omega.{arith}
+use native.Mathlib.Nat.{sub-self, le-refl}
+use native.Mathlib.Numerals.{add-one}
+use lib.ListN.{length, getD, take, drop, length-append, length-drop, length-take, take-append-drop, drop-of-length-le}
+use lib.Seq.{drop-cons, take-all, drop-drop, length-take-le, take-at, drop-at, take-append-add, drop-append-add}
+use borrow.Rule.Slice.PartMut.{putMid}
+use Rattle.text.specs.Over.{over, overAt}
+
+-- from index i on there is the element at i, and then those from i + 1 on
+pub here : (s : List ℕ) (i : ℕ) → i < length s → drop i s ≡ getD s i 0 ∷ drop (i + 1) s
+here s i h = rw (add-one, drop-cons s i 0)
+
+-- ---- a part from an index to the end
+
+pub rest-all : (l : List ℕ) (a : ℕ) → take (length l - a) (drop a l) ≡ drop a l
+rest-all l a = take-all (length l - a) (drop a l) (simp length-drop (le-refl _))
+
+pub length-rest : (l : List ℕ) (a : ℕ) → length (take (length l - a) (drop a l)) ≡ length l - a
+length-rest l a = rw (rest-all l a) (length-drop a l)
+
+-- what a callee wrote at the start of the part `&mut l[a..]`, said of the whole
+pub rest-put : (a : ℕ) (vs l ys : List ℕ) → ys ≡ over vs (take (length l - a) (drop a l)) → putMid a (length l - a) l ys ≡ overAt a vs l
+unfolding overAt
+rest-put a vs l ys e =
+    let n : length (drop a l) ≤ length l - a = simp length-drop (le-refl _) in
+    rw (e, rest-all l a, drop-of-length-le (drop a l) n, append-nil)
+
+-- ---- `over` and `overAt`
+
+pub over-nil : (l : List ℕ) → over [] l ≡ l
+unfolding over
+over-nil l = refl
+
+pub overAt-nil : (a : ℕ) (l : List ℕ) → overAt a [] l ≡ l
+unfolding overAt over
+overAt-nil a l = take-append-drop a l
+
+pub length-over : (vs l : List ℕ) → length vs ≤ length l → length (over vs l) ≡ length l
+unfolding over
+length-over vs l h = simp (length-append, length-drop) (omega arith)
+
+pub length-overAt : (a : ℕ) (vs l : List ℕ) → a + length vs ≤ length l → length (overAt a vs l) ≡ length l
+unfolding overAt
+length-overAt a vs l h =
+    let t = length-drop a l in
+    let o = length-over vs (drop a l) (omega arith) in
+    length-append (take a l) _ ∙ (let k = length-take-le a l (omega arith) in omega arith)
+
+-- one run of bytes and then another
+pub over-append : (us vs l : List ℕ) → length us ≤ length l → over (us ++ vs) l ≡ overAt (length us) vs (over us l)
+unfolding overAt over
+over-append us vs l h =
+    rw (take-at us (drop (length us) l) (length us) refl, drop-at us (drop (length us) l) (length us) refl, length-append, drop-drop)
+    (append-assoc us vs _)
+
+overAt-front : (p : List ℕ) (n : ℕ) (vs l : List ℕ) → overAt (length p + n) vs (p ++ l) ≡ p ++ overAt n vs l
+unfolding overAt
+overAt-front p n vs l = rw (take-append-add p l n, drop-append-add p l n) (append-assoc p (take n l) _)
+
+pub overAt-append : (a : ℕ) (us vs l : List ℕ) → a + length us ≤ length l → overAt a (us ++ vs) l ≡ overAt (a + length us) vs (overAt a us l)
+unfolding overAt
+overAt-append a us vs l h =
+    let d : length us ≤ length (drop a l) = simp length-drop (omega arith) in
+    let k : length (take a l) ≡ a = length-take-le a l (omega arith) in
+    ap (λ (z : List ℕ). take a l ++ z) (over-append us vs (drop a l) d)
+    ∙ sym (overAt-front (take a l) (length us) vs (over us (drop a l)))
+    ∙ ap (λ (n : ℕ). overAt (n + length us) vs (take a l ++ over us (drop a l))) k

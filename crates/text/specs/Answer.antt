@@ -1,0 +1,7 @@
+-- An answer on paper: its number in the table of docs/RULES.md, and the values that it carries, in order.
+-- Assumes nothing.
+use Prim.Native.Nat.{ℕ}
+use mathlib.Core.List.{List}
+
+pub data Answer : Type 0 where
+  says : ℕ → List ℕ → Answer

@@ -1,0 +1,9 @@
+-- What a range cuts out of a text. Assumes nothing.
+use Prim.Native.Nat.{ℕ}
+use mathlib.Core.List.{List}
+use lib.ListN.{take, drop}
+use Rattle.text.specs.declared.range.Range.{Range}
+
+-- the bytes from the range's start on, as many as its length
+unfoldable pub cut : Range → List ℕ → List ℕ
+cut r t = take (r .len) (drop (r .start) t)

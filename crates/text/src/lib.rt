@@ -1,0 +1,4 @@
+// What every crate above shares: places in a text, bytes copied into lent output, and what a text
+// is as characters.
+pub mod copy;
+pub mod range;
