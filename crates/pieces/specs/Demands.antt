@@ -1,8 +1,9 @@
--- What is asked of any splitter, as a function on lists (docs/STATEMENTS.md). Assumes nothing.
+-- What is asked of any splitter and of any step over pieces, as functions on lists (docs/STATEMENTS.md). Assumes nothing.
 use Prim.Native.Nat.{ℕ, _<_}
 use mathlib.Core.Path.{_≡_}
-use mathlib.Core.List.{List, []}
-use lib.ListN.{length, getD}
+use mathlib.Core.List.{List, [], _∷_}
+use lib.ListN.{length, getD, take, drop}
+use Rattle.text.specs.Answer.{Answer, says}
 use Rattle.pieces.specs.Pieces.{joined}
 
 -- no byte of the piece is the separator
@@ -19,3 +20,13 @@ pub record Cut (separator : ℕ) (t : List ℕ) (ps : List (List ℕ)) : Type 0 
 pub record Splits (splitter : ℕ → List ℕ → List (List ℕ)) : Type 0 where
   pub is : (separator : ℕ) (t : List ℕ) → Cut separator t (splitter separator t)
   pub only : (separator : ℕ) (t : List ℕ) (ps : List (List ℕ)) → Cut separator t ps → ps ≡ splitter separator t
+
+-- the steps from a place on cut these pieces out of the text, one after the other, and each moves on
+pub data Walk (step : ℕ → List ℕ → ℕ → Answer) (separator : ℕ) (t : List ℕ) : ℕ → List (List ℕ) → Type 0 where
+  last : {at n : ℕ} → step separator t at ≡ says 0 (at ∷ n ∷ []) → Walk step separator t at (take n (drop at t) ∷ [])
+  more : {at n next : ℕ} {ps : List (List ℕ)} → step separator t at ≡ says 0 (at ∷ n ∷ next ∷ []) → at < next → Walk step separator t next ps
+      → Walk step separator t at (take n (drop at t) ∷ ps)
+
+-- from the start of a text that is not empty the steps visit the splitter's pieces, in order
+unfoldable pub Visits : (ℕ → List ℕ → ℕ → Answer) → (ℕ → List ℕ → List (List ℕ)) → Type 0
+Visits step splitter = (separator : ℕ) (t : List ℕ) → 0 < length t → Walk step separator t 0 (splitter separator t)

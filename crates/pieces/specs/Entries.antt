@@ -30,7 +30,7 @@ startOf ends (suc i) = getD ends i 0
 
 -- the place from start to end in a text of n bytes, or 16
 unfoldable pub placeAnswer : ℕ → ℕ → ℕ → Answer
-placeAnswer start end n = pick (leb start end && leb end n) (says 0 (start ∷ end - start ∷ [])) (says 16 [])
+placeAnswer start end n = pick (leb start end && leb end n) (says 0 (start ∷ (end - start) ∷ [])) (says 16 [])
 
 -- 10 where there are not so many ends
 unfoldable pub entryAnswer : List ℕ → List ℕ → ℕ → Answer

@@ -49,7 +49,7 @@ countOf b (a ∷ s) = oneIf a b + countOf b s
 unfoldable pub pieceAnswer : ℕ → List (List ℕ) → Answer
 pieceAnswer at [] = says 10 []
 pieceAnswer at (p ∷ []) = says 0 (at ∷ length p ∷ [])
-pieceAnswer at (p ∷ q ∷ ps) = says 0 (at ∷ length p ∷ at + length p + 1 ∷ [])
+pieceAnswer at (p ∷ q ∷ ps) = says 0 (at ∷ length p ∷ (at + length p + 1) ∷ [])
 
 -- 10 for the empty text, else the first piece of the text from the place on
 unfoldable pub innerAnswer : ℕ → List ℕ → ℕ → Answer
