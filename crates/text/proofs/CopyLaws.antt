@@ -1,16 +1,15 @@
 -- Copying byte by byte: what is left to copy lies over what stands. Assumes nothing.
-use Prim.Native.Nat.{ℕ, suc, _+_, _-_, _<_, _≤_}
-use mathlib.Core.Path.{_≡_, refl, sym, ap, _∙_}
-use mathlib.Core.List.{List, [], _∷_, _++_}
+use Prim.Native.Nat.{ℕ, _+_, _<_, _≤_}
+use mathlib.Core.Path.{_≡_, refl, _∙_}
+use mathlib.Core.List.{List, _++_}
 use native.Mathlib.Omega.{arith}
 use native.Mathlib.Numerals.{add-one}
 use native.Mathlib.Nat.{zero-add}
-use lib.ListN.{length, getD, take, drop, set, length-set, drop-of-length-le}
+use lib.ListN.{length, getD, drop, set, length-set, drop-of-length-le}
 use lib.Seq.{sets, sets-eq, drop-cons}
 use borrow.Author.Tests.{le-leb, lt-leb}
 use Rattle.text.specs.Over.{over, roomAnswer, leaves, Writes}
 use Rattle.text.specs.Paper.{writtenPaper}
-use Rattle.text.specs.declared.copy.Written.{Written}
 use Rattle.text.specs.declared.copy.Written.the-variants.{Done, Short}
 
 -- i bytes of vs are copied, and l stands where l₀ stood

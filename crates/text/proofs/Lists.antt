@@ -1,11 +1,11 @@
 -- Laws of lists as loops and lent parts have them. Assumes nothing.
-use Prim.Native.Nat.{ℕ, suc, _+_, _-_, _<_, _≤_}
+use Prim.Native.Nat.{ℕ, _+_, _-_, _<_, _≤_}
 use mathlib.Core.Path.{_≡_, refl, sym, ap, _∙_}
 use mathlib.Core.List.{List, [], _∷_, _++_, append-assoc, append-nil}
 use native.Mathlib.Omega.{arith}
-use native.Mathlib.Nat.{sub-self, le-refl}
+use native.Mathlib.Nat.{le-refl}
 use native.Mathlib.Numerals.{add-one}
-use lib.ListN.{length, getD, take, drop, length-append, length-drop, length-take, take-append-drop, drop-of-length-le}
+use lib.ListN.{length, getD, take, drop, length-append, length-drop, take-append-drop, drop-of-length-le}
 use lib.Seq.{drop-cons, take-all, drop-drop, length-take-le, take-at, drop-at, take-append-add, drop-append-add}
 use borrow.Rule.Slice.PartMut.{putMid}
 use Rattle.text.specs.Over.{over, overAt}
@@ -13,6 +13,10 @@ use Rattle.text.specs.Over.{over, overAt}
 -- from index i on there is the element at i, and then those from i + 1 on
 pub here : (s : List ℕ) (i : ℕ) → i < length s → drop i s ≡ getD s i 0 ∷ drop (i + 1) s
 here s i h = rw (add-one, drop-cons s i 0)
+
+-- the same, to an index j that is one further
+pub onward : (s : List ℕ) (i j : ℕ) → i < length s → i + 1 ≡ j → drop i s ≡ getD s i 0 ∷ drop j s
+onward s i j h e = rw (← e) (here s i h)
 
 -- ---- a part from an index to the end
 

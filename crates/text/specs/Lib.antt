@@ -3,3 +3,7 @@ pub mod Answer
 pub mod Range
 pub mod Paper
 pub mod Over
+pub mod Utf8
+pub mod Space
+pub mod Inner
+pub mod Demands

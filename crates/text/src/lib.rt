@@ -2,3 +2,5 @@
 // is as characters.
 pub mod copy;
 pub mod range;
+pub mod space;
+pub mod utf8;

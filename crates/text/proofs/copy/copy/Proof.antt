@@ -1,11 +1,10 @@
+-- `text::copy::copy` meets its contract: the bytes still to copy, stored from i on, give what all of them give stored from 0. Assumes nothing.
 use Prim.Native.Nat.{_-_}
 use borrow.Author.Needs.{needs}
 use lib.ListN.{length}
 use Rattle.text.proofs.CopyLaws.{Copying, laws}
 use Rattle.text.proofs.copy.copy.Statement.{statement}
 use Rattle.text.proofs.copy.copy.Tie as tie
-use Rattle.text.proofs.copy.copy.Reads as reads
-use Rattle.text.proofs.copy.copy.Lts as lts
 
 abbrev Inv-loop : tie.InvT-loop
 Inv-loop from out₀ i₀ out i = Copying from out₀ out i
@@ -13,39 +12,30 @@ Inv-loop from out₀ i₀ out i = Copying from out₀ out i
 abbrev μ-loop : tie.MeasureT-loop
 μ-loop from out₀ i₀ out i = length from - i
 
--- src/copy.rt:17:9
 returns : tie.Need-returns Inv-loop μ-loop
 returns c = search (needs, laws)
 
--- src/copy.rt:20:5
 loop-holds : tie.Need-loop-holds Inv-loop μ-loop
 loop-holds c = search (needs, laws)
 
--- src/copy.rt:21:18
 shared-slice-read-out : tie.Need-shared-slice-read-out Inv-loop μ-loop
 shared-slice-read-out c = search (needs, laws)
 
--- src/copy.rt:21:9
 slice-write-out : tie.Need-slice-write-out Inv-loop μ-loop
 slice-write-out c = search (needs, laws)
 
--- src/copy.rt:22:9
 add-i : tie.Need-add-i Inv-loop μ-loop
 add-i c = search (needs, laws)
 
--- src/copy.rt:20:5
 loop-less : tie.Need-loop-less Inv-loop μ-loop
 loop-less c = search (needs, laws)
 
--- src/copy.rt:20:5
 loop-again : tie.Need-loop-again Inv-loop μ-loop
 loop-again c = search (needs, laws)
 
--- src/copy.rt:13:1
 same-length : tie.Need-same-length Inv-loop μ-loop
 same-length c = search (needs, laws)
 
--- src/copy.rt:13:1
 returns-2 : tie.Need-returns-2 Inv-loop μ-loop
 returns-2 c = search (needs, laws)
 

@@ -1,0 +1,157 @@
+-- Reading a decimal from its first digit on: what the digits still to come make of the number so far. Assumes nothing.
+use Prim.Native.Nat.{ℕ, _+_, _-_, _*_, _^_, _≤_, _<_, zero-le}
+use mathlib.Core.Path.{_≡_, refl, sym, ap, _∙_}
+use mathlib.Core.Bool.{Bool, true, false, _&&_, and-false}
+use mathlib.Core.List.{List, [], _∷_}
+use mathlib.Core.Option.{Option, some, none}
+use native.Mathlib.Nat.{pow-suc, mul-one, add-zero, mul-le-mul-left, pow-le-pow-right, le-trans}
+use native.Mathlib.Omega.{arith}
+use lib.ListN.{length, getD, drop, drop-of-length-le}
+use lib.Seq.{drop-length}
+use lib.Dec.{leb, lit<}
+use borrow.Author.Tests.{le-leb, lt-leb, eq-eqb, ne-eqb}
+use Rattle.text.specs.Pick.{pick}
+use Rattle.text.proofs.Lists.{here}
+use Rattle.decimal.specs.Decimal.{isDigit, allDigits, worth, digitsValue, valueOf, valueAnswer, digitsAnswer, decimalAnswer}
+use Rattle.decimal.specs.Paper.{numberPaper}
+use Rattle.decimal.specs.declared.read.Number.{Number}
+use Rattle.decimal.specs.declared.read.Number.the-variants.{Value, Bad}
+use Rattle.decimal.proofs.Digits.{digit-yes, digit-low, digit-high}
+
+-- ---- the value, where the test holds and it is not too much
+
+bounded : Bool → ℕ → Option ℕ
+bounded t v = pick (t && leb v 18446744073709551615) (some v) none
+
+bounded-good : (v : ℕ) → v ≤ 18446744073709551615 → bounded true v ≡ some v
+unfolding bounded
+bounded-good v h = simp (le-leb _ _ h)
+
+bounded-over : (t : Bool) (v : ℕ) → 18446744073709551615 < v → bounded t v ≡ none
+unfolding bounded
+bounded-over t v h = simp (lt-leb _ _ h, and-false)
+
+bounded-no : (v : ℕ) → bounded false v ≡ none
+unfolding bounded
+bounded-no v = refl
+
+-- ---- the number so far, a, before the digits l
+
+sofar : ℕ → List ℕ → ℕ
+sofar a l = a * 10 ^ length l + worth l
+
+pub after : ℕ → List ℕ → Option ℕ
+after a l = bounded (allDigits l) (sofar a l)
+
+sofar-digit : (a b : ℕ) (l : List ℕ) → sofar a (b ∷ l) ≡ sofar (a * 10 + (b - 48)) l
+unfolding sofar worth
+sofar-digit a b l = simp pow-suc (omega arith)
+
+sofar-least : (a : ℕ) (l : List ℕ) → a ≤ sofar a l
+unfolding sofar
+sofar-least a l =
+    let p : 1 ≤ 10 ^ length l = pow-le-pow-right (lit< tt) {i = 0} zero-le in
+    omega (arith, mul-le-mul-left a p)
+
+sofar-zero : (l : List ℕ) → worth l ≡ sofar 0 l
+unfolding sofar
+sofar-zero l = omega arith
+
+after-first : (b : ℕ) (s : List ℕ) → digitsValue (b ∷ s) ≡ after 0 (b ∷ s)
+unfolding digitsValue after bounded
+after-first b s = ap (bounded (allDigits (b ∷ s))) (sofar-zero (b ∷ s))
+
+after-digit : (a b : ℕ) (l : List ℕ) → isDigit b ≡ true → after a (b ∷ l) ≡ after (a * 10 + (b - 48)) l
+unfolding after allDigits
+after-digit a b l h = simp (h, sofar-digit)
+
+after-stop : (a b : ℕ) (l : List ℕ) → isDigit b ≡ false → after a (b ∷ l) ≡ none
+unfolding after allDigits
+after-stop a b l h = simp (h, bounded-no)
+
+after-over : (a : ℕ) (l : List ℕ) → 18446744073709551615 < a → after a l ≡ none
+unfolding after
+after-over a l h = bounded-over (allDigits l) (sofar a l) (le-trans h (sofar-least a l))
+
+after-none : (a : ℕ) → a ≤ 18446744073709551615 → after a [] ≡ some a
+unfolding after allDigits sofar worth
+after-none a h = simp (mul-one, add-zero, bounded-good a h)
+
+-- ---- the answer, from the value
+
+bad : (s : List ℕ) → digitsValue s ≡ none → numberPaper Bad ≡ digitsAnswer s
+unfolding numberPaper digitsAnswer valueAnswer
+bad s e = rw e
+
+good : (s : List ℕ) (n : ℕ) → digitsValue s ≡ some n → numberPaper (Value n) ≡ digitsAnswer s
+unfolding numberPaper digitsAnswer valueAnswer
+good s n e = rw e
+
+-- ---- the loop's invariant, and what each way through a turn makes of it
+
+-- a is what the digits from index `from` to before i are worth: with those from i on it makes the value
+pub record Going (s : List ℕ) (from a i : ℕ) : Type 0 where
+  pub within : i ≤ length s
+  pub fits : a ≤ 18446744073709551615
+  pub same : after a (drop i s) ≡ digitsValue (drop from s)
+
+pub nothing : (s : List ℕ) (from : ℕ) → from ≡ length s → numberPaper Bad ≡ digitsAnswer (drop from s)
+unfolding digitsValue
+nothing s from e = bad (drop from s) (rw (e, drop-length s))
+
+pub first : (s : List ℕ) (from : ℕ) → from ≤ length s → (from ≡ length s → ⊥) → Going s from 0 from
+first s from h n =
+    let l : from < length s = omega arith in
+    record { within = h; fits = omega arith; same = rw (here s from l) (sym (after-first _ _)) }
+
+-- premises in the code's own words: the byte is a digit or not, the number so far is at most a tenth of the greatest, a digit d fits
+module _ {s : List ℕ} {from a i : ℕ} (g : Going s from a i) (h : i < length s) where
+  step : isDigit (getD s i 0) ≡ true → after (a * 10 + (getD s i 0 - 48)) (drop (i + 1) s) ≡ digitsValue (drop from s)
+  step d = sym (after-digit a (getD s i 0) (drop (i + 1) s) d) ∙ (rw (here s i h) at (g .same))
+
+  pub turn : {d : ℕ} → 48 ≤ getD s i 0 → getD s i 0 ≤ 57 → a ≤ 1844674407370955161 → d ≡ getD s i 0 - 48
+      → d ≤ 18446744073709551615 - a * 10 → Going s from (a * 10 + d) (i + 1)
+  turn p q t e f = rw e (record { within = omega arith; fits = omega arith; same = step (digit-yes _ p q) })
+
+  stop : isDigit (getD s i 0) ≡ false → numberPaper Bad ≡ digitsAnswer (drop from s)
+  stop d = bad (drop from s) (sym (rw (here s i h) at (g .same)) ∙ after-stop a _ _ d)
+
+  pub stop-low : getD s i 0 < 48 → numberPaper Bad ≡ digitsAnswer (drop from s)
+  stop-low p = stop (digit-low _ p)
+
+  pub stop-high : 57 < getD s i 0 → numberPaper Bad ≡ digitsAnswer (drop from s)
+  stop-high p = stop (digit-high _ p)
+
+  over : 48 ≤ getD s i 0 → getD s i 0 ≤ 57 → 18446744073709551615 < a * 10 + (getD s i 0 - 48) → numberPaper Bad ≡ digitsAnswer (drop from s)
+  over p q o = bad (drop from s) (sym (step (digit-yes _ p q)) ∙ after-over _ _ o)
+
+  pub stop-tenth : 48 ≤ getD s i 0 → getD s i 0 ≤ 57 → 1844674407370955161 < a → numberPaper Bad ≡ digitsAnswer (drop from s)
+  stop-tenth p q o = over p q (omega arith)
+
+  pub stop-digit : {d : ℕ} → 48 ≤ getD s i 0 → getD s i 0 ≤ 57 → d ≡ getD s i 0 - 48 → 18446744073709551615 - a * 10 < d
+      → numberPaper Bad ≡ digitsAnswer (drop from s)
+  stop-digit p q e o = over p q (omega arith)
+
+pub past : {s : List ℕ} {from a i : ℕ} → Going s from a i → length s ≤ i → numberPaper (Value a) ≡ digitsAnswer (drop from s)
+past {s} {from} {a} {i} g h = good (drop from s) a (sym (rw (drop-of-length-le s h) at (g .same)) ∙ after-none a (g .fits))
+
+-- ---- the sign
+
+pub sign-none : (s : List ℕ) → length s ≡ 0 → numberPaper Bad ≡ decimalAnswer s
+unfolding numberPaper decimalAnswer valueOf valueAnswer
+sign-none [] h = refl
+sign-none (b ∷ s) h = absurd (omega arith)
+
+pub sign-plus : (r : Number) (s : List ℕ) → numberPaper r ≡ digitsAnswer (drop 1 s) → (length s ≡ 0 → ⊥) → getD s 0 0 ≡ 43
+    → numberPaper r ≡ decimalAnswer s
+unfolding digitsAnswer decimalAnswer valueOf
+sign-plus r [] d h e = absurd (h refl)
+sign-plus r (b ∷ s) d h e = simp (eq-eqb _ _ e) d
+
+pub sign-not : (r : Number) (s : List ℕ) → numberPaper r ≡ digitsAnswer (drop 0 s) → (length s ≡ 0 → ⊥) → (getD s 0 0 ≡ 43 → ⊥)
+    → numberPaper r ≡ decimalAnswer s
+unfolding digitsAnswer decimalAnswer valueOf
+sign-not r [] d h e = absurd (h refl)
+sign-not r (b ∷ s) d h e = simp (ne-eqb _ _ e) d
+
+pub ruleset laws = (nothing, first, turn, stop-low, stop-high, stop-tenth, stop-digit, past, sign-none, sign-plus, sign-not)

@@ -1,0 +1,34 @@
+-- No byte, a plus sign first or another byte first: one law for each. Assumes nothing.
+use Rattle.decimal.proofs.ReadLaws.{laws}
+use borrow.Author.Needs.{needs}
+use Rattle.decimal.proofs.read.read_decimal.Statement.{statement}
+use Rattle.decimal.proofs.read.read_decimal.Tie as tie
+
+returns : tie.Need-returns
+returns c = search (needs, laws)
+
+shared-slice-read-if2 : tie.Need-shared-slice-read-if2
+shared-slice-read-if2 c = search (needs, laws)
+
+digits-from-requires : tie.Need-digits-from-requires
+digits-from-requires c κs = search (needs, laws)
+
+digits-from-requires-2 : tie.Need-digits-from-requires-2
+digits-from-requires-2 c κs = search (needs, laws)
+
+returns-2 : tie.Need-returns-2
+returns-2 c = search (needs, laws)
+
+returns-3 : tie.Need-returns-3
+returns-3 c = search (needs, laws)
+
+pub read-decimal-spec : {M : Type 1} → statement M
+read-decimal-spec =
+    tie.close
+    (tie.spec
+    returns
+    shared-slice-read-if2
+    digits-from-requires
+    digits-from-requires-2
+    returns-2
+    returns-3)

@@ -1,0 +1,230 @@
+-- A text character by character: the first, and then those of the rest. Assumes nothing.
+use Prim.Native.Nat.{ℕ, zero, suc, _+_, _-_, _≤_, _<_}
+use mathlib.Core.Path.{_≡_, refl, sym, ap, _∙_}
+use mathlib.Core.Bool.{Bool, true, false, _&&_, _||_}
+use mathlib.Core.List.{List, [], _∷_, _++_}
+use mathlib.Core.Option.{Option, some, none}
+use native.Mathlib.Omega.{arith}
+use native.Mathlib.Numerals.{unary-clauses}
+use native.Mathlib.Decide.{ℕ-discrete}
+use lib.ListN.{length, take, drop, length-drop, length-take, drop-of-length-le}
+use lib.Dec.{leb, eqb}
+use lib.Seq.{take-at, drop-drop}
+use borrow.Author.Tests.{eqb-true, leb-true, lt-leb}
+use Rattle.text.specs.Pick.{pick}
+use Rattle.text.specs.Utf8.{within, Row, row, table, Lead, lead, leadIn, leadOf, further, second, follows, isChar, sizeBy, charSize, before, charsFrom, charsOf, there, isUtf8, utf8Answer}
+use Rattle.text.specs.Inner.{CharAt}
+use Rattle.text.specs.Paper.{utf8Paper}
+use Rattle.text.specs.declared.utf8.Utf8.the-variants.{Text, Broken}
+use Rattle.text.proofs.Utf8Laws.{alone}
+
+-- ---- booleans
+
+pub and-true : (t u : Bool) → (t && u) ≡ true → (t ≡ true) × (u ≡ true)
+and-true true u e = (refl, e)
+and-true false u e = let z : _≡_ {A = ℕ} 0 1 = cc in absurd (omega arith)
+
+-- ---- what holds of every row holds of what a first byte asks for
+
+allRows : (Lead → Bool) → List Row → Bool
+allRows p [] = true
+allRows p (row low high l h n ∷ rows) = p (lead n l h) && allRows p rows
+
+in-rows : (p : Lead → Bool) (a : ℕ) (rows : List Row) → p (lead 0 0 0) ≡ true → allRows p rows ≡ true → p (leadIn a rows) ≡ true
+unfolding leadIn allRows
+in-rows p a [] z e = z
+in-rows p a (row low high l h n ∷ rows) z e = by (within low high a) (and-true _ _ e .0) (in-rows p a rows z (and-true (p (lead n l h)) _ e .1))
+  where
+    by : (t : Bool) → p (lead n l h) ≡ true → p (leadIn a rows) ≡ true → p (pick t (lead n l h) (leadIn a rows)) ≡ true
+    by true y m = y
+    by false y m = m
+
+-- at most four bytes, and a second byte of 80 hex or more
+sober : Lead → Bool
+sober (lead n l h) = leb n 4 && (leb n 1 || leb 0x80 l)
+
+lead-sober : (a : ℕ) → sober (leadOf a) ≡ true
+unfolding leadOf table allRows sober
+lead-sober a = in-rows sober a table refl refl
+
+-- ---- the size of the first character
+
+follows-size : (m l h : ℕ) (s : List ℕ) → follows (lead m l h) s ≡ true → suc (length s) ≡ m
+unfolding follows
+follows-size m l h s e = eqb-true _ _ (and-true _ _ e .0)
+
+-- what a size that is not 0 says: it is what the first byte asks for, and the bytes after the first follow
+pub record Sized (d : Lead) (s : List ℕ) (n : ℕ) : Type 0 where
+  pub fits : n ≤ suc (length s)
+  pub follow : follows d (take (n - 1) s) ≡ true
+  pub small : n ≤ 4
+
+sized : (d : Lead) (s : List ℕ) (n : ℕ) → sober d ≡ true → sizeBy d s ≡ n → (n ≡ 0 → ⊥) → Sized d s n
+unfolding sizeBy sober
+sized (lead m l h) s n o e z = by (follows (lead m l h) (take (m - 1) s)) refl e
+  where
+    by : (t : Bool) → follows (lead m l h) (take (m - 1) s) ≡ t → pick t m 0 ≡ n → Sized (lead m l h) s n
+    by true f e =
+        let k = follows-size m l h (take (m - 1) s) f in
+        let j = length-take (m - 1) s in
+        let i = leb-true m 4 (and-true _ _ o .0) in
+        record { fits = omega arith; follow = rw (← e) f; small = omega arith }
+    by false f e = absurd (z (sym e))
+
+size-sized : (a : ℕ) (s : List ℕ) → (charSize (a ∷ s) ≡ 0 → ⊥) → Sized (leadOf a) s (charSize (a ∷ s))
+unfolding charSize
+size-sized a s z = sized (leadOf a) s (charSize (a ∷ s)) (lead-sober a) refl z
+
+pub size-fits : (t : List ℕ) → charSize t ≤ length t
+unfolding charSize
+size-fits [] = omega arith
+size-fits (a ∷ s) = by (ℕ-discrete (charSize (a ∷ s)) 0)
+  where
+    by : Dec (charSize (a ∷ s) ≡ 0) → charSize (a ∷ s) ≤ suc (length s)
+    by (yes e) = omega arith
+    by (no n) = size-sized a s n .fits
+
+pub size-small : (t : List ℕ) → charSize t ≤ 4
+unfolding charSize
+size-small [] = omega arith
+size-small (a ∷ s) = by (ℕ-discrete (charSize (a ∷ s)) 0)
+  where
+    by : Dec (charSize (a ∷ s) ≡ 0) → charSize (a ∷ s) ≤ 4
+    by (yes e) = omega arith
+    by (no n) = size-sized a s n .small
+
+-- the first bytes of a text, as many as its first character's size, are a character
+pub size-char : (t : List ℕ) → (charSize t ≡ 0 → ⊥) → isChar (take (charSize t) t) ≡ true
+unfolding charSize isChar
+size-char [] z = absurd (z refl)
+size-char (a ∷ s) z = by (charSize (a ∷ s)) z (size-sized a s z .follow)
+  where
+    by : (n : ℕ) → (n ≡ 0 → ⊥) → follows (leadOf a) (take (n - 1) s) ≡ true → isChar (take n (a ∷ s)) ≡ true
+    by zero z f = absurd (z refl)
+    by (suc n) z f = simp unary-clauses at f
+
+-- a text that begins with a character has that character's size
+pub char-size : (c s : List ℕ) → isChar c ≡ true → charSize (c ++ s) ≡ length c
+unfolding isChar charSize sizeBy
+char-size [] s e = cc
+char-size (a ∷ r) s e = by (leadOf a) e
+  where
+    by : (d : Lead) → follows d r ≡ true → sizeBy d (r ++ s) ≡ suc (length r)
+    by (lead m l h) f =
+        let k = follows-size m l h r f in
+        let j : length r ≡ m - 1 = omega arith in
+        rw (take-at r s (m - 1) j, f) (sym k)
+
+-- ---- the bytes of a character
+
+pub alone-char : (b : ℕ) → b < 0x80 → isChar (b ∷ []) ≡ true
+unfolding isChar follows second
+alone-char b h = rw (alone h)
+
+-- a character that begins with a byte below 80 hex is that byte
+pub char-alone : (b : ℕ) (s : List ℕ) → b < 0x80 → isChar (b ∷ s) ≡ true → s ≡ []
+unfolding isChar
+char-alone b [] h e = refl
+char-alone b (c ∷ s) h e = absurd (let k = follows-size 1 0 0 (c ∷ s) (rw (alone h) at e) in omega arith)
+
+-- no byte is below 80 hex
+pub data High : List ℕ → Type 0 where
+  nothing : High []
+  more : {b : ℕ} {s : List ℕ} → 0x80 ≤ b → High s → High (b ∷ s)
+
+within-low : (low high b : ℕ) → within low high b ≡ true → low ≤ b
+unfolding within
+within-low low high b e = leb-true low b (and-true _ _ e .0)
+
+further-high : (s : List ℕ) → further s ≡ true → High s
+unfolding further
+further-high [] e = nothing
+further-high (b ∷ s) e =
+    let p = and-true (within 0x80 0xbf b) (further s) e in
+    more (within-low 0x80 0xbf b (p .0)) (further-high s (p .1))
+
+second-high : (d : Lead) (s : List ℕ) → sober d ≡ true → follows d s ≡ true → High s
+unfolding sober follows second
+second-high (lead n l h) [] o e = nothing
+second-high (lead n l h) (b ∷ s) o e =
+    let k = follows-size n l h (b ∷ s) e in
+    let p = and-true (within l h b) (further s) (and-true (eqb (suc (length (b ∷ s))) n) _ e .1) in
+    let q : leb 0x80 l ≡ true = rw (lt-leb n 1 (omega arith)) at (and-true (leb n 4) _ o .1) in
+    let r = leb-true 0x80 l q in
+    let w = within-low l h b (p .0) in
+    let z : 0x80 ≤ b = omega arith in
+    more z (further-high s (p .1))
+
+-- after its first byte a character has none below 80 hex
+pub tail-high : (a : ℕ) (s : List ℕ) → isChar (a ∷ s) ≡ true → High s
+unfolding isChar
+tail-high a s e = second-high (leadOf a) s (lead-sober a) e
+
+-- ---- the characters of a text
+
+pub chars-passed : (k : ℕ) (t : List ℕ) → charsFrom k t ≡ charsOf (drop k t)
+unfolding charsOf charsFrom
+chars-passed zero t = refl
+chars-passed (suc k) [] = refl
+chars-passed (suc k) (a ∷ s) = chars-passed k s
+
+pub chars-stop : (t : List ℕ) → 0 < length t → charSize t ≡ 0 → charsOf t ≡ none
+unfolding charsOf charsFrom
+chars-stop [] h e = absurd (omega arith)
+chars-stop (a ∷ s) h e = rw (e, charsFrom)
+
+pub chars-next : (t : List ℕ) (n : ℕ) → charSize t ≡ n → (n ≡ 0 → ⊥) → charsOf t ≡ before (take n t) (charsOf (drop n t))
+unfolding charsOf charsFrom charSize
+chars-next [] n e z = absurd (z (sym e))
+chars-next (a ∷ s) zero e z = absurd (z refl)
+chars-next (a ∷ s) (suc n) e z = rw (e, charsFrom) (ap (before (a ∷ take n s)) (chars-passed n s))
+
+there-before : (c : List ℕ) (o : Option (List (List ℕ))) → there (before c o) ≡ there o
+unfolding there before
+there-before c none = refl
+there-before c (some cs) = refl
+
+-- ---- a character at a place
+
+pub char-at : {s : List ℕ} {at r : ℕ} → at < length s → r ≡ charSize (drop at s) → CharAt s at r
+char-at {s} {at} h e =
+    let f = size-fits (drop at s) in
+    let d = length-drop at s in
+    let m = size-small (drop at s) in
+    record { size = e; fits = omega arith; small = omega arith }
+
+module _ {s : List ℕ} {i n : ℕ} (h : i < length s) (g : CharAt s i n) where
+  pub char-next : (n ≡ 0 → ⊥) → charsOf (drop i s) ≡ before (take n (drop i s)) (charsOf (drop (i + n) s))
+  char-next z = chars-next (drop i s) n (sym (g .size)) z ∙ ap (λ (t : List ℕ). before (take n (drop i s)) (charsOf t)) (drop-drop n i s)
+
+  pub char-none : n ≡ 0 → charsOf (drop i s) ≡ none
+  char-none z = chars-stop (drop i s) (let d = length-drop i s in omega arith) (sym (g .size) ∙ z)
+
+-- ---- the check's loop
+
+-- what is left from i on is UTF-8 exactly when the whole is
+pub record Checking (s : List ℕ) (i : ℕ) : Type 0 where
+  pub reached : i ≤ length s
+  pub same : isUtf8 (drop i s) ≡ isUtf8 s
+
+pub check-first : (s : List ℕ) → Checking s 0
+check-first s = record { reached = omega arith; same = refl }
+
+module _ {s : List ℕ} {i n : ℕ} (c : Checking s i) (h : i < length s) (g : CharAt s i n) where
+  pub check-turn : (n ≡ 0 → ⊥) → Checking s (i + n)
+  unfolding isUtf8
+  check-turn z =
+      record {
+        reached = g .fits;
+        same = sym (there-before (take n (drop i s)) _) ∙ ap there (sym (char-next h g z)) ∙ c .same;
+      }
+
+  pub check-stop : n ≡ 0 → utf8Paper Broken ≡ utf8Answer s
+  unfolding utf8Paper utf8Answer isUtf8 there
+  check-stop z = rw (← c .same, char-none h g z)
+
+pub check-past : {s : List ℕ} {i : ℕ} → Checking s i → length s ≤ i → utf8Paper Text ≡ utf8Answer s
+unfolding utf8Paper utf8Answer isUtf8 there charsOf charsFrom
+check-past {s} c h = rw (← c .same, drop-of-length-le s h)
+
+pub ruleset laws = (char-at, check-first, check-turn, check-stop, check-past)
