@@ -1,33 +1,39 @@
 -- What is printed reads back, and no other text that reads so is as short: a number and how many digits spell it settle which digits they are. Assumes nothing.
 use Prim.Native.Nat.{ℕ, suc, _+_, _-_, _*_, _/_, _%_, _^_, _≤_, _<_}
 use mathlib.Core.Path.{_≡_, refl, sym, ap, ap₂, _∙_, subst}
-use mathlib.Core.Bool.{true}
+use mathlib.Core.Bool.{true, and-eq-true-iff}
 use mathlib.Core.List.{List, [], _∷_, _++_, append-assoc, append-nil}
 use native.Mathlib.Omega.{arith}
-use native.Mathlib.Nat.{pow-suc}
+use native.Mathlib.Nat.{pow-suc, zero-mul, zero-add}
 use native.Mathlib.Numerals.{add-one}
 use native.Mathlib.Decide.{decLt}
 use lib.ListN.{length, length-append}
-use Rattle.decimal.specs.Decimal.{isDigit, allDigits, worth, valueOf}
+use borrow.Author.Tests.{ne-eqb}
+use Rattle.decimal.specs.Decimal.{isDigit, allDigits, worth, digitsValue, valueOf}
 use Rattle.decimal.specs.Shortest.{shortest}
-use Rattle.decimal.specs.Demands.{ReadsBack, NoneShorter}
-use Rattle.decimal.proofs.Digits.{and-both, digit-range, digits-snoc, worth-snoc}
+use Rattle.decimal.specs.Demands.{Digits, Decimal, bare, signed, ReadsDecimals, PassesZeros, ReadsBack, NoneShorter}
+use Rattle.text.proofs.Lists.{by-snoc}
+use Rattle.decimal.proofs.Digits.{digit-range, digits-snoc, worth-snoc}
 use Rattle.decimal.proofs.Shortest.{length-some, length-bound, shortest-digits-only, shortest-worth, lastDigits, shortest-last}
-use Rattle.decimal.proofs.Value.{Digits, Decimal, bare, signed, value-decimal, digits-value}
+use Rattle.decimal.proofs.Value.{value-decimal, digits-value, decimal-value}
+
+pub reads-decimals : ReadsDecimals valueOf
+unfolding ReadsDecimals
+reads-decimals t n = (value-decimal t n, decimal-value t)
+
+zero-first : (b : ℕ) (s : List ℕ) → digitsValue (48 ∷ b ∷ s) ≡ digitsValue (b ∷ s)
+unfolding digitsValue allDigits isDigit worth
+zero-first b s = simp (zero-mul, zero-add)
+
+pub passes-zeros : PassesZeros valueOf
+unfolding PassesZeros valueOf
+passes-zeros b s h = rw (ne-eqb b 43 h) (zero-first b s)
 
 pub reads-back : ReadsBack shortest valueOf
 unfolding ReadsBack
 reads-back n h = digits-value (shortest n) (record { one = length-some n; digits = shortest-digits-only n; value = shortest-worth n; fits = h })
 
 -- ---- digits, from their last
-
--- induction on a list from its end
-by-snoc : (P : List ℕ → Type 0) → P [] → ((s : List ℕ) (d : ℕ) → P s → P (s ++ d ∷ [])) → (s : List ℕ) → P s
-by-snoc P nil snoc s = go [] s nil
-  where
-    go : (s t : List ℕ) → P s → P (s ++ t)
-    go s [] h = rw append-nil h
-    go s (d ∷ t) h = subst P (append-assoc s (d ∷ []) t) (go (s ++ d ∷ []) t (snoc s d h))
 
 -- worth less than ten to their number, and the last digits of what they are worth
 record Spelled (s : List ℕ) : Type 0 where
@@ -37,7 +43,7 @@ record Spelled (s : List ℕ) : Type 0 where
 spelled-more : (s : List ℕ) (d : ℕ) → (allDigits s ≡ true → Spelled s) → allDigits (s ++ d ∷ []) ≡ true → Spelled (s ++ d ∷ [])
 unfolding lastDigits
 spelled-more s d ih e =
-    let a = and-both (allDigits s) (isDigit d) (sym (digits-snoc s d) ∙ e) in
+    let a = and-eq-true-iff (allDigits s) (isDigit d) .0 (sym (digits-snoc s d) ∙ e) in
     let r = digit-range d (a .1) in
     let g = ih (a .0) in
     let l : length (s ++ d ∷ []) ≡ suc (length s) = length-append s (d ∷ []) ∙ add-one (length s) in

@@ -1,7 +1,7 @@
 -- Laws of digits and of what they are worth, from the first digit on and from the last. Assumes nothing.
 use Prim.Native.Nat.{ℕ, _+_, _-_, _*_, _≤_, _<_}
 use mathlib.Core.Path.{_≡_, refl, sym}
-use mathlib.Core.Bool.{Bool, true, false, _&&_, and-assoc, and-true, and-false}
+use mathlib.Core.Bool.{Bool, true, false, _&&_, and-assoc, and-true, and-false, and-eq-true-iff}
 use mathlib.Core.List.{List, [], _∷_, _++_}
 use native.Mathlib.Omega.{arith}
 use native.Mathlib.Nat.{pow-suc}
@@ -25,17 +25,13 @@ pub digit-high : (b : ℕ) → 57 < b → isDigit b ≡ false
 unfolding isDigit
 digit-high b p = simp (lt-leb _ _ p, and-false)
 
-pub and-both : (s t : Bool) → (s && t) ≡ true → (s ≡ true) × (t ≡ true)
-and-both true t e = (refl, e)
-and-both false t e = let z : _≡_ {A = ℕ} 0 1 = cc in absurd (omega arith)
-
 pub digit-range : (b : ℕ) → isDigit b ≡ true → (48 ≤ b) × (b ≤ 57)
 unfolding isDigit
-digit-range b e = let g = and-both (leb 48 b) (leb b 57) e in (leb-true 48 b (g .0), leb-true b 57 (g .1))
+digit-range b e = let g = and-eq-true-iff (leb 48 b) (leb b 57) .0 e in (leb-true 48 b (g .0), leb-true b 57 (g .1))
 
 pub digits-cons : (b : ℕ) (s : List ℕ) → allDigits (b ∷ s) ≡ true → (isDigit b ≡ true) × (allDigits s ≡ true)
 unfolding allDigits
-digits-cons b s e = and-both (isDigit b) (allDigits s) e
+digits-cons b s e = and-eq-true-iff (isDigit b) (allDigits s) .0 e
 
 -- ---- one digit more at the end
 

@@ -9,6 +9,7 @@ use lib.ListN.{length, take, drop, set, length-append, length-set}
 use lib.Seq.{drop-cons, drop-set-lt, getD-set-same, take-at}
 use Rattle.text.specs.Over.{over, Writes}
 use Rattle.text.specs.declared.copy.Written.{Written}
+use Rattle.text.proofs.Lists.{over-nil, over-long, take-over, over-set}
 use Rattle.decimal.specs.Shortest.{shortest}
 use Rattle.decimal.proofs.Shortest.{length-one, length-more, length-20, lastDigits, length-last, shortest-last}
 
@@ -40,12 +41,6 @@ pub record Putting (n m i : ℕ) (l₀ l : List ℕ) : Type 0 where
 pub put-first : {n i : ℕ} {l : List ℕ} → i ≡ length (shortest n) → i ≤ length l → Putting n n i l l
 put-first {n} {i} {l} e h = record { len = refl; within = h; same = rw e (ap (λ (d : List ℕ). over d l) (sym (shortest-last n))) }
 
-over-set : (xs l : List ℕ) (j d : ℕ) → length xs ≡ j → j < length l → over (xs ++ d ∷ []) l ≡ over xs (set l j d)
-unfolding over
-over-set xs l j d e h =
-    let z : j < length (set l j d) = simp length-set h in
-    rw (length-append, e, drop-cons (set l j d) j 0 z, getD-set-same l j d 0 h, drop-set-lt (suc j) l j d (le-refl _), add-one) (append-assoc xs (d ∷ []) _)
-
 module _ {n m i : ℕ} {l₀ l : List ℕ} (g : Putting n m i l₀ l) where
   pub put-turn : {d : ℕ} → 0 < i → d ≡ 48 + m % 10 → Putting n (m / 10) (i - 1) l₀ (set l (i - 1) d)
   unfolding lastDigits
@@ -59,8 +54,8 @@ module _ {n m i : ℕ} {l₀ l : List ℕ} (g : Putting n m i l₀ l) where
       }
 
   pub put-past : i ≤ 0 → l ≡ over (shortest n) l₀
-  unfolding lastDigits over
-  put-past h = let z : i ≡ 0 = omega arith in rw z at (g .same)
+  unfolding lastDigits
+  put-past h = let z : i ≡ 0 = omega arith in sym (over-nil l) ∙ (rw z at (g .same))
 
 -- ---- the digits, by way of a scratch array
 
@@ -70,12 +65,10 @@ print-room {n} e h = let b = length-20 n h in omega arith
 -- x holds the k bytes vs at its start
 module _ (vs x₀ x : List ℕ) (k : ℕ) (e : k ≡ length vs) (o : x ≡ over vs x₀) where
   pub print-within : k ≤ length x
-  unfolding over
-  print-within = rw o (simp length-append (omega arith))
+  print-within = rw (o, e) (over-long vs x₀)
 
   start : take k x ≡ vs
-  unfolding over
-  start = rw o (take-at vs (drop (length vs) x₀) k (sym e))
+  start = rw o (take-over vs x₀ k e)
 
   pub print-count : k ≡ length (take k x)
   print-count = e ∙ ap length (sym start)

@@ -1,7 +1,7 @@
 -- What a text with a value is, and how a caller reads the answer. Assumes nothing.
 use Prim.Native.Nat.{ℕ, _≤_, _<_}
 use mathlib.Core.Path.{_≡_, refl, ap}
-use mathlib.Core.Bool.{Bool, true, false, _&&_}
+use mathlib.Core.Bool.{Bool, true, false, _&&_, and-eq-true-iff}
 use mathlib.Core.List.{List, [], _∷_}
 use mathlib.Core.Option.{Option, some, none}
 use native.Mathlib.Omega.{arith}
@@ -9,23 +9,13 @@ use lib.ListN.{length}
 use lib.Dec.{leb, eqb}
 use borrow.Author.Tests.{le-leb, leb-true, eqb-true, ne-eqb}
 use Rattle.text.specs.Pick.{pick}
+use Rattle.decimal.specs.Demands.{Digits, Decimal, bare, signed}
 use Rattle.decimal.specs.Decimal.{allDigits, worth, digitsValue, valueOf, valueAnswer, decimalAnswer}
 use Rattle.decimal.specs.Paper.{numberPaper}
 use Rattle.decimal.specs.declared.read.Number.the-variants.{Value, Bad}
-use Rattle.decimal.proofs.Digits.{and-both, digit-range, digits-cons}
+use Rattle.decimal.proofs.Digits.{digit-range, digits-cons}
 
 -- ---- a text with a value is digits, or '+' and digits
-
--- one digit or more, worth n, which is not too much
-pub record Digits (s : List ℕ) (n : ℕ) : Type 0 where
-  pub one : 0 < length s
-  pub digits : allDigits s ≡ true
-  pub value : worth s ≡ n
-  pub fits : n ≤ 18446744073709551615
-
-pub data Decimal : List ℕ → ℕ → Type 0 where
-  bare : {s : List ℕ} {n : ℕ} → Digits s n → Decimal s n
-  signed : {s : List ℕ} {n : ℕ} → Digits s n → Decimal (43 ∷ s) n
 
 digits-are : (s : List ℕ) (n : ℕ) → digitsValue s ≡ some n → Digits s n
 unfolding digitsValue
@@ -34,7 +24,7 @@ digits-are (b ∷ s) n e = by (allDigits (b ∷ s) && leb (worth (b ∷ s)) 1844
   where
     by : (t : Bool) → (allDigits (b ∷ s) && leb (worth (b ∷ s)) 18446744073709551615) ≡ t → pick t (some (worth (b ∷ s))) none ≡ some n → Digits (b ∷ s) n
     by true h e =
-        let g = and-both (allDigits (b ∷ s)) (leb (worth (b ∷ s)) 18446744073709551615) h in
+        let g = and-eq-true-iff (allDigits (b ∷ s)) (leb (worth (b ∷ s)) 18446744073709551615) .0 h in
         let v : worth (b ∷ s) ≡ n = cc in
         record { one = omega arith; digits = g .0; value = v; fits = rw v at (leb-true (worth (b ∷ s)) 18446744073709551615 (g .1)) }
     by false h e = let z : _≡_ {A = ℕ} 0 1 = cc in absurd (omega arith)
@@ -48,13 +38,24 @@ value-decimal (b ∷ s) n e = by (eqb b 43) refl e
     by true h e = rw (eqb-true b 43 h) (signed (digits-are s n e))
     by false h e = bare (digits-are (b ∷ s) n e)
 
+digits-told : (s : List ℕ) {n : ℕ} → Digits s n → digitsValue s ≡ some n
+unfolding digitsValue
+digits-told [] g = absurd (omega arith)
+digits-told (b ∷ s) g =
+    let w : worth (b ∷ s) ≤ 18446744073709551615 = rw (g .value) (g .fits) in
+    rw (g .digits, le-leb _ _ w) (ap some (g .value))
+
 pub digits-value : (s : List ℕ) {n : ℕ} → Digits s n → valueOf s ≡ some n
-unfolding valueOf digitsValue
+unfolding valueOf
 digits-value [] g = absurd (omega arith)
 digits-value (b ∷ s) g =
     let r = digit-range b ((digits-cons b s (g .digits)) .0) in
-    let w : worth (b ∷ s) ≤ 18446744073709551615 = rw (g .value) (g .fits) in
-    rw (ne-eqb b 43 (λ q. absurd (omega arith)), g .digits, le-leb _ _ w) (ap some (g .value))
+    rw (ne-eqb b 43 (λ q. absurd (omega arith))) (digits-told (b ∷ s) g)
+
+pub decimal-value : (t : List ℕ) {n : ℕ} → Decimal t n → valueOf t ≡ some n
+unfolding valueOf
+decimal-value t (bare g) = digits-value t g
+decimal-value t (signed {s} g) = digits-told s g
 
 pub value-bound : (t : List ℕ) (n : ℕ) → valueOf t ≡ some n → n ≤ 18446744073709551615
 value-bound t n e = by (value-decimal t n e)

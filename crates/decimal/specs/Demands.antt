@@ -1,9 +1,32 @@
--- What is asked of any pair of a printer and a reader, as functions on lists (docs/STATEMENTS.md). Assumes nothing.
+-- What is asked of any reader and any printer of decimals, as functions on lists (docs/STATEMENTS.md). Assumes nothing.
 use Prim.Native.Nat.{ℕ, _<_, _≤_}
 use mathlib.Core.Path.{_≡_}
-use mathlib.Core.List.{List}
+use mathlib.Core.Bool.{true}
+use mathlib.Core.Logic.{_↔_}
+use mathlib.Core.List.{List, _∷_}
 use mathlib.Core.Option.{Option, some}
 use lib.ListN.{length}
+use Rattle.decimal.specs.Decimal.{allDigits, worth}
+
+-- one digit or more, worth n, which is not too much
+pub record Digits (s : List ℕ) (n : ℕ) : Type 0 where
+  pub one : 0 < length s
+  pub digits : allDigits s ≡ true
+  pub value : worth s ≡ n
+  pub fits : n ≤ 18446744073709551615
+
+-- such digits, or '+' and such digits
+pub data Decimal : List ℕ → ℕ → Type 0 where
+  bare : {s : List ℕ} {n : ℕ} → Digits s n → Decimal s n
+  signed : {s : List ℕ} {n : ℕ} → Digits s n → Decimal (43 ∷ s) n
+
+-- the reader gives n exactly for the texts that are a decimal worth n
+unfoldable pub ReadsDecimals : (List ℕ → Option ℕ) → Type 0
+ReadsDecimals read = (t : List ℕ) (n : ℕ) → (read t ≡ some n) ↔ Decimal t n
+
+-- a leading zero changes nothing, so no number of them does
+unfoldable pub PassesZeros : (List ℕ → Option ℕ) → Type 0
+PassesZeros read = (b : ℕ) (s : List ℕ) → (b ≡ 43 → ⊥) → read (48 ∷ b ∷ s) ≡ read (b ∷ s)
 
 -- what is printed reads back as the number
 unfoldable pub ReadsBack : (ℕ → List ℕ) → (List ℕ → Option ℕ) → Type 0

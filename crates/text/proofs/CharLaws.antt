@@ -1,7 +1,7 @@
 -- A text character by character: the first, and then those of the rest. Assumes nothing.
 use Prim.Native.Nat.{ℕ, zero, suc, _+_, _-_, _≤_, _<_}
 use mathlib.Core.Path.{_≡_, refl, sym, ap, _∙_}
-use mathlib.Core.Bool.{Bool, true, false, _&&_, _||_}
+use mathlib.Core.Bool.{Bool, true, false, _&&_, _||_, and-eq-true-iff}
 use mathlib.Core.List.{List, [], _∷_, _++_}
 use mathlib.Core.Option.{Option, some, none}
 use native.Mathlib.Omega.{arith}
@@ -18,12 +18,6 @@ use Rattle.text.specs.Paper.{utf8Paper}
 use Rattle.text.specs.declared.utf8.Utf8.the-variants.{Text, Broken}
 use Rattle.text.proofs.Utf8Laws.{alone}
 
--- ---- booleans
-
-pub and-true : (t u : Bool) → (t && u) ≡ true → (t ≡ true) × (u ≡ true)
-and-true true u e = (refl, e)
-and-true false u e = let z : _≡_ {A = ℕ} 0 1 = cc in absurd (omega arith)
-
 -- ---- what holds of every row holds of what a first byte asks for
 
 allRows : (Lead → Bool) → List Row → Bool
@@ -33,7 +27,7 @@ allRows p (row low high l h n ∷ rows) = p (lead n l h) && allRows p rows
 in-rows : (p : Lead → Bool) (a : ℕ) (rows : List Row) → p (lead 0 0 0) ≡ true → allRows p rows ≡ true → p (leadIn a rows) ≡ true
 unfolding leadIn allRows
 in-rows p a [] z e = z
-in-rows p a (row low high l h n ∷ rows) z e = by (within low high a) (and-true _ _ e .0) (in-rows p a rows z (and-true (p (lead n l h)) _ e .1))
+in-rows p a (row low high l h n ∷ rows) z e = by (within low high a) (and-eq-true-iff _ _ .0 e .0) (in-rows p a rows z (and-eq-true-iff (p (lead n l h)) _ .0 e .1))
   where
     by : (t : Bool) → p (lead n l h) ≡ true → p (leadIn a rows) ≡ true → p (pick t (lead n l h) (leadIn a rows)) ≡ true
     by true y m = y
@@ -51,7 +45,7 @@ lead-sober a = in-rows sober a table refl refl
 
 follows-size : (m l h : ℕ) (s : List ℕ) → follows (lead m l h) s ≡ true → suc (length s) ≡ m
 unfolding follows
-follows-size m l h s e = eqb-true _ _ (and-true _ _ e .0)
+follows-size m l h s e = eqb-true _ _ (and-eq-true-iff _ _ .0 e .0)
 
 -- what a size that is not 0 says: it is what the first byte asks for, and the bytes after the first follow
 pub record Sized (d : Lead) (s : List ℕ) (n : ℕ) : Type 0 where
@@ -67,7 +61,7 @@ sized (lead m l h) s n o e z = by (follows (lead m l h) (take (m - 1) s)) refl e
     by true f e =
         let k = follows-size m l h (take (m - 1) s) f in
         let j = length-take (m - 1) s in
-        let i = leb-true m 4 (and-true _ _ o .0) in
+        let i = leb-true m 4 (and-eq-true-iff _ _ .0 o .0) in
         record { fits = omega arith; follow = rw (← e) f; small = omega arith }
     by false f e = absurd (z (sym e))
 
@@ -134,13 +128,13 @@ pub data High : List ℕ → Type 0 where
 
 within-low : (low high b : ℕ) → within low high b ≡ true → low ≤ b
 unfolding within
-within-low low high b e = leb-true low b (and-true _ _ e .0)
+within-low low high b e = leb-true low b (and-eq-true-iff _ _ .0 e .0)
 
 further-high : (s : List ℕ) → further s ≡ true → High s
 unfolding further
 further-high [] e = nothing
 further-high (b ∷ s) e =
-    let p = and-true (within 0x80 0xbf b) (further s) e in
+    let p = and-eq-true-iff (within 0x80 0xbf b) (further s) .0 e in
     more (within-low 0x80 0xbf b (p .0)) (further-high s (p .1))
 
 second-high : (d : Lead) (s : List ℕ) → sober d ≡ true → follows d s ≡ true → High s
@@ -148,8 +142,8 @@ unfolding sober follows second
 second-high (lead n l h) [] o e = nothing
 second-high (lead n l h) (b ∷ s) o e =
     let k = follows-size n l h (b ∷ s) e in
-    let p = and-true (within l h b) (further s) (and-true (eqb (suc (length (b ∷ s))) n) _ e .1) in
-    let q : leb 0x80 l ≡ true = rw (lt-leb n 1 (omega arith)) at (and-true (leb n 4) _ o .1) in
+    let p = and-eq-true-iff (within l h b) (further s) .0 (and-eq-true-iff (eqb (suc (length (b ∷ s))) n) _ .0 e .1) in
+    let q : leb 0x80 l ≡ true = rw (lt-leb n 1 (omega arith)) at (and-eq-true-iff (leb n 4) _ .0 o .1) in
     let r = leb-true 0x80 l q in
     let w = within-low l h b (p .0) in
     let z : 0x80 ≤ b = omega arith in

@@ -2,7 +2,7 @@
 -- Assumes nothing.
 use Prim.Native.Nat.{ℕ, zero, suc, _≤_, _<_}
 use mathlib.Core.Path.{_≡_, refl, sym, ap, _∙_}
-use mathlib.Core.Bool.{true}
+use mathlib.Core.Bool.{true, and-eq-true-iff}
 use mathlib.Core.List.{List, [], _∷_, _++_, append-assoc, flatten}
 use mathlib.Core.Option.{Option, some, none}
 use native.Mathlib.Omega.{arith}
@@ -12,7 +12,7 @@ use lib.ListN.{length, take, drop, length-drop, length-append, take-append-drop}
 use lib.Seq.{take-at, drop-at}
 use Rattle.text.specs.Utf8.{isChar, allChars, charSize, before, charsFrom, charsOf, there, isUtf8}
 use Rattle.text.specs.Demands.{Characters, Cuts, Parted}
-use Rattle.text.proofs.CharLaws.{and-true, size-fits, size-char, char-size, chars-stop, chars-next, alone-char, char-alone, High, more, tail-high}
+use Rattle.text.proofs.CharLaws.{size-fits, size-char, char-size, chars-stop, chars-next, alone-char, char-alone, High, more, tail-high}
 
 -- ---- what is cut is a list of characters
 
@@ -63,7 +63,7 @@ cut-only : (t : List ℕ) (cs : List (List ℕ)) → Characters t cs → charsOf
 unfolding charsOf charsFrom allChars flatten before
 cut-only t [] k = rw (← k .whole)
 cut-only t (c ∷ cs) k =
-    let b = and-true (isChar c) (allChars cs) (k .each) in
+    let b = and-eq-true-iff (isChar c) (allChars cs) .0 (k .each) in
     let i = cut-only (flatten cs) cs (record { each = b .1; whole = refl }) in
     rw (← k .whole) (cut-before c (flatten cs) (b .0) ∙ ap (before c) i)
 
@@ -97,7 +97,7 @@ flatten-append (x ∷ xs) ys = ap (λ (t : List ℕ). x ++ t) (flatten-append xs
 all-append : (xs ys : List (List ℕ)) → allChars xs ≡ true → allChars ys ≡ true → allChars (xs ++ ys) ≡ true
 unfolding allChars
 all-append [] ys p q = q
-all-append (x ∷ xs) ys p q = let b = and-true (isChar x) (allChars xs) p in rw (b .0, all-append xs ys (b .1) q)
+all-append (x ∷ xs) ys p q = let b = and-eq-true-iff (isChar x) (allChars xs) .0 p in rw (b .0, all-append xs ys (b .1) q)
 
 part-join : (a c : List ℕ) (b : ℕ) → b < 0x80 → Text a → Text c → Text (a ++ b ∷ c)
 unfolding allChars flatten
@@ -157,7 +157,7 @@ parted-at : (es : List (List ℕ)) (a : List ℕ) (b : ℕ) (c : List ℕ) → b
 unfolding allChars flatten
 parted-at [] a b c h k = absurd (let l = ap length (k .whole) in let m = length-append a (b ∷ c) in omega arith)
 parted-at (e ∷ es) a b c h k =
-    let p = and-true (isChar e) (allChars es) (k .each) in
+    let p = and-eq-true-iff (isChar e) (allChars es) .0 (k .each) in
     first-side e es a b c h (p .0) (p .1) (k .whole) (λ o x. parted-at es o b c h x)
 
 pub parted : Parted isUtf8

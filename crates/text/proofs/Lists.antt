@@ -1,14 +1,23 @@
 -- Laws of lists as loops and lent parts have them. Assumes nothing.
-use Prim.Native.Nat.{ℕ, _+_, _-_, _<_, _≤_}
-use mathlib.Core.Path.{_≡_, refl, sym, ap, _∙_}
+use Prim.Native.Nat.{ℕ, suc, _+_, _-_, _<_, _≤_}
+use mathlib.Core.Path.{_≡_, refl, sym, ap, _∙_, subst}
 use mathlib.Core.List.{List, [], _∷_, _++_, append-assoc, append-nil}
 use native.Mathlib.Omega.{arith}
 use native.Mathlib.Nat.{le-refl}
 use native.Mathlib.Numerals.{add-one}
-use lib.ListN.{length, getD, take, drop, length-append, length-drop, take-append-drop, drop-of-length-le}
-use lib.Seq.{drop-cons, take-all, drop-drop, length-take-le, take-at, drop-at, take-append-add, drop-append-add}
+use lib.ListN.{length, getD, take, drop, set, length-append, length-drop, length-set, take-append-drop, drop-of-length-le}
+use lib.Seq.{drop-cons, drop-set-lt, getD-set-same, take-all, drop-drop, length-take-le, take-at, drop-at, take-append-add, drop-append-add}
 use borrow.Rule.Slice.PartMut.{putMid}
+use Rattle.text.specs.Range.{cut}
 use Rattle.text.specs.Over.{over, overAt}
+
+-- induction on a list from its end
+pub by-snoc : (P : List ℕ → Type 0) → P [] → ((s : List ℕ) (d : ℕ) → P s → P (s ++ d ∷ [])) → (s : List ℕ) → P s
+by-snoc P nil snoc s = go [] s nil
+  where
+    go : (s t : List ℕ) → P s → P (s ++ t)
+    go s [] h = rw append-nil h
+    go s (d ∷ t) h = subst P (append-assoc s (d ∷ []) t) (go (s ++ d ∷ []) t (snoc s d h))
 
 -- from index i on there is the element at i, and then those from i + 1 on
 pub here : (s : List ℕ) (i : ℕ) → i < length s → drop i s ≡ getD s i 0 ∷ drop (i + 1) s
@@ -17,6 +26,11 @@ here s i h = rw (add-one, drop-cons s i 0)
 -- the same, to an index j that is one further
 pub onward : (s : List ℕ) (i j : ℕ) → i < length s → i + 1 ≡ j → drop i s ≡ getD s i 0 ∷ drop j s
 onward s i j h e = rw (← e) (here s i h)
+
+-- what a range cuts out
+pub cut-is : (start len : ℕ) (t : List ℕ) → cut (record { start = start; len = len }) t ≡ take len (drop start t)
+unfolding cut
+cut-is start len t = refl
 
 -- ---- a part from an index to the end
 
@@ -53,6 +67,23 @@ length-overAt a vs l h =
     let t = length-drop a l in
     let o = length-over vs (drop a l) (omega arith) in
     length-append (take a l) _ ∙ (let k = length-take-le a l (omega arith) in omega arith)
+
+-- what was laid over a list is at its start
+pub take-over : (vs l : List ℕ) (k : ℕ) → k ≡ length vs → take k (over vs l) ≡ vs
+unfolding over
+take-over vs l k e = take-at vs (drop (length vs) l) k (sym e)
+
+pub over-long : (vs l : List ℕ) → length vs ≤ length (over vs l)
+unfolding over
+over-long vs l = simp length-append (omega arith)
+
+-- one element more, laid over a list, is a store
+pub over-set : (vs l : List ℕ) (j d : ℕ) → length vs ≡ j → j < length l → over (vs ++ d ∷ []) l ≡ over vs (set l j d)
+unfolding over
+over-set vs l j d e h =
+    let z : j < length (set l j d) = simp length-set h in
+    rw (length-append, e, drop-cons (set l j d) j 0 z, getD-set-same l j d 0 h, drop-set-lt (suc j) l j d (le-refl _), add-one)
+    (append-assoc vs (d ∷ []) _)
 
 -- one run of bytes and then another
 pub over-append : (us vs l : List ℕ) → length us ≤ length l → over (us ++ vs) l ≡ overAt (length us) vs (over us l)

@@ -1,0 +1,51 @@
+-- Counting a byte: those passed and those to come are those of the whole. Assumes nothing.
+use Prim.Native.Nat.{ℕ, _+_, _<_, _≤_, zero-le}
+use mathlib.Core.Path.{_≡_}
+use mathlib.Core.List.{List}
+use mathlib.Core.Bool.{Bool, true, false}
+use native.Mathlib.Omega.{arith}
+use native.Mathlib.Nat.{zero-add}
+use lib.ListN.{length, getD, drop, drop-of-length-le}
+use lib.Dec.{eqb}
+use borrow.Author.Tests.{eq-eqb, ne-eqb}
+use Rattle.text.specs.Pick.{pick}
+use Rattle.text.proofs.Lists.{here}
+use Rattle.pieces.specs.Pieces.{oneIf, countOf}
+
+pub one-yes : (a b : ℕ) → a ≡ b → 1 ≡ oneIf a b
+unfolding oneIf
+one-yes a b e = rw (eq-eqb _ _ e)
+
+pub one-no : (a b : ℕ) → (a ≡ b → ⊥) → 0 ≡ oneIf a b
+unfolding oneIf
+one-no a b h = rw (ne-eqb _ _ h)
+
+pub one-small : (a b : ℕ) {k : ℕ} → k ≡ oneIf a b → k ≤ 1
+unfolding oneIf
+one-small a b e = rw e (by (eqb a b))
+  where
+    by : (t : Bool) → pick t 1 0 ≤ 1
+    by true = omega arith
+    by false = omega arith
+
+-- n of the first i bytes are b
+pub record Counting (b : ℕ) (s : List ℕ) (n i : ℕ) : Type 0 where
+  pub within : i ≤ length s
+  pub few : n ≤ i
+  pub same : n + countOf b (drop i s) ≡ countOf b s
+
+pub count-first : {b : ℕ} {s : List ℕ} → Counting b s 0 0
+count-first = record { within = zero-le; few = zero-le; same = zero-add _ }
+
+module _ {b : ℕ} {s : List ℕ} {n i : ℕ} (g : Counting b s n i) where
+  pub count-turn : {k : ℕ} → i < length s → k ≡ oneIf (getD s i 0) b → Counting b s (n + k) (i + 1)
+  unfolding countOf
+  count-turn h e =
+      let l = one-small (getD s i 0) b e in
+      record { within = omega arith; few = omega arith; same = omega (arith, rw (here s i h) at (g .same)) }
+
+  pub count-past : length s ≤ i → n ≡ countOf b s
+  unfolding countOf
+  count-past h = omega (arith, rw (drop-of-length-le s h) at (g .same))
+
+pub ruleset laws = (one-yes, one-no, count-first, count-turn, count-past)

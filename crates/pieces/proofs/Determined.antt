@@ -1,0 +1,23 @@
+-- Each public contract allows one outcome only: two that it allows have one paper. Assumes nothing.
+use Prim.Native.Nat.{ℕ}
+use mathlib.Core.Path.{_≡_, sym, _∙_}
+use mathlib.Core.List.{List}
+use Rattle.pieces.specs.Pieces.{countOf, stepAnswer}
+use Rattle.pieces.specs.Entries.{endsAnswer, entryAnswer}
+use Rattle.pieces.specs.Paper.{stepPaper, endsPaper, entryPaper}
+use Rattle.pieces.specs.declared.step.Step.{Step}
+use Rattle.pieces.specs.declared.entries.Ends.{Ends}
+use Rattle.pieces.specs.declared.entries.Entry.{Entry}
+use Rattle.pieces.proofs.PaperLaws.{step-paper-injective, ends-paper-injective, entry-paper-injective}
+
+pub count-determined : (b : ℕ) (t : List ℕ) (r r′ : ℕ) → r ≡ countOf b t → r′ ≡ countOf b t → r ≡ r′
+count-determined b t r r′ e f = e ∙ sym f
+
+pub step-determined : (b : ℕ) (t : List ℕ) (at : ℕ) (r r′ : Step) → stepPaper r ≡ stepAnswer b t at → stepPaper r′ ≡ stepAnswer b t at → r ≡ r′
+step-determined b t at r r′ e f = step-paper-injective r r′ (e ∙ sym f)
+
+pub ends-determined : (t ends : List ℕ) (r r′ : Ends) → endsPaper r ≡ endsAnswer t ends → endsPaper r′ ≡ endsAnswer t ends → r ≡ r′
+ends-determined t ends r r′ e f = ends-paper-injective r r′ (e ∙ sym f)
+
+pub entry-determined : (t ends : List ℕ) (i : ℕ) (r r′ : Entry) → entryPaper r ≡ entryAnswer t ends i → entryPaper r′ ≡ entryAnswer t ends i → r ≡ r′
+entry-determined t ends i r r′ e f = entry-paper-injective r r′ (e ∙ sym f)
