@@ -1,12 +1,9 @@
 -- Printing the shortest decimal: counting its digits, and writing them from the last to the first. Assumes nothing.
 use Prim.Native.Nat.{ℕ, suc, _+_, _-_, _/_, _%_, _^_, _≤_, _<_}
 use mathlib.Core.Path.{_≡_, refl, sym, ap, _∙_}
-use mathlib.Core.List.{List, [], _∷_, _++_, append-assoc}
+use mathlib.Core.List.{List}
 use native.Mathlib.Omega.{arith}
-use native.Mathlib.Nat.{le-refl}
-use native.Mathlib.Numerals.{add-one}
-use lib.ListN.{length, take, drop, set, length-append, length-set}
-use lib.Seq.{drop-cons, drop-set-lt, getD-set-same, take-at}
+use lib.ListN.{length, take, set, length-set}
 use Rattle.text.specs.Over.{over, Writes}
 use Rattle.text.specs.declared.copy.Written.{Written}
 use Rattle.text.proofs.Lists.{over-nil, over-long, take-over, over-set}
