@@ -1,0 +1,15 @@
+// Reads cases from standard input, one a line, and prints one answer line for each.
+mod input;
+mod leaves;
+mod output;
+mod parts;
+mod verbs;
+mod words;
+
+fn main() {
+    let mut bytes = [0u8; 65536];
+    let mut line = [0u8; 65536];
+    let mut text = [0u8; 32768];
+    let mut out = [0u8; 65536];
+    input::answer_all(&mut bytes, &mut line, &mut text, &mut out);
+}

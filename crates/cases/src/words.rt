@@ -1,0 +1,154 @@
+// The words of a case, and its arguments as numbers and bytes.
+use crate::parts::part;
+use decimal::read::Number;
+use decimal::read::read_decimal;
+use pieces::step::Step;
+use pieces::step::piece_at;
+ghost use Prim.Native.Nat.{_≤_};
+
+// The most bytes of output that a case may lend.
+pub const ROOM: u64 = 4096;
+
+// Room for the bytes of every HEX of a case, which has two digits for each.
+pub type Text = [u8; 32768];
+
+// The place of the first mark from a place on, or one that is past every byte of s.
+pub fn mark_from(s: &[u8], mark: u8, from: usize) -> usize
+    ensures { λ r. ⌜ from ≤ r ⌝ }
+{
+    let found = piece_at(s, mark, from);
+    match found {
+        Step::More(_, next) => next - 1,
+        Step::Last(_) => s.len(),
+        Step::Nothing => from,
+        Step::Beyond => from,
+    }
+}
+
+// The place past k marks, or the end of s.
+fn start_of(s: &[u8], mark: u8, k: usize) -> usize {
+    let mut at = 0;
+    let mut left = k;
+    while left > 0 {
+        let end = mark_from(s, mark, at);
+        if end >= s.len() {
+            return end;
+        }
+        at = end + 1;
+        left -= 1;
+    }
+    at
+}
+
+// What stands between marks, k marks on; empty where there are fewer.
+pub fn piece(s: &[u8], mark: u8, k: usize) -> &[u8] {
+    let start = start_of(s, mark, k);
+    part(s, start, mark_from(s, mark, start))
+}
+
+// Word k of a case, its verb being word 0. It is empty where two spaces meet and where the case
+// starts or ends with one, and no verb and no argument is empty.
+pub fn word(case: &[u8], k: usize) -> &[u8] {
+    piece(case, b' ', k)
+}
+
+pub fn is(s: &[u8], t: &[u8]) -> bool {
+    if s.len() != t.len() {
+        return false;
+    }
+    let mut i = 0;
+    while i < s.len() {
+        if s[i] != t[i] {
+            return false;
+        }
+        i += 1;
+    }
+    true
+}
+
+// A number of at most `most`. The reader takes a plus sign and leading zeros too, which a case may
+// not have.
+pub fn number(s: &[u8], most: u64) -> Number {
+    if s.len() == 0 {
+        return Number::Bad;
+    }
+    if s[0] == b'+' {
+        return Number::Bad;
+    }
+    if s[0] == b'0' && s.len() > 1 {
+        return Number::Bad;
+    }
+    let Number::Value(n) = read_decimal(s) else {
+        return Number::Bad;
+    };
+    if n > most {
+        return Number::Bad;
+    }
+    Number::Value(n)
+}
+
+// The byte that two hex digits make, or that one of them is none.
+enum Pair {
+    Byte(u8),
+    Bad,
+}
+
+// The worth of a lower-case hex digit, or 16.
+fn digit(b: u8) -> u8 {
+    if b >= b'0' && b <= b'9' {
+        return b - b'0';
+    }
+    if b >= b'a' && b <= b'f' {
+        return b - b'a' + 10;
+    }
+    16
+}
+
+fn byte_of(a: u8, b: u8) -> Pair {
+    let high = digit(a);
+    let low = digit(b);
+    if high > 15 {
+        return Pair::Bad;
+    }
+    if low > 15 {
+        return Pair::Bad;
+    }
+    Pair::Byte(high * 16 + low)
+}
+
+// The place past the bytes of a HEX, or that the word is none.
+pub enum Decoded {
+    Upto(usize),
+    Bad,
+}
+
+// Puts the bytes of a HEX into text from a place on, which a second HEX can go on from.
+pub fn decode(s: &[u8], text: &mut [u8], from: usize) -> Decoded {
+    if s.len() == 0 {
+        return Decoded::Bad;
+    }
+    if is(s, b"-") {
+        return Decoded::Upto(from);
+    }
+    decode_pairs(s, text, from)
+}
+
+fn decode_pairs(s: &[u8], text: &mut [u8], from: usize) -> Decoded {
+    let mut end = from;
+    let mut i = 0;
+    while i < s.len() {
+        if s.len() - i < 2 {
+            return Decoded::Bad;
+        }
+        if end >= text.len() {
+            return Decoded::Bad;
+        }
+        let Pair::Byte(b) = byte_of(s[i], s[i + 1]) else {
+            return Decoded::Bad;
+        };
+        text[end] = b;
+        end += 1;
+        i += 2;
+    }
+    Decoded::Upto(end)
+}
