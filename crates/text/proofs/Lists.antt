@@ -6,9 +6,10 @@ use native.Mathlib.Omega.{arith}
 use native.Mathlib.Nat.{le-refl}
 use native.Mathlib.Numerals.{add-one}
 use lib.ListN.{length, getD, take, drop, set, length-append, length-drop, length-set, take-append-drop, drop-of-length-le}
-use lib.Seq.{drop-cons, drop-set-lt, getD-set-same, take-all, drop-drop, length-take-le, take-at, drop-at, take-append-add, drop-append-add}
+use lib.Seq.{drop-cons, drop-set-lt, getD-set-same, take-all, drop-drop, length-take-le, take-add, take-at, drop-at, take-append-add, drop-append-add}
 use borrow.Rule.Slice.PartMut.{putMid}
 use Rattle.text.specs.Range.{cut}
+use Rattle.text.specs.declared.range.Range.{Range}
 use Rattle.text.specs.Over.{over, overAt}
 
 -- induction on a list from its end
@@ -31,6 +32,18 @@ onward s i j h e = rw (← e) (here s i h)
 pub cut-is : (start len : ℕ) (t : List ℕ) → cut (record { start = start; len = len }) t ≡ take len (drop start t)
 unfolding cut
 cut-is start len t = refl
+
+pub cut-length : (r : Range) (t : List ℕ) → r .start + r .len ≤ length t → length (cut r t) ≡ r .len
+unfolding cut
+cut-length r t h = length-take-le (r .len) (drop (r .start) t) (simp length-drop (omega arith))
+
+-- the part from one index up to another, cut either way round
+pub drop-take : (l : List ℕ) (a e : ℕ) → a ≤ e → e ≤ length l → drop a (take e l) ≡ take (e - a) (drop a l)
+drop-take l a e h w =
+    let n : a + (e - a) ≡ e = omega arith in
+    ap (λ (k : ℕ). drop a (take k l)) (sym n)
+    ∙ ap (drop a) (take-add a (e - a) l)
+    ∙ drop-at (take a l) (take (e - a) (drop a l)) a (length-take-le a l (omega arith))
 
 -- ---- a part from an index to the end
 

@@ -10,7 +10,6 @@ use native.Mathlib.Omega.{arith}
 use native.Mathlib.Decide.{decLt}
 use lib.ListN.{length, getD, take, drop, drop-of-length-le}
 use types.Run.{OneOf}
-use Rattle.text.specs.Pick.{pick}
 use Rattle.text.specs.Answer.{says}
 use Rattle.text.specs.Utf8.{within, before, charsOf, charsFrom, isUtf8, there, utf8Answer}
 use Rattle.text.specs.Space.{codePoint, Span, span, inAny, spaces, isSpace, anySpace, spacedAnswer, spaceAnswer}
@@ -21,7 +20,7 @@ use Rattle.text.specs.declared.utf8.Utf8.the-variants as U
 use Rattle.text.specs.declared.space.Space.the-variants as S
 use Rattle.text.proofs.Lists.{onward, rest-all}
 use Rattle.text.proofs.Utf8Laws.{inside, under, above, here-2, here-3, here-4}
-use Rattle.text.proofs.CharLaws.{char-next, char-none}
+use Rattle.text.proofs.CharLaws.{char-next, char-none, told-text, told-broken}
 
 -- ---- the code point, in the code's own words
 
@@ -141,22 +140,6 @@ unfolding spacedAnswer there
 broken none t = refl
 broken (some cs) t = cc
 
-told-text : (t : List ℕ) → utf8Paper U.Text ≡ utf8Answer t → there (charsOf t) ≡ true
-unfolding utf8Paper utf8Answer isUtf8
-told-text t e = by (there (charsOf t)) e
-  where
-    by : (b : Bool) → says 0 [] ≡ pick b (says 0 []) (says 5 []) → b ≡ true
-    by true e = refl
-    by false e = cc
-
-told-broken : (t : List ℕ) → utf8Paper U.Broken ≡ utf8Answer t → there (charsOf t) ≡ false
-unfolding utf8Paper utf8Answer isUtf8
-told-broken t e = by (there (charsOf t)) e
-  where
-    by : (b : Bool) → says 5 [] ≡ pick b (says 0 []) (says 5 []) → b ≡ false
-    by true e = cc
-    by false e = refl
-
 module _ {s : List ℕ} {i n : ℕ} (k : Seeking s i) (h : i < length s) (g : CharAt s i n) where
   pub seek-stop : n ≡ 0 → spacePaper S.Broken ≡ spaceAnswer s
   unfolding spacePaper spaceAnswer spacedAnswer
@@ -175,16 +158,16 @@ module _ {s : List ℕ} {i n : ℕ} (k : Seeking s i) (h : i < length s) (g : Ch
         }
 
     pub seek-held : {r : Utf8} → t ≡ true → utf8Paper r ≡ utf8Answer (take (length s - i) (drop i s)) → r ≡ U.Text → spacePaper S.Held ≡ spaceAnswer s
-    unfolding spacePaper spaceAnswer
-    seek-held w u q =
+    unfolding spacePaper spaceAnswer isUtf8
+    seek-held {r} w u q =
         let v : there (before (take n (drop i s)) (charsOf (drop (i + n) s))) ≡ true =
-        ap there (sym (char-next h g z)) ∙ told-text (drop i s) (rw (q, rest-all s i) at u) in
+        ap there (sym (char-next h g z)) ∙ told-text (drop i s) r (rw (rest-all s i) at u) q in
         sym (ap spacedAnswer (char-next h g z) ∙ held-before (take n (drop i s)) _ (code-is ∙ w) v) ∙ k .same
 
 pub seek-broken : {s : List ℕ} {i : ℕ} {r : Utf8} → Seeking s i → utf8Paper r ≡ utf8Answer (take (length s - i) (drop i s)) → r ≡ U.Broken
     → spacePaper S.Broken ≡ spaceAnswer s
-unfolding spacePaper spaceAnswer
-seek-broken {s} {i} k u q = sym (broken (charsOf (drop i s)) (told-broken (drop i s) (rw (q, rest-all s i) at u))) ∙ k .same
+unfolding spacePaper spaceAnswer isUtf8
+seek-broken {s} {i} {r} k u q = sym (broken (charsOf (drop i s)) (told-broken (drop i s) r (rw (rest-all s i) at u) q)) ∙ k .same
 
 pub seek-past : {s : List ℕ} {i : ℕ} → Seeking s i → length s ≤ i → spacePaper S.Free ≡ spaceAnswer s
 unfolding spacePaper spaceAnswer spacedAnswer charsOf charsFrom anySpace

@@ -1,0 +1,178 @@
+-- From columns in order to the answer: the line's text is the part of the buffer that is checked and cut. Assumes nothing.
+use Prim.Native.Nat.{ℕ, _+_, _-_, _≤_, _<_}
+use mathlib.Core.Path.{_≡_, refl, sym, ap, _∙_}
+use mathlib.Core.Bool.{true, false}
+use mathlib.Core.Logic.{⊎-elim}
+use mathlib.Core.List.{List, [], _∷_, _++_}
+use native.Mathlib.Omega.{arith}
+use lib.ListN.{length, take, drop, length-append, length-drop}
+use lib.Seq.{take-at, length-take-le}
+use Rattle.text.specs.Answer.{says}
+use Rattle.text.specs.Utf8.{utf8Answer}
+use Rattle.text.specs.Paper.{utf8Paper}
+use Rattle.text.specs.declared.utf8.Utf8.{Utf8}
+use Rattle.text.specs.declared.utf8.Utf8.the-variants as U
+use Rattle.text.proofs.CharLaws.{told-text, told-broken}
+use Rattle.text.proofs.Lists.{drop-take}
+use Rattle.pieces.specs.Pieces.{split}
+use Rattle.pieces.proofs.PieceLaws.{split-some}
+use Rattle.line.specs.Line.{Ending, endingBytes, Line, line, lineOf, Verdict, fine, refused, verdict, fieldPlaces, allUtf8, judgedAnswer, lineAnswer, readAnswer}
+use Rattle.line.specs.Paper.{recordPlaces, readPaper}
+use Rattle.line.specs.Demands.{ByColumns}
+use Rattle.line.specs.Inner.{accepted, denied, judgement, judgementOf, judgedPaper, InOrder, Enough}
+use Rattle.line.specs.declared.read.Record.{Record}
+use Rattle.line.specs.declared.read.Read.{Read}
+use Rattle.line.specs.declared.read.Read.the-variants as R
+use Rattle.line.specs.declared.read.Judged.{Judged}
+use Rattle.line.specs.declared.read.Judged.the-variants as J
+use Rattle.line.proofs.ColumnLaws.{line-whole, by-columns, fine-count}
+use Rattle.line.proofs.LineLaws.{read-beyond, read-end, read-line}
+
+-- ---- a line whose columns are in order
+
+-- its text, which stands in the buffer from `at` to `end`
+record Ordered (s : List ℕ) (at end next : ℕ) : Type 0 where
+  text : List ℕ
+  ending : Ending
+  rest : List ℕ
+  is : lineOf (drop at s) ≡ line text ending rest
+  ends : at + length text ≡ end
+  past : end + length (endingBytes ending) ≡ next
+  order : verdict 1 at (split 9 text) ending next ≡ fine
+  within : end ≤ length s
+  stands : take (end - at) (drop at s) ≡ text
+
+ordered : {s : List ℕ} {at end next : ℕ} → InOrder s at end next → Ordered s at end next
+unfolding judgementOf judgement
+ordered {s} {at} {end} {next} g = by (lineOf (drop at s)) refl (g .judged)
+  where
+    by : (l : Line) → lineOf (drop at s) ≡ l → judgementOf 1 at l ≡ accepted end next → Ordered s at end next
+    by (line t e rest) q j = told (verdict 1 at (split 9 t) e (at + length t + length (endingBytes e))) refl j
+      where
+        told : (v : Verdict) → verdict 1 at (split 9 t) e (at + length t + length (endingBytes e)) ≡ v
+            → judgement v (at + length t) (at + length t + length (endingBytes e)) ≡ accepted end next → Ordered s at end next
+        told fine f j =
+            let a : at + length t ≡ end = cc in
+            let b : at + length t + length (endingBytes e) ≡ next = cc in
+            let c = line-whole (drop at s) q in
+            let l = length-append t (endingBytes e ++ rest) in
+            let m = ap length (c .whole) in
+            let d = length-drop at s in
+            let r = g .reached in
+            let n : length t ≡ end - at = omega arith in
+            record {
+              text = t;
+              ending = e;
+              rest = rest;
+              is = q;
+              ends = a;
+              past = (rw a at b);
+              order = (rw b at f);
+              within = omega arith;
+              stands = rw (← c .whole) (take-at t (endingBytes e ++ rest) (end - at) n);
+            }
+        told (refused n p) f j = absurd (let z : _≡_ {A = ℕ} 0 1 = cc in omega arith)
+
+module _ {s : List ℕ} {at end next : ℕ} (g : InOrder s at end next) where
+  pub order-after : at ≤ end
+  order-after = let o = ordered g in let e = o .ends in omega arith
+
+  pub order-within : end ≤ length s
+  order-within = ordered g .within
+
+  pub order-count : end ≡ length (take end s)
+  order-count = sym (length-take-le end s order-within)
+
+  -- the text, as the fields are cut out of it
+  text-cut : (o : Ordered s at end next) → drop at (take end s) ≡ o .text
+  text-cut o = drop-take s at end order-after (o .within) ∙ o .stands
+
+  pub order-enough : Enough (take end s) at
+  order-enough = by (ordered g)
+    where
+      by : Ordered s at end next → Enough (take end s) at
+      by o =
+          let l = length-take-le end s (o .within) in
+          let a = order-after in
+          let t = ap (λ (x : List ℕ). length (split 9 x)) (text-cut o) in
+          ⊎-elim (λ c. record { reached = omega arith; some = omega arith; count = λ e. omega arith })
+          (λ c. record { reached = omega arith; some = omega arith; count = λ e. omega arith })
+          (fine-count at (split 9 (o .text)) (o .ending) next (split-some 9 (o .text)) (o .order))
+
+  -- the answer, by whether the columns are UTF-8
+  line-judged : (o : Ordered s at end next) → lineAnswer at (lineOf (drop at s)) ≡ judgedAnswer fine at end (split 9 (o .text)) next
+  unfolding lineAnswer
+  line-judged o = rw (o .is, o .ends, o .past, o .order)
+
+  module _ {x : Utf8} (u : utf8Paper x ≡ utf8Answer (take (end - at) (drop at s))) where
+    pub finish-line : (r : Record) → x ≡ U.Text → recordPlaces r ≡ fieldPlaces at (split 9 (drop at (take end s))) (length (take end s))
+        → readPaper (R.Line r next) ≡ lineAnswer at (lineOf (drop at s))
+    unfolding readPaper judgedAnswer ByColumns
+    finish-line r q p = by (ordered g)
+      where
+        by : Ordered s at end next → readPaper (R.Line r next) ≡ lineAnswer at (lineOf (drop at s))
+        by o =
+            let v : allUtf8 (split 9 (o .text)) ≡ true = sym (by-columns (o .text)) ∙ told-text (o .text) x (rw (o .stands) at u) q in
+            rw (line-judged o, v, p, text-cut o, length-take-le end s (o .within))
+
+    pub finish-broken : x ≡ U.Broken → readPaper (R.NotUtf8 next) ≡ lineAnswer at (lineOf (drop at s))
+    unfolding readPaper judgedAnswer ByColumns
+    finish-broken q = by (ordered g)
+      where
+        by : Ordered s at end next → readPaper (R.NotUtf8 next) ≡ lineAnswer at (lineOf (drop at s))
+        by o =
+            let v : allUtf8 (split 9 (o .text)) ≡ false = sym (by-columns (o .text)) ∙ told-broken (o .text) x (rw (o .stands) at u) q in
+            rw (line-judged o, v)
+
+-- ---- the reader
+
+refused-says : (at : ℕ) (l : Line) {k next : ℕ} → judgementOf 1 at l ≡ denied k next → says k (next ∷ []) ≡ lineAnswer at l
+unfolding judgementOf judgement lineAnswer judgedAnswer
+refused-says at (line t e rest) {k} {next} d = by (verdict 1 at (split 9 t) e (at + length t + length (endingBytes e))) d
+  where
+    by : (v : Verdict) → judgement v (at + length t) (at + length t + length (endingBytes e)) ≡ denied k next
+        → says k (next ∷ []) ≡ judgedAnswer v at (at + length t) (split 9 t) (at + length t + length (endingBytes e))
+    by fine d = cc
+    by (refused n p) d = cc
+
+module _ (s : List ℕ) (at : ℕ) where
+  pub reads-beyond : length s < at → readPaper (R.Beyond at) ≡ readAnswer s at
+  unfolding readPaper
+  reads-beyond h = sym (read-beyond s at h)
+
+  pub reads-end : at ≡ length s → readPaper (R.End at) ≡ readAnswer s at
+  unfolding readPaper
+  reads-end e = sym (read-end s at e)
+
+  module _ (h : at ≤ length s) (n : at ≡ length s → ⊥) where
+    inside : at < length s
+    inside = omega arith
+
+    pub reads-line : (r : Read) → readPaper r ≡ lineAnswer at (lineOf (drop at s)) → readPaper r ≡ readAnswer s at
+    reads-line r e = e ∙ sym (read-line s at inside)
+
+    module _ (x : Judged) (j : judgedPaper x ≡ judgementOf 1 at (lineOf (drop at s))) where
+      pub reads-ordered : {end next : ℕ} → x ≡ J.Fine end next → InOrder s at end next
+      unfolding judgedPaper
+      reads-ordered q = record { reached = h; judged = sym (rw q at j) }
+
+      -- a refusal is the line's
+      refusal : {k next : ℕ} → judgedPaper x ≡ denied k next → says k (next ∷ []) ≡ readAnswer s at
+      refusal {k} {next} q = by (lineOf (drop at s)) refl (sym j ∙ q) ∙ sym (read-line s at inside)
+        where
+          by : (l : Line) → lineOf (drop at s) ≡ l → judgementOf 1 at (lineOf (drop at s)) ≡ denied k next → says k (next ∷ []) ≡ lineAnswer at (lineOf (drop at s))
+          by l e d = rw e (refused-says at l (rw e at d))
+
+      pub reads-empty : {next : ℕ} → x ≡ J.Empty next → readPaper (R.Empty next) ≡ readAnswer s at
+      unfolding readPaper judgedPaper
+      reads-empty q = refusal (rw q)
+
+      pub reads-fed : {next : ℕ} → x ≡ J.Fed next → readPaper (R.Fed next) ≡ readAnswer s at
+      unfolding readPaper judgedPaper
+      reads-fed q = refusal (rw q)
+
+      pub reads-cut : {next : ℕ} → x ≡ J.Cut next → readPaper (R.Cut next) ≡ readAnswer s at
+      unfolding readPaper judgedPaper
+      reads-cut q = refusal (rw q)
+
+pub ruleset laws = (order-after, order-within, order-count, order-enough, finish-line, finish-broken, reads-beyond, reads-end, reads-line, reads-ordered, reads-empty, reads-fed, reads-cut)

@@ -1,0 +1,342 @@
+-- The cut of a line is unique, by the text before the first LF; the columns' laws go column by column. Assumes nothing.
+use Prim.Native.Nat.{ℕ, zero, suc, _+_, _-_, _<_, _≤_, suc-le-suc}
+use mathlib.Core.Path.{_≡_, refl, sym, ap, _∙_}
+use mathlib.Core.Bool.{Bool, true, false, _&&_, _||_, and-eq-true-iff, and-true, true≢false, false≢true}
+use mathlib.Core.Logic.{_⊎_, inl, inr, ⊎-elim}
+use mathlib.Core.List.{List, [], _∷_, _++_, append-assoc, append-nil, dropLast}
+use native.Mathlib.Omega.{arith}
+use native.Mathlib.Decide.{ℕ-discrete}
+use lib.ListN.{length, getD, length-append}
+use lib.Dec.{leb, eqb}
+use borrow.Author.Tests.{leb-false, lt-leb, eqb-true, eqb-false, ne-eqb}
+use Rattle.text.specs.Pick.{pick}
+use Rattle.text.specs.Utf8.{isUtf8}
+use Rattle.text.specs.Demands.{Parted}
+use Rattle.text.proofs.Demands.{parted}
+use Rattle.pieces.specs.Pieces.{split, joined}
+use Rattle.pieces.specs.Demands.{Free}
+use Rattle.pieces.proofs.PieceLaws.{free-nil, free-cons, free-head, free-tail, split-some, split-nil, split-free, split-joined, split-whole, split-append, one-text, more-text}
+use Rattle.line.specs.Line.{Ending, nothing, feed, return-feed, endingBytes, line, endsInReturn, fed, lineIn, lineOf, Verdict, fine, refused, required, isEmpty, lastVerdict, verdict, allUtf8}
+use Rattle.line.specs.Demands.{Ended, by-nothing, by-feed, by-return-feed, ByColumns}
+
+-- ---- texts free of a byte
+
+-- two texts that are free of it are so together
+pub free-append : {b : ℕ} (p : List ℕ) {q : List ℕ} → Free b p → Free b q → Free b (p ++ q)
+free-append [] f g = g
+free-append (a ∷ p) f g = free-cons (free-head f) (free-append p (free-tail f) g)
+
+-- and each of them where they are so together
+pub free-left : {b : ℕ} (p q : List ℕ) → Free b (p ++ q) → Free b p
+free-left [] q f = free-nil
+free-left (a ∷ p) q f = free-cons (free-head f) (free-left p q (free-tail f))
+
+pub free-right : {b : ℕ} (p q : List ℕ) → Free b (p ++ q) → Free b q
+free-right [] q f = f
+free-right (a ∷ p) q f = free-right p q (free-tail f)
+
+-- the first piece of a text is free of the separator
+first-free : (b : ℕ) (s : List ℕ) {p : List ℕ} {ps : List (List ℕ)} → split b s ≡ p ∷ ps → Free b p
+first-free b s h = rw h at (split-free b s 0 (split-some b s))
+
+-- ---- pieces joined
+
+joined-none : (a : ℕ) → joined a [] ≡ []
+unfolding joined
+joined-none a = refl
+
+pub joined-one : (a : ℕ) (p : List ℕ) → joined a (p ∷ []) ≡ p
+unfolding joined
+joined-one a p = refl
+
+pub joined-more : (a : ℕ) (p q : List ℕ) (ps : List (List ℕ)) → joined a (p ∷ q ∷ ps) ≡ p ++ a ∷ joined a (q ∷ ps)
+unfolding joined
+joined-more a p q ps = refl
+
+-- pieces free of a byte, joined by another, are free of it
+pub free-joined : {a b : ℕ} (ps : List (List ℕ)) → (a ≡ b → ⊥) → ((i : ℕ) → i < length ps → Free b (getD ps i [])) → Free b (joined a ps)
+free-joined [] h each = rw joined-none free-nil
+free-joined (p ∷ []) h each = rw joined-one (each 0 (omega arith))
+free-joined (p ∷ q ∷ ps) h each =
+    rw joined-more (free-append p (each 0 (omega arith)) (free-cons h (free-joined (q ∷ ps) h (λ i l. each (suc i) (suc-le-suc l)))))
+
+-- and each piece is, where they are so joined
+pub free-each : (a : ℕ) {b : ℕ} (ps : List (List ℕ)) → Free b (joined a ps) → (i : ℕ) → i < length ps → Free b (getD ps i [])
+free-each a [] f i l = absurd (omega arith)
+free-each a (p ∷ []) f zero l = rw joined-one at f
+free-each a (p ∷ []) f (suc i) l = absurd (omega arith)
+free-each a (p ∷ q ∷ ps) f zero l = free-left p _ (rw joined-more at f)
+free-each a (p ∷ q ∷ ps) f (suc i) l = free-each a (q ∷ ps) (free-tail (free-right p _ (rw joined-more at f))) i (omega arith)
+
+-- ---- CR at a text's end
+
+return-later : (a : ℕ) (s : List ℕ) → 0 < length s → endsInReturn (a ∷ s) ≡ endsInReturn s
+unfolding endsInReturn
+return-later a [] h = absurd (omega arith)
+return-later a (b ∷ s) h = refl
+
+-- what stands behind a tab tells whether the text ends in CR
+return-tab : (c t : List ℕ) → endsInReturn (c ++ 9 ∷ t) ≡ endsInReturn t
+unfolding endsInReturn
+return-tab [] [] = refl
+return-tab [] (b ∷ t) = refl
+return-tab (a ∷ c) t = return-later a (c ++ 9 ∷ t) (simp length-append (omega arith)) ∙ return-tab c t
+
+-- a text with CR behind it ends in CR, and comes back without it
+return-last : (t : List ℕ) → endsInReturn (t ++ 13 ∷ []) ≡ true
+unfolding endsInReturn
+return-last [] = refl
+return-last (a ∷ t) = return-later a (t ++ 13 ∷ []) (simp length-append (omega arith)) ∙ return-last t
+
+dropLast-back : (t : List ℕ) (b : ℕ) → dropLast (t ++ b ∷ []) ≡ t
+dropLast-back [] b = refl
+dropLast-back (a ∷ []) b = refl
+dropLast-back (a ∷ c ∷ t) b = ap (λ (z : List ℕ). a ∷ z) (dropLast-back (c ∷ t) b)
+
+-- and only such a text ends in CR
+pub return-is : (t : List ℕ) → endsInReturn t ≡ true → dropLast t ++ 13 ∷ [] ≡ t
+unfolding endsInReturn
+return-is [] h = absurd (false≢true h)
+return-is (b ∷ []) h = let e = eqb-true b 13 h in rw e
+return-is (b ∷ c ∷ t) h = ap (λ (z : List ℕ). b ∷ z) (return-is (c ∷ t) h)
+
+-- ---- the line that an input begins with
+
+pub fed-plain : (t rest : List ℕ) → endsInReturn t ≡ false → fed t rest ≡ line t feed rest
+unfolding fed
+fed-plain t rest h = rw h
+
+pub fed-return : (t rest : List ℕ) → fed (t ++ 13 ∷ []) rest ≡ line t return-feed rest
+unfolding fed
+fed-return t rest = rw (return-last t, dropLast-back t 13)
+
+in-more : (t : List ℕ) (us : List (List ℕ)) → 0 < length us → lineIn (t ∷ us) ≡ fed t (joined 10 us)
+unfolding lineIn
+in-more t [] h = absurd (omega arith)
+in-more t (u ∷ us) h = refl
+
+-- the text before the first LF
+pub line-feed : (c s : List ℕ) → Free 10 c → lineOf (c ++ 10 ∷ s) ≡ fed c s
+unfolding lineOf
+line-feed c s f = rw (split-append c s f, in-more c (split 10 s) (split-some 10 s), split-joined 10 s)
+
+-- an input without LF is one line
+pub line-end : (c : List ℕ) → Free 10 c → lineOf c ≡ line c nothing []
+unfolding lineOf lineIn
+line-end c f = rw (split-whole c f)
+
+-- a text free of LF, then an ending that is right after it, then the rest, are the input
+pub record LineCut (s t : List ℕ) (e : Ending) (rest : List ℕ) : Type 0 where
+  pub whole : t ++ (endingBytes e ++ rest) ≡ s
+  pub unfed : Free 10 t
+  pub ended : Ended t e rest
+
+line-same : {s t t′ : List ℕ} {e e′ : Ending} {rest rest′ : List ℕ} → line t e rest ≡ line t′ e′ rest′ → LineCut s t e rest
+    → LineCut s t′ e′ rest′
+line-same {t = t} {t′ = t′} {e = e} {e′ = e′} {rest = rest} {rest′ = rest′} q c =
+    let a : t ≡ t′ = cc in
+    let b : e ≡ e′ = cc in
+    let d : rest ≡ rest′ = cc in
+    rw (a, b, d) at c
+
+-- such a cut is the line's
+pub line-only : {s t : List ℕ} {e : Ending} {rest : List ℕ} → LineCut s t e rest → lineOf s ≡ line t e rest
+unfolding endingBytes
+line-only {t = t} c = by (c .ended) (c .whole)
+  where
+    by : {e : Ending} {s rest : List ℕ} → Ended t e rest → t ++ (endingBytes e ++ rest) ≡ s → lineOf s ≡ line t e rest
+    by by-nothing w = rw (← w, append-nil t) (line-end t (c .unfed))
+    by {rest = rest} (by-feed h) w = rw (← w) (line-feed t rest (c .unfed) ∙ fed-plain t rest h)
+    by {rest = rest} by-return-feed w =
+        rw (← w, ← append-assoc t (13 ∷ []) (10 ∷ rest))
+        (line-feed (t ++ 13 ∷ []) rest (free-append t (c .unfed) (free-cons (λ z. omega arith) free-nil)) ∙ fed-return t rest)
+
+-- an input without LF, and one cut at its first LF, are so cut
+end-cut : {s : List ℕ} → Free 10 s → LineCut s s nothing []
+unfolding endingBytes
+end-cut {s} f = record { whole = append-nil s; unfed = f; ended = by-nothing }
+
+feed-cut : (p rest : List ℕ) {t : List ℕ} {e : Ending} {r : List ℕ} → Free 10 p → fed p rest ≡ line t e r → LineCut (p ++ 10 ∷ rest) t e r
+unfolding fed endingBytes
+feed-cut p rest {t} {e} {r} f q = by (endsInReturn p) refl q
+  where
+    by : (b : Bool) → endsInReturn p ≡ b → pick b (line (dropLast p) return-feed rest) (line p feed rest) ≡ line t e r → LineCut (p ++ 10 ∷ rest) t e r
+    by true h q =
+        let w = return-is p h in
+        line-same q (record { whole = sym (append-assoc (dropLast p) (13 ∷ []) (10 ∷ rest)) ∙ rw w; unfed = free-left (dropLast p) (13 ∷ []) (rw w f); ended = by-return-feed })
+    by false h q = line-same q (record { whole = refl; unfed = f; ended = by-feed h })
+
+-- the line is so cut
+pub line-whole : (s : List ℕ) {t : List ℕ} {e : Ending} {rest : List ℕ} → lineOf s ≡ line t e rest → LineCut s t e rest
+unfolding lineOf lineIn
+line-whole s {t} {e} {rest} q = by (split 10 s) refl q
+  where
+    by : (ps : List (List ℕ)) → split 10 s ≡ ps → lineIn ps ≡ line t e rest → LineCut s t e rest
+    by [] h q = absurd (split-nil 10 s h)
+    by (p ∷ []) h q = line-same q (rw (one-text 10 h) (end-cut (first-free 10 s h)))
+    by (p ∷ u ∷ ps) h q = rw (more-text 10 s h) (feed-cut p _ (first-free 10 s h) q)
+
+-- behind a column and its tab stands the rest of the line
+pub line-tab : (c s : List ℕ) {t : List ℕ} {e : Ending} {rest : List ℕ} → Free 9 c → Free 10 c → lineOf s ≡ line t e rest
+    → lineOf (c ++ 9 ∷ s) ≡ line (c ++ 9 ∷ t) e rest
+line-tab c s {t} f g q =
+    let l = line-whole s q in
+    line-only (record {
+      whole = append-assoc c (9 ∷ t) _ ∙ ap (λ (z : List ℕ). c ++ 9 ∷ z) (l .whole);
+      unfed = free-append c g (free-cons (λ z. omega arith) (l .unfed));
+      ended = by (l .ended);
+    })
+  where
+    by : {e : Ending} {rest : List ℕ} → Ended t e rest → Ended (c ++ 9 ∷ t) e rest
+    by by-nothing = by-nothing
+    by (by-feed h) = by-feed (return-tab c t ∙ h)
+    by by-return-feed = by-return-feed
+
+-- ---- UTF-8
+
+same-bool : (a b : Bool) → (a ≡ true → b ≡ true) → (b ≡ true → a ≡ true) → a ≡ b
+same-bool true b f g = sym (f refl)
+same-bool false true f g = g refl
+same-bool false false f g = refl
+
+utf8-tab : (c t : List ℕ) → isUtf8 (c ++ 9 ∷ t) ≡ isUtf8 c && isUtf8 t
+unfolding Parted
+utf8-tab c t =
+    let p = parted c t 9 (omega arith) in
+    let a = and-eq-true-iff (isUtf8 c) (isUtf8 t) in
+    same-bool (isUtf8 (c ++ 9 ∷ t)) _ (λ e. a .1 (p .0 e)) (λ e. p .1 (a .0 e))
+
+utf8-joined : (cs : List (List ℕ)) → 0 < length cs → isUtf8 (joined 9 cs) ≡ allUtf8 cs
+unfolding allUtf8
+utf8-joined [] h = absurd (omega arith)
+utf8-joined (c ∷ []) h = rw joined-one (sym (and-true (isUtf8 c)))
+utf8-joined (c ∷ d ∷ cs) h = rw (joined-more, utf8-tab, utf8-joined (d ∷ cs) (omega arith))
+
+pub by-columns : ByColumns isUtf8 allUtf8 (split 9)
+unfolding ByColumns
+by-columns t = ap isUtf8 (sym (split-joined 9 t)) ∙ utf8-joined (split 9 t) (split-some 9 t)
+
+-- where all columns are UTF-8, each is; and only there
+pub utf8-each : (cs : List (List ℕ)) → allUtf8 cs ≡ true → (i : ℕ) → i < length cs → isUtf8 (getD cs i []) ≡ true
+unfolding allUtf8
+utf8-each [] h i l = absurd (omega arith)
+utf8-each (c ∷ cs) h zero l = and-eq-true-iff _ _ .0 h .0
+utf8-each (c ∷ cs) h (suc i) l = utf8-each cs (and-eq-true-iff (isUtf8 c) _ .0 h .1) i (omega arith)
+
+pub utf8-all : (cs : List (List ℕ)) → ((i : ℕ) → i < length cs → isUtf8 (getD cs i []) ≡ true) → allUtf8 cs ≡ true
+unfolding allUtf8
+utf8-all [] each = refl
+utf8-all (c ∷ cs) each = rw (each 0 (omega arith)) (utf8-all cs (λ i l. each (suc i) (suc-le-suc l)))
+
+-- ---- columns in order
+
+-- the verdict is fine past a test that would have refused
+past-test : (t : Bool) (n p : ℕ) {v : Verdict} → pick t (refused n p) v ≡ fine → (t ≡ false) × (v ≡ fine)
+past-test true n p h = absurd (let z : _≡_ {A = ℕ} 0 1 = cc in omega arith)
+past-test false n p h = (refl, h)
+
+or-none : (a b : Bool) → (a || b) ≡ false → (a ≡ false) × (b ≡ false)
+or-none true b h = absurd (true≢false h)
+or-none false b h = (refl, h)
+
+pub empty-some : (c : List ℕ) → isEmpty c ≡ false → 0 < length c
+unfolding isEmpty
+empty-some [] h = absurd (true≢false h)
+empty-some (b ∷ c) h = omega arith
+
+pub some-empty : (c : List ℕ) → 0 < length c → isEmpty c ≡ false
+unfolding isEmpty
+some-empty [] h = absurd (omega arith)
+some-empty (b ∷ c) h = refl
+
+last-fine : (k : ℕ) (c : List ℕ) (e : Ending) (past : ℕ) → lastVerdict k c e past ≡ fine → (required k ≡ false) × (isEmpty c ≡ false)
+unfolding lastVerdict
+last-fine k c nothing past h = or-none (required k) (isEmpty c) (past-test _ _ _ h .0)
+last-fine k c feed past h = let p = past-test (required k) _ _ h in (p .0, past-test (isEmpty c) _ _ (p .1) .0)
+last-fine k c return-feed past h = let p = past-test (required k) _ _ h in (p .0, past-test (isEmpty c) _ _ (p .1) .0)
+
+fine-last : (k : ℕ) (c : List ℕ) (e : Ending) (past : ℕ) → required k ≡ false → isEmpty c ≡ false → lastVerdict k c e past ≡ fine
+unfolding lastVerdict
+fine-last k c nothing past r m = rw (r, m)
+fine-last k c feed past r m = rw (r, m)
+fine-last k c return-feed past r m = rw (r, m)
+
+-- the columns from number k on: none is empty, and the last has a number that needs no tab
+pub record InOrder (k : ℕ) (cs : List (List ℕ)) : Type 0 where
+  pub full : (i : ℕ) → i < length cs → 0 < length (getD cs i [])
+  pub last : required (k + length cs - 1) ≡ false
+
+order-one : {k : ℕ} {c : List ℕ} → required k ≡ false → isEmpty c ≡ false → InOrder k (c ∷ [])
+order-one {k} {c} r m = record { full = by; last = let z : k + 1 - 1 ≡ k = omega arith in rw z r }
+  where
+    by : (i : ℕ) → i < 1 → 0 < length (getD (c ∷ []) i [])
+    by zero l = empty-some c m
+    by (suc i) l = absurd (omega arith)
+
+-- of two and more columns, the first and the others
+next-number : (k n : ℕ) → k + 1 + n - 1 ≡ k + suc n - 1
+next-number k n = omega arith
+
+order-more : {k : ℕ} {c : List ℕ} {cs : List (List ℕ)} → isEmpty c ≡ false → InOrder (k + 1) cs → InOrder k (c ∷ cs)
+order-more {k} {c} {cs} m o = record { full = by; last = rw next-number at (o .last) }
+  where
+    by : (i : ℕ) → i < suc (length cs) → 0 < length (getD (c ∷ cs) i [])
+    by zero l = empty-some c m
+    by (suc i) l = o .full i (omega arith)
+
+-- columns whose verdict is fine are in order
+pub fine-order : (k from : ℕ) (cs : List (List ℕ)) (e : Ending) (past : ℕ) → 0 < length cs → verdict k from cs e past ≡ fine → InOrder k cs
+unfolding verdict
+fine-order k from [] e past n h = absurd (omega arith)
+fine-order k from (c ∷ []) e past n h = let p = last-fine k c e past h in order-one (p .0) (p .1)
+fine-order k from (c ∷ d ∷ cs) e past n h =
+    let p = past-test (isEmpty c) _ _ h in
+    order-more (p .0) (fine-order (k + 1) (from + length c + 1) (d ∷ cs) e past (omega arith) (p .1))
+
+-- and columns in order have the verdict fine
+pub order-fine : (k from : ℕ) (cs : List (List ℕ)) (e : Ending) (past : ℕ) → 0 < length cs → InOrder k cs → verdict k from cs e past ≡ fine
+unfolding verdict
+order-fine k from [] e past n o = absurd (omega arith)
+order-fine k from (c ∷ []) e past n o =
+    let z : k + 1 - 1 ≡ k = omega arith in
+    fine-last k c e past (rw z at (o .last)) (some-empty c (o .full 0 (omega arith)))
+order-fine k from (c ∷ d ∷ cs) e past n o =
+    rw (some-empty c (o .full 0 (omega arith)))
+    (order-fine (k + 1) (from + length c + 1) (d ∷ cs) e past (omega arith) (record { full = λ i l. o .full (suc i) (suc-le-suc l); last = rw next-number (o .last) }))
+
+-- the numbers that need no tab
+pub required-count : (n : ℕ) → required n ≡ false → (n ≡ 8) ⊎ (10 ≤ n)
+unfolding required
+required-count n h = by (ℕ-discrete n 8)
+  where
+    by : Dec (n ≡ 8) → (n ≡ 8) ⊎ (10 ≤ n)
+    by (yes z) = inl z
+    by (no z) =
+        let p = or-none (leb n 7) (eqb n 9) h in
+        let l = leb-false n 7 (p .0) in
+        let m = eqb-false n 9 (p .1) in
+        inr (omega arith)
+
+pub count-required : {n : ℕ} → (n ≡ 8) ⊎ (10 ≤ n) → required n ≡ false
+unfolding required
+count-required {n} (inl z) = rw z
+count-required {n} (inr h) = rw (lt-leb n 7 (omega arith), ne-eqb n 9 (λ z. omega arith))
+
+-- columns from the first on whose verdict is fine are eight, or at least ten
+pub fine-count : (from : ℕ) (cs : List (List ℕ)) (e : Ending) (past : ℕ) → 0 < length cs → verdict 1 from cs e past ≡ fine
+    → (length cs ≡ 8) ⊎ (10 ≤ length cs)
+fine-count from cs e past n h =
+    let z : 1 + length cs - 1 ≡ length cs = omega arith in
+    required-count (length cs) (rw z at (fine-order 1 from cs e past n h .last))
+
+-- and none is empty
+pub fine-full : (from : ℕ) (cs : List (List ℕ)) (e : Ending) (past : ℕ) → 0 < length cs → verdict 1 from cs e past ≡ fine
+    → (i : ℕ) → i < length cs → 0 < length (getD cs i [])
+fine-full from cs e past n h = fine-order 1 from cs e past n h .full
+
+-- so many columns, of which none is empty, have the verdict fine
+pub count-fine : (from : ℕ) (cs : List (List ℕ)) (e : Ending) (past : ℕ) → (length cs ≡ 8) ⊎ (10 ≤ length cs)
+    → ((i : ℕ) → i < length cs → 0 < length (getD cs i [])) → verdict 1 from cs e past ≡ fine
+count-fine from cs e past n full =
+    let z : 1 + length cs - 1 ≡ length cs = omega arith in
+    order-fine 1 from cs e past (⊎-elim (λ h. omega arith) (λ h. omega arith) n) (record { full = full; last = rw z (count-required n) })

@@ -1,0 +1,106 @@
+-- Two outcomes that a contract of this crate allows are equal: each can be read back from its paper, so no two have one paper. Assumes nothing.
+use Prim.Native.Nat.{ℕ}
+use mathlib.Core.Path.{_≡_, refl, sym, _∙_}
+use mathlib.Core.List.{List, [], _∷_}
+use mathlib.Mathlib.Logic.Function.Defs.{LeftInverse·injective}
+use lib.Dec.{eqb}
+use lib.ListN.{getD}
+use Rattle.text.specs.Pick.{pick}
+use Rattle.text.specs.Answer.{Answer, says}
+use Rattle.text.specs.declared.range.Range.{Range}
+use Rattle.line.specs.Line.{readAnswer}
+use Rattle.line.specs.Fields.{placeAnswer, fieldAnswer}
+use Rattle.line.specs.Pos.{posAnswer}
+use Rattle.line.specs.Paper.{recordPlaces, readPaper, fieldPaper, positionPaper}
+use Rattle.line.specs.declared.read.Record.{Record}
+use Rattle.line.specs.declared.read.Read.{Read}
+use Rattle.line.specs.declared.read.Read.the-variants as R
+use Rattle.line.specs.declared.fields.Name.{Name}
+use Rattle.line.specs.declared.fields.Text.{Text}
+use Rattle.line.specs.declared.fields.Text.the-variants as F
+use Rattle.line.specs.declared.pos.Position.{Position}
+use Rattle.line.specs.declared.pos.Position.the-variants as P
+
+-- ---- the reader
+
+-- the range whose start is value k, and whose length is value m
+rangeAt : List ℕ → ℕ → ℕ → Range
+rangeAt l k m = record { start = getD l k 0; len = getD l m 0 }
+
+recordOf : List ℕ → Record
+recordOf l =
+    record {
+      chrom = rangeAt l 1 2;
+      pos = rangeAt l 3 4;
+      id = rangeAt l 5 6;
+      reference = rangeAt l 7 8;
+      alt = rangeAt l 9 10;
+      qual = rangeAt l 11 12;
+      filter = rangeAt l 13 14;
+      info = rangeAt l 15 16;
+      format = rangeAt l 17 18;
+      samples = rangeAt l 19 20;
+    }
+
+-- by the answer's number; the first value is the next place
+readBy : ℕ → List ℕ → ℕ → Read
+readBy n l next = getD (R.Line (recordOf l) next ∷ R.End next ∷ R.Empty next ∷ R.Fed next ∷ R.Cut next ∷ R.NotUtf8 next ∷ []) n (R.Beyond next)
+
+readOf : Answer → Read
+readOf (says n l) = readBy n l (getD l 0 0)
+
+read-back : (x : Read) → readOf (readPaper x) ≡ x
+unfolding readOf readBy recordOf rangeAt readPaper recordPlaces
+read-back (R.Line r next) = refl
+read-back (R.End next) = refl
+read-back (R.Empty next) = refl
+read-back (R.Fed next) = refl
+read-back (R.Cut next) = refl
+read-back (R.NotUtf8 next) = refl
+read-back (R.Beyond next) = refl
+
+pub read-paper-injective : (r r′ : Read) → readPaper r ≡ readPaper r′ → r ≡ r′
+read-paper-injective = LeftInverse·injective readOf readPaper read-back
+
+pub read-determined : (s : List ℕ) (at : ℕ) (r r′ : Read) → readPaper r ≡ readAnswer s at → readPaper r′ ≡ readAnswer s at → r ≡ r′
+read-determined s at r r′ p q = read-paper-injective r r′ (p ∙ sym q)
+
+-- ---- a field's text
+
+textOf : Answer → Text
+textOf (says n []) = pick (eqb n 0) F.Absent F.Beyond
+textOf (says n (a ∷ [])) = F.Beyond
+textOf (says n (a ∷ b ∷ l)) = F.At (record { start = a; len = b })
+
+text-back : (x : Text) → textOf (fieldPaper x) ≡ x
+unfolding textOf fieldPaper
+text-back (F.At r) = refl
+text-back F.Absent = refl
+text-back F.Beyond = refl
+
+pub field-paper-injective : (x y : Text) → fieldPaper x ≡ fieldPaper y → x ≡ y
+field-paper-injective = LeftInverse·injective textOf fieldPaper text-back
+
+pub place-determined : (s : List ℕ) (range : Range) (r r′ : Text) → fieldPaper r ≡ placeAnswer s range → fieldPaper r′ ≡ placeAnswer s range → r ≡ r′
+place-determined s range r r′ p q = field-paper-injective r r′ (p ∙ sym q)
+
+pub field-determined : (s : List ℕ) (line : Record) (name : Name) (r r′ : Text) → fieldPaper r ≡ fieldAnswer s line name → fieldPaper r′ ≡ fieldAnswer s line name → r ≡ r′
+field-determined s line name r r′ p q = field-paper-injective r r′ (p ∙ sym q)
+
+-- ---- POS
+
+positionOf : Answer → Position
+positionOf (says n []) = pick (eqb n 0) P.Nowhere P.Bad
+positionOf (says n (a ∷ l)) = P.At a
+
+position-back : (x : Position) → positionOf (positionPaper x) ≡ x
+unfolding positionOf positionPaper
+position-back (P.At n) = refl
+position-back P.Nowhere = refl
+position-back P.Bad = refl
+
+pub position-paper-injective : (x y : Position) → positionPaper x ≡ positionPaper y → x ≡ y
+position-paper-injective = LeftInverse·injective positionOf positionPaper position-back
+
+pub pos-determined : (s : List ℕ) (r r′ : Position) → positionPaper r ≡ posAnswer s → positionPaper r′ ≡ posAnswer s → r ≡ r′
+pos-determined s r r′ p q = position-paper-injective r r′ (p ∙ sym q)

@@ -1,0 +1,221 @@
+-- Each way through the code is the definition at its tests; a range's text is a `.` where it is one byte long and that byte is. Assumes nothing.
+use Prim.Native.Nat.{ℕ, _+_, _-_, _<_, _≤_}
+use mathlib.Core.Path.{_≡_, refl, sym, ap, _∙_}
+use mathlib.Core.Bool.{Bool, true, false, _&&_, and-false, and-eq-true-iff}
+use mathlib.Core.List.{List, [], _∷_}
+use native.Mathlib.Omega.{arith}
+use lib.ListN.{length, getD, drop, length-drop}
+use lib.Seq.{length-take-le}
+use lib.Dec.{leb, eqb}
+use borrow.Author.Tests.{le-leb, lt-leb, leb-true}
+use Rattle.text.specs.Answer.{says}
+use Rattle.text.specs.Range.{cut}
+use Rattle.text.specs.declared.range.Range.{Range}
+use Rattle.text.proofs.Lists.{here, cut-is}
+use Rattle.line.specs.Fields.{rangeOf, fitsIn, placeAnswer, dotAnswer, textAnswer, fieldAnswer}
+use Rattle.line.specs.Pos.{isByte}
+use Rattle.line.specs.Paper.{fieldPaper}
+use Rattle.line.specs.declared.read.Record.{Record}
+use Rattle.line.specs.declared.fields.Name.{Name}
+use Rattle.line.specs.declared.fields.Name.the-variants as N
+use Rattle.line.specs.declared.fields.Text.{Text}
+use Rattle.line.specs.declared.fields.Text.the-variants as F
+use Rattle.line.proofs.PosLaws.{byte-not}
+
+-- ---- the field's range in a record
+
+module _ (line : Record) {name : Name} where
+  pub of-chrom : name ≡ N.Chrom → line .chrom ≡ rangeOf line name
+  unfolding rangeOf
+  of-chrom e = rw e
+
+  pub of-pos : name ≡ N.Pos → line .pos ≡ rangeOf line name
+  unfolding rangeOf
+  of-pos e = rw e
+
+  pub of-id : name ≡ N.Id → line .id ≡ rangeOf line name
+  unfolding rangeOf
+  of-id e = rw e
+
+  pub of-reference : name ≡ N.Reference → line .reference ≡ rangeOf line name
+  unfolding rangeOf
+  of-reference e = rw e
+
+  pub of-alt : name ≡ N.Alt → line .alt ≡ rangeOf line name
+  unfolding rangeOf
+  of-alt e = rw e
+
+  pub of-qual : name ≡ N.Qual → line .qual ≡ rangeOf line name
+  unfolding rangeOf
+  of-qual e = rw e
+
+  pub of-filter : name ≡ N.Filter → line .filter ≡ rangeOf line name
+  unfolding rangeOf
+  of-filter e = rw e
+
+  pub of-info : name ≡ N.Info → line .info ≡ rangeOf line name
+  unfolding rangeOf
+  of-info e = rw e
+
+  pub of-format : name ≡ N.Format → line .format ≡ rangeOf line name
+  unfolding rangeOf
+  of-format e = rw e
+
+  pub of-samples : name ≡ N.Samples → line .samples ≡ rangeOf line name
+  unfolding rangeOf
+  of-samples e = rw e
+
+-- ---- a place in a buffer
+
+-- the range lies in the buffer
+record Inside (s : List ℕ) (r : Range) : Type 0 where
+  starts : r .start ≤ length s
+  left : r .len ≤ length s - r .start
+
+module _ (s : List ℕ) (r : Range) where
+  inside-fits : Inside s r → fitsIn r s ≡ true
+  unfolding fitsIn
+  inside-fits i = rw (le-leb _ _ (i .starts), le-leb _ _ (i .left))
+
+  fits-inside : fitsIn r s ≡ true → Inside s r
+  unfolding fitsIn
+  fits-inside h =
+      let g = and-eq-true-iff (leb (r .start) (length s)) (leb (r .len) (length s - r .start)) .0 h in
+      record { starts = leb-true _ _ (g .0); left = leb-true _ _ (g .1) }
+
+  pub place-far : length s < r .start → fieldPaper F.Beyond ≡ placeAnswer s r
+  unfolding fieldPaper placeAnswer fitsIn
+  place-far h = rw (lt-leb _ _ h)
+
+  fits-not : length s - r .start < r .len → fitsIn r s ≡ false
+  unfolding fitsIn
+  fits-not h = rw (lt-leb _ _ h, and-false)
+
+  pub place-long : length s - r .start < r .len → fieldPaper F.Beyond ≡ placeAnswer s r
+  unfolding fieldPaper placeAnswer
+  place-long h = rw (fits-not h)
+
+  pub place-fits : r .start ≤ length s → r .len ≤ length s - r .start → fieldPaper (F.At r) ≡ placeAnswer s r
+  unfolding fieldPaper placeAnswer
+  place-fits p q = rw (inside-fits (record { starts = p; left = q }))
+
+-- ---- a text that is a `.`
+
+module _ (s : List ℕ) (r : Range) where
+  cut-length : Inside s r → length (cut r s) ≡ r .len
+  cut-length i = rw (cut-is (r .start) (r .len) s) (length-take-le (r .len) (drop (r .start) s) (simp length-drop (i .left)))
+
+  pub dot-not-one : (r .len ≡ 1 → ⊥) → false ≡ (fitsIn r s && isByte 46 (cut r s))
+  dot-not-one h = by (fitsIn r s) refl
+    where
+      by : (t : Bool) → fitsIn r s ≡ t → false ≡ (t && isByte 46 (cut r s))
+      by true f = let l = cut-length (fits-inside s r f) in sym (byte-not 46 (cut r s) (λ e. h (sym l ∙ ap length e)))
+      by false f = refl
+
+  pub dot-past : r .len ≡ 1 → length s ≤ r .start → false ≡ (fitsIn r s && isByte 46 (cut r s))
+  dot-past e h = rw (fits-not s r (omega arith))
+
+  cut-one : r .len ≡ 1 → r .start < length s → cut r s ≡ getD s (r .start) 0 ∷ []
+  cut-one e h = rw (cut-is (r .start) (r .len) s, e, here s (r .start) h)
+
+  pub dot-at : r .len ≡ 1 → r .start < length s → eqb (getD s (r .start) 0) 46 ≡ (fitsIn r s && isByte 46 (cut r s))
+  unfolding isByte
+  dot-at e h = rw (inside-fits s r (record { starts = omega arith; left = omega arith }), cut-one e h)
+
+-- ---- what a `.` reads as
+
+module _ (r : Range) {name : Name} where
+  pub reads-chrom : name ≡ N.Chrom → fieldPaper (F.At r) ≡ dotAnswer name r
+  unfolding fieldPaper dotAnswer
+  reads-chrom e = rw e
+
+  pub reads-pos : name ≡ N.Pos → fieldPaper (F.At r) ≡ dotAnswer name r
+  unfolding fieldPaper dotAnswer
+  reads-pos e = rw e
+
+  pub reads-id : name ≡ N.Id → fieldPaper (F.At (record { start = r .start + r .len; len = 0 })) ≡ dotAnswer name r
+  unfolding fieldPaper dotAnswer
+  reads-id e = rw e
+
+  pub reads-reference : name ≡ N.Reference → fieldPaper (F.At r) ≡ dotAnswer name r
+  unfolding fieldPaper dotAnswer
+  reads-reference e = rw e
+
+  pub reads-alt : name ≡ N.Alt → fieldPaper (F.At (record { start = r .start + r .len; len = 0 })) ≡ dotAnswer name r
+  unfolding fieldPaper dotAnswer
+  reads-alt e = rw e
+
+  pub reads-qual : name ≡ N.Qual → fieldPaper F.Absent ≡ dotAnswer name r
+  unfolding fieldPaper dotAnswer
+  reads-qual e = rw e
+
+  pub reads-filter : name ≡ N.Filter → fieldPaper (F.At (record { start = r .start + r .len; len = 0 })) ≡ dotAnswer name r
+  unfolding fieldPaper dotAnswer
+  reads-filter e = rw e
+
+  pub reads-info : name ≡ N.Info → fieldPaper (F.At (record { start = r .start + r .len; len = 0 })) ≡ dotAnswer name r
+  unfolding fieldPaper dotAnswer
+  reads-info e = rw e
+
+  pub reads-format : name ≡ N.Format → fieldPaper (F.At r) ≡ dotAnswer name r
+  unfolding fieldPaper dotAnswer
+  reads-format e = rw e
+
+  pub reads-samples : name ≡ N.Samples → fieldPaper (F.At r) ≡ dotAnswer name r
+  unfolding fieldPaper dotAnswer
+  reads-samples e = rw e
+
+-- ---- a field
+
+module _ (s : List ℕ) (line : Record) (name : Name) (x : Text) {r : Range} {b : Bool} (e : r ≡ rangeOf line name)
+    (d : b ≡ (fitsIn r s && isByte 46 (cut r s))) where
+  pub field-dot : b ≡ true → fieldPaper x ≡ dotAnswer name r → fieldPaper x ≡ fieldAnswer s line name
+  unfolding fieldAnswer textAnswer
+  field-dot t h = rw (← e, ← d, t) h
+
+  pub field-place : b ≡ false → fieldPaper x ≡ placeAnswer s r → fieldPaper x ≡ fieldAnswer s line name
+  unfolding fieldAnswer textAnswer
+  field-place t h = rw (← e, ← d, t) h
+
+-- a range that holds a `.` lies in the buffer
+pub dot-within : (s : List ℕ) (r : Range) {b : Bool} → b ≡ (fitsIn r s && isByte 46 (cut r s)) → b ≡ true → r .start + r .len ≤ length s
+dot-within s r d t =
+    let f = and-eq-true-iff (fitsIn r s) (isByte 46 (cut r s)) .0 (sym d ∙ t) .0 in
+    let i = fits-inside s r f in
+    omega arith
+
+-- ---- the rules for a field
+
+-- the fields of which a `.` is empty
+pub data Emptied : Name → Type 0 where
+  id : Emptied N.Id
+  alt : Emptied N.Alt
+  filter : Emptied N.Filter
+  info : Emptied N.Info
+
+module _ (s : List ℕ) (line : Record) where
+  field-reads : (name : Name) → fitsIn (rangeOf line name) s ≡ true → cut (rangeOf line name) s ≡ 46 ∷ [] → fieldAnswer s line name ≡ dotAnswer name (rangeOf line name)
+  unfolding fieldAnswer textAnswer isByte
+  field-reads name f e = rw (f, e)
+
+  -- a `.` in ID, ALT, FILTER or INFO is the empty text at its column's end
+  pub dot-empty : {name : Name} → Emptied name → fitsIn (rangeOf line name) s ≡ true → cut (rangeOf line name) s ≡ 46 ∷ []
+      → fieldAnswer s line name ≡ says 0 ((rangeOf line name .start + rangeOf line name .len) ∷ 0 ∷ [])
+  unfolding dotAnswer
+  dot-empty id f e = field-reads N.Id f e
+  dot-empty alt f e = field-reads N.Alt f e
+  dot-empty filter f e = field-reads N.Filter f e
+  dot-empty info f e = field-reads N.Info f e
+
+  -- in QUAL it is absent
+  pub dot-absent : fitsIn (rangeOf line N.Qual) s ≡ true → cut (rangeOf line N.Qual) s ≡ 46 ∷ [] → fieldAnswer s line N.Qual ≡ says 0 []
+  unfolding dotAnswer
+  dot-absent f e = field-reads N.Qual f e
+
+  -- any text but a `.` stands as it is
+  pub field-stands : (name : Name) → fitsIn (rangeOf line name) s ≡ true → (cut (rangeOf line name) s ≡ 46 ∷ [] → ⊥)
+      → fieldAnswer s line name ≡ says 0 (rangeOf line name .start ∷ rangeOf line name .len ∷ [])
+  unfolding fieldAnswer textAnswer placeAnswer
+  field-stands name f h = rw (f, byte-not 46 (cut (rangeOf line name) s) h)
+
+pub ruleset laws = (of-chrom, of-pos, of-id, of-reference, of-alt, of-qual, of-filter, of-info, of-format, of-samples, place-far, place-long, place-fits, dot-not-one, dot-past, dot-at, reads-chrom, reads-pos, reads-id, reads-reference, reads-alt, reads-qual, reads-filter, reads-info, reads-format, reads-samples, field-dot, field-place)

@@ -1,0 +1,14 @@
+pub mod ColumnLaws
+pub mod LineLaws
+pub mod ReadLaws
+pub mod PlaceLaws
+pub mod AnswerLaws
+pub mod PosLaws
+pub mod FieldLaws
+pub mod Exact
+pub mod One
+pub mod WindowLaws
+pub mod Window
+pub mod MovesOn
+pub mod Impostors
+pub mod Determined

@@ -1,0 +1,351 @@
+-- Reading a line column by column: the search for a column's end, the last column, and what is left from a column on.
+-- Assumes nothing.
+use Prim.Native.Nat.{ℕ, zero, suc, _+_, _-_, _≤_, _<_}
+use mathlib.Core.Path.{_≡_, refl, sym, ap, _∙_}
+use mathlib.Core.Bool.{Bool, true, false, _||_, or-true}
+use mathlib.Core.List.{List, [], _∷_, _++_, dropLast}
+use native.Mathlib.Omega.{arith}
+use native.Mathlib.Decide.{decLt}
+use native.Mathlib.Nat.{le-refl}
+use lib.ListN.{length, getD, take, drop, length-append, length-drop, length-take, take-append-drop}
+use lib.Seq.{drop-length, drop-drop, getD-take, getD-drop, length-take-le}
+use lib.Dec.{eqb}
+use borrow.Author.Tests.{le-leb, lt-leb, eq-eqb, ne-eqb}
+use Rattle.text.specs.Pick.{pick}
+use Rattle.text.proofs.Lists.{here, rest-all}
+use Rattle.pieces.specs.Pieces.{split}
+use Rattle.pieces.specs.Demands.{Free}
+use Rattle.pieces.proofs.PieceLaws.{free-nil, free-cons, free-head, free-tail, split-whole, split-append, split-nil}
+use Rattle.line.specs.Line.{Ending, feed, return-feed, endingBytes, Line, line, endsInReturn, fed, lineOf, fine, refused, required, isEmpty, lastVerdict, verdict}
+use Rattle.line.specs.Inner.{Clear, Stopped, StopsAt, TextEnd, none, bare, return, denied, judgement, judgementOf, judgedPaper}
+use Rattle.line.specs.declared.read.Stop.{Stop}
+use Rattle.line.specs.declared.read.Stop.the-variants as S
+use Rattle.line.specs.declared.read.Judged.{Judged}
+use Rattle.line.specs.declared.read.Judged.the-variants as J
+use Rattle.line.proofs.ColumnLaws.{line-end, line-feed, line-tab, some-empty}
+
+-- ---- the search for a column's end
+
+-- neither a tab nor an LF stands before i
+pub record Searching (s : List ℕ) (from i : ℕ) : Type 0 where
+  pub after : from ≤ i
+  pub within : i ≤ length s
+  pub clear : Clear s from i
+
+pub search-first : {s : List ℕ} {from : ℕ} → from ≤ length s → Searching s from from
+search-first h =
+    record {
+      after = omega arith;
+      within = h;
+      clear = record { no-tab = λ k p q e. omega arith; no-feed = λ k p q e. omega arith };
+    }
+
+-- what holds of no byte before i, and not of that at i, holds of none before i + 1
+none-more : (s : List ℕ) (b : ℕ) {from i : ℕ} → ((k : ℕ) → from ≤ k → k < i → getD s k 0 ≡ b → ⊥) → (getD s i 0 ≡ b → ⊥)
+    → (k : ℕ) → from ≤ k → k < i + 1 → getD s k 0 ≡ b → ⊥
+none-more s b {from} {i} f n k p q e =
+    elim (decLt k i) [ yes l ↦ f k p l e | no l ↦ let z : k ≡ i = omega arith in n (rw z at e) ]
+
+module _ {s : List ℕ} {from i : ℕ} (g : Searching s from i) where
+  pub search-turn : i < length s → (getD s i 0 ≡ 9 → ⊥) → (getD s i 0 ≡ 10 → ⊥) → Searching s from (i + 1)
+  search-turn h n m =
+      record {
+        after = omega arith;
+        within = omega arith;
+        clear = record { no-tab = none-more s 9 (g .clear .no-tab) n; no-feed = none-more s 10 (g .clear .no-feed) m };
+      }
+
+  pub search-found : {b : ℕ} → i < length s → getD s i 0 ≡ b → Stopped s from i b
+  search-found h e = record { after = g .after; within = h; is = e; clear = g .clear }
+
+  pub search-past : length s ≤ i → Clear s from (length s)
+  search-past h = let e : i ≡ length s = omega arith in rw e at (g .clear)
+
+-- what the search's answer tells, case by case
+module _ {s : List ℕ} {from : ℕ} {x : Stop} (h : StopsAt s from x) where
+  pub stop-tab : {i : ℕ} → x ≡ S.Tab i → Stopped s from i 9
+  stop-tab e = rw e at h
+
+  pub stop-feed : {i : ℕ} → x ≡ S.Feed i → Stopped s from i 10
+  stop-feed e = rw e at h
+
+  pub stop-input : x ≡ S.Input → Clear s from (length s)
+  stop-input e = rw e at h
+
+-- ---- the columns that must be ended by a tab
+
+pub required-low : (k : ℕ) → k ≤ 7 → true ≡ required k
+unfolding required
+required-low k h = rw (le-leb _ _ h)
+
+pub required-high : (k : ℕ) → 7 < k → eqb k 9 ≡ required k
+unfolding required
+required-high k h = rw (lt-leb _ _ h)
+
+-- ---- where a text ends before an LF
+
+module _ {s : List ℕ} {start feed : ℕ} where
+  pub end-none : feed ≡ start → TextEnd s start feed feed
+  end-none e = none (sym e)
+
+  pub end-return : (start ≤ feed) × (feed < length s) → (feed ≡ start → ⊥) → getD s (feed - 1) 0 ≡ 13 → TextEnd s start feed (feed - 1)
+  end-return h n e = return (omega arith) e
+
+  pub end-bare : (start ≤ feed) × (feed < length s) → (feed ≡ start → ⊥) → (getD s (feed - 1) 0 ≡ 13 → ⊥) → TextEnd s start feed feed
+  end-bare h n e = bare (omega arith) e
+
+empty-none : (c : List ℕ) → length c ≡ 0 → isEmpty c ≡ true
+unfolding isEmpty
+empty-none [] e = refl
+empty-none (a ∷ c) e = absurd (omega arith)
+
+-- ---- a part of the input as a text
+
+-- no byte b from one place up to another, said of the part
+part-free : (s : List ℕ) (b from end : ℕ) → from ≤ end → end ≤ length s → ((k : ℕ) → from ≤ k → k < end → getD s k 0 ≡ b → ⊥) → Free b (take (end - from) (drop from s))
+part-free s b from end h w f =
+    record {
+      free = λ k l e.
+          (let m : k < end - from = (let t = length-take (end - from) (drop from s) in omega arith) in
+          f (from + k) (omega arith) (omega arith) (sym (getD-take (end - from) (drop from s) k 0 m ∙ getD-drop from s k 0) ∙ e));
+    }
+
+-- the input from a place on: what stands before a byte, the byte, and the rest
+part-byte : (s : List ℕ) {from i b : ℕ} → Stopped s from i b → drop from s ≡ take (i - from) (drop from s) ++ b ∷ drop (i + 1) s
+part-byte s {from} {i} {b} g =
+    let d : from + (i - from) ≡ i = (let a = g .after in omega arith) in
+    sym (take-append-drop (i - from) (drop from s))
+    ∙ ap (λ (t : List ℕ). take (i - from) (drop from s) ++ t)
+    (drop-drop (i - from) from s ∙ ap (λ (n : ℕ). drop n s) d ∙ here s i (g .within) ∙ ap (λ (x : ℕ). x ∷ drop (i + 1) s) (g .is))
+
+part-length : (s : List ℕ) {from i b : ℕ} → Stopped s from i b → length (take (i - from) (drop from s)) ≡ i - from
+part-length s {from} {i} g = length-take-le (i - from) (drop from s) (let l = length-drop from s in let a = g .after in let w = g .within in omega arith)
+
+module _ (s : List ℕ) {from i b : ℕ} (g : Stopped s from i b) where
+  part-no-tab : Free 9 (take (i - from) (drop from s))
+  part-no-tab = part-free s 9 from i (g .after) (let w = g .within in omega arith) (g .clear .no-tab)
+
+  part-no-feed : Free 10 (take (i - from) (drop from s))
+  part-no-feed = part-free s 10 from i (g .after) (let w = g .within in omega arith) (g .clear .no-feed)
+
+-- the same to the end of the input
+rest-free : (s : List ℕ) (b from : ℕ) → from ≤ length s → ((k : ℕ) → from ≤ k → k < length s → getD s k 0 ≡ b → ⊥) → Free b (drop from s)
+rest-free s b from h f =
+    rw (rest-all s from) at (part-free s b from (length s) h (le-refl _) f)
+
+-- ---- the last column, cut by the end of the input
+
+module _ (s : List ℕ) (k start : ℕ) (h : start ≤ length s) (g : Clear s start (length s)) where
+  cut-judged : judgementOf k start (lineOf (drop start s)) ≡ judgement (pick (required k || isEmpty (drop start s)) (refused 4 (length s)) fine) (length s) (length s)
+  unfolding judgementOf verdict lastVerdict endingBytes
+  cut-judged =
+      let l = length-drop start s in
+      let e : start + length (drop start s) ≡ length s = omega arith in
+      let z : length s + 0 ≡ length s = omega arith in
+      rw (line-end (drop start s) (rest-free s 10 start h (g .no-feed)), split-whole (drop start s) (rest-free s 9 start h (g .no-tab)), e, z)
+
+  pub cut-required : {q : Bool} → q ≡ required k → q ≡ true → judgedPaper (J.Cut (length s)) ≡ judgementOf k start (lineOf (drop start s))
+  unfolding judgedPaper judgement
+  cut-required e t = rw (cut-judged, ← e, t)
+
+  pub cut-empty : start ≡ length s → judgedPaper (J.Cut start) ≡ judgementOf k start (lineOf (drop start s))
+  unfolding judgedPaper judgement isEmpty
+  cut-empty e = rw (cut-judged, e, drop-length s, or-true (required k))
+
+  pub cut-fine : {q : Bool} → q ≡ required k → q ≡ false → (start ≡ length s → ⊥) → judgedPaper (J.Fine (length s) (length s)) ≡ judgementOf k start (lineOf (drop start s))
+  unfolding judgedPaper judgement isEmpty
+  cut-fine e t n = rw (cut-judged, ← e, t, here s start (omega arith))
+
+-- ---- the last column, ended by an LF
+
+-- the text without one CR at its end
+stripped : List ℕ → List ℕ
+stripped c = pick (endsInReturn c) (dropLast c) c
+
+length-last : (c : List ℕ) → length (dropLast c) ≡ length c - 1
+length-last [] = refl
+length-last (a ∷ []) = refl
+length-last (a ∷ b ∷ c) = let l = length-last (b ∷ c) in omega arith
+
+-- its last byte decides
+ends-at : (c : List ℕ) (n : ℕ) → length c ≡ suc n → endsInReturn c ≡ eqb (getD c n 0) 13
+unfolding endsInReturn
+ends-at [] n e = absurd (omega arith)
+ends-at (a ∷ []) zero e = refl
+ends-at (a ∷ []) (suc n) e = absurd (omega arith)
+ends-at (a ∷ b ∷ c) zero e = absurd (omega arith)
+ends-at (a ∷ b ∷ c) (suc n) e = ends-at (b ∷ c) n (omega arith)
+
+free-last : {b : ℕ} (c : List ℕ) → Free b c → Free b (dropLast c)
+free-last [] f = f
+free-last (a ∷ []) f = free-nil
+free-last (a ∷ b ∷ c) f = free-cons (free-head f) (free-last (b ∷ c) (free-tail f))
+
+ends-some : (c : List ℕ) → endsInReturn c ≡ true → 0 < length c
+unfolding endsInReturn
+ends-some [] e = let z : _≡_ {A = ℕ} 0 1 = cc in absurd (omega arith)
+ends-some (a ∷ c) e = omega arith
+
+ends-none : (c : List ℕ) → length c ≡ 0 → endsInReturn c ≡ false
+unfolding endsInReturn
+ends-none [] e = refl
+ends-none (a ∷ c) e = absurd (omega arith)
+
+strip-bare : (c : List ℕ) → endsInReturn c ≡ false → length (stripped c) ≡ length c
+unfolding stripped
+strip-bare c e = rw e
+
+strip-return : (c : List ℕ) → endsInReturn c ≡ true → length (stripped c) ≡ length c - 1
+unfolding stripped
+strip-return c e = rw e (length-last c)
+
+-- one column, by which of the two endings it ends
+fed-judged : (k start : ℕ) (c rest : List ℕ) → Free 9 c
+    → judgementOf k start (fed c rest)
+    ≡ judgement (pick (required k) (refused 3 (start + length c + 1)) (pick (isEmpty (stripped c)) (refused 2 (start + length c + 1)) fine)) (start + length (stripped c)) (start + length c + 1)
+unfolding judgementOf fed verdict lastVerdict endingBytes stripped
+fed-judged k start c rest f = by (endsInReturn c) refl
+  where
+    by : (t : Bool) → endsInReturn c ≡ t
+        → judgementOf k start (pick t (line (dropLast c) return-feed rest) (line c feed rest))
+        ≡ judgement (pick (required k) (refused 3 (start + length c + 1)) (pick (isEmpty (pick t (dropLast c) c)) (refused 2 (start + length c + 1)) fine)) (start + length (pick t (dropLast c) c)) (start + length c + 1)
+    by true e =
+        let l = length-last c in
+        let m = ends-some c e in
+        let p : start + length (dropLast c) + 2 ≡ start + length c + 1 = omega arith in
+        rw (split-whole (dropLast c) (free-last c f), p)
+    by false e = rw (split-whole c f)
+
+module _ (s : List ℕ) (k start feed : ℕ) (g : Stopped s start feed 10) where
+  column : List ℕ
+  column = take (feed - start) (drop start s)
+
+  feed-judged : judgementOf k start (lineOf (drop start s))
+      ≡ judgement (pick (required k) (refused 3 (feed + 1)) (pick (isEmpty (stripped column)) (refused 2 (feed + 1)) fine)) (start + length (stripped column)) (feed + 1)
+  unfolding column
+  feed-judged =
+      let n : start + length column + 1 ≡ feed + 1 = (let l = part-length s g in let a = g .after in omega arith) in
+      ap (judgementOf k start) (ap lineOf (part-byte s g) ∙ line-feed column (drop (feed + 1) s) (part-no-feed s g))
+      ∙ fed-judged k start column (drop (feed + 1) s) (part-no-tab s g)
+      ∙ rw n
+
+  -- the byte before the LF decides
+  column-ends : start < feed → endsInReturn column ≡ eqb (getD s (feed - 1) 0) 13
+  unfolding column
+  column-ends h =
+      let l = part-length s g in
+      let n : feed - 1 - start < feed - start = omega arith in
+      let m : start + (feed - 1 - start) ≡ feed - 1 = omega arith in
+      ends-at column (feed - 1 - start) (omega arith)
+      ∙ ap (λ (x : ℕ). eqb x 13) (getD-take (feed - start) (drop start s) (feed - 1 - start) 0 n ∙ getD-drop start s (feed - 1 - start) 0 ∙ ap (λ (i : ℕ). getD s i 0) m)
+
+  -- the text ends where the code says
+  end-length : {end : ℕ} → TextEnd s start feed end → length (stripped column) ≡ end - start
+  unfolding column
+  end-length (none e) = let l = part-length s g in strip-bare column (ends-none column (omega arith)) ∙ l
+  end-length (bare h n) = let l = part-length s g in strip-bare column (column-ends h ∙ ne-eqb _ _ n) ∙ l
+  end-length (return h e) = let l = part-length s g in let m = strip-return column (column-ends h ∙ eq-eqb _ _ e) in omega arith
+
+  end-after : {end : ℕ} → TextEnd s start feed end → start ≤ end
+  end-after (none e) = omega arith
+  end-after (bare h n) = omega arith
+  end-after (return h e) = omega arith
+
+  module _ {q : Bool} (e : q ≡ required k) where
+    pub fed-required : q ≡ true → judgedPaper (J.Fed (feed + 1)) ≡ judgementOf k start (lineOf (drop start s))
+    unfolding judgedPaper judgement
+    fed-required t = rw (feed-judged, ← e, t)
+
+    module _ {end : ℕ} (t : q ≡ false) (z : TextEnd s start feed end) where
+      pub fed-empty : end ≡ start → judgedPaper (J.Empty (feed + 1)) ≡ judgementOf k start (lineOf (drop start s))
+      unfolding judgedPaper judgement
+      fed-empty n = let l = end-length z in rw (feed-judged, ← e, t, empty-none (stripped column) (omega arith))
+
+      pub fed-fine : (end ≡ start → ⊥) → judgedPaper (J.Fine end (feed + 1)) ≡ judgementOf k start (lineOf (drop start s))
+      unfolding judgedPaper judgement
+      fed-fine n =
+          let l = end-length z in
+          let a = end-after z in
+          let m : start + length (stripped column) ≡ end = omega arith in
+          rw (feed-judged, ← e, t, some-empty (stripped column) (omega arith), m)
+
+-- ---- a column ended by a tab, and those after it
+
+module _ (k from : ℕ) (c : List ℕ) (f : Free 9 c) where
+  tab-judged : (t : List ℕ) (e : Ending) (rest : List ℕ)
+      → judgementOf k from (line (c ++ 9 ∷ t) e rest)
+      ≡ judgement
+      (pick (isEmpty c) (refused 2 (from + 1)) (verdict (k + 1) (from + length c + 1) (split 9 t) e (from + length c + 1 + length t + length (endingBytes e))))
+      (from + length c + 1 + length t) (from + length c + 1 + length t + length (endingBytes e))
+  unfolding judgementOf verdict
+  tab-judged t e rest =
+      let l = length-append c (9 ∷ t) in
+      let n : from + length (c ++ 9 ∷ t) ≡ from + length c + 1 + length t = omega arith in
+      rw (split-append c t f, n) (by (split 9 t) refl)
+    where
+      by : (ds : List (List ℕ)) → split 9 t ≡ ds
+          → judgement (verdict k from (c ∷ ds) e (from + length c + 1 + length t + length (endingBytes e))) (from + length c + 1 + length t) (from + length c + 1 + length t + length (endingBytes e))
+          ≡ judgement
+          (pick (isEmpty c) (refused 2 (from + 1)) (verdict (k + 1) (from + length c + 1) ds e (from + length c + 1 + length t + length (endingBytes e))))
+          (from + length c + 1 + length t) (from + length c + 1 + length t + length (endingBytes e))
+      by [] q = absurd (split-nil 9 t q)
+      by (d ∷ ds) q = refl
+
+  module _ (h : Free 10 c) (s : List ℕ) where
+    tab-empty-judged : isEmpty c ≡ true → judgementOf k from (lineOf (c ++ 9 ∷ s)) ≡ denied 2 (from + 1)
+    unfolding judgement
+    tab-empty-judged z = by (lineOf s) refl
+      where
+        by : (l : Line) → lineOf s ≡ l → judgementOf k from (lineOf (c ++ 9 ∷ s)) ≡ denied 2 (from + 1)
+        by (line t e rest) q = rw (line-tab c s f h q) (tab-judged t e rest ∙ rw z)
+
+    tab-some-judged : isEmpty c ≡ false → judgementOf k from (lineOf (c ++ 9 ∷ s)) ≡ judgementOf (k + 1) (from + length c + 1) (lineOf s)
+    unfolding judgementOf
+    tab-some-judged z = by (lineOf s) refl
+      where
+        by : (l : Line) → lineOf s ≡ l → judgementOf k from (lineOf (c ++ 9 ∷ s)) ≡ judgementOf (k + 1) (from + length c + 1) l
+        by (line t e rest) q = rw (line-tab c s f h q) (tab-judged t e rest ∙ rw z)
+
+-- what is left from column k on is judged as the whole
+pub record Going (s : List ℕ) (at k start : ℕ) : Type 0 where
+  pub reached : start ≤ length s
+  pub few : k ≤ start + 1
+  pub same : judgementOf k start (lineOf (drop start s)) ≡ judgementOf 1 at (lineOf (drop at s))
+
+pub judge-first : {s : List ℕ} {at : ℕ} → at ≤ length s → Going s at 1 at
+judge-first h = record { reached = h; few = omega arith; same = refl }
+
+pub judge-last : {s : List ℕ} {at k start : ℕ} (r : Judged) → Going s at k start → judgedPaper r ≡ judgementOf k start (lineOf (drop start s))
+    → judgedPaper r ≡ judgementOf 1 at (lineOf (drop at s))
+judge-last r g e = e ∙ g .same
+
+module _ {s : List ℕ} {at k start tab : ℕ} (g : Going s at k start) (h : Stopped s start tab 9) where
+  here-column : List ℕ
+  here-column = take (tab - start) (drop start s)
+
+  tab-line : judgementOf k start (lineOf (drop start s)) ≡ judgementOf k start (lineOf (here-column ++ 9 ∷ drop (tab + 1) s))
+  unfolding here-column
+  tab-line = ap (λ (t : List ℕ). judgementOf k start (lineOf t)) (part-byte s h)
+
+  pub judge-empty : tab ≡ start → judgedPaper (J.Empty (tab + 1)) ≡ judgementOf 1 at (lineOf (drop at s))
+  unfolding judgedPaper here-column
+  judge-empty e =
+      let l = part-length s h in
+      sym (tab-line ∙ tab-empty-judged k start here-column (part-no-tab s h) (part-no-feed s h) (drop (tab + 1) s) (empty-none here-column (omega arith)) ∙ rw e) ∙ g .same
+
+  pub judge-turn : (tab ≡ start → ⊥) → Going s at (k + 1) (tab + 1)
+  unfolding here-column
+  judge-turn n =
+      let l = part-length s h in
+      let a = h .after in
+      let w = h .within in
+      let m : start + length here-column + 1 ≡ tab + 1 = omega arith in
+      record {
+        reached = omega arith;
+        few = (let f = g .few in omega arith);
+        same =
+            sym (tab-line ∙ tab-some-judged k start here-column (part-no-tab s h) (part-no-feed s h) (drop (tab + 1) s) (some-empty here-column (omega arith)) ∙ rw m) ∙ g .same;
+      }
+
+pub ruleset laws =
+    (search-first, search-turn, search-found, search-past, stop-tab, stop-feed, stop-input, required-low, required-high, end-none, end-return, end-bare, cut-required, cut-empty, cut-fine, fed-required, fed-empty, fed-fine, judge-first, judge-last, judge-empty, judge-turn)

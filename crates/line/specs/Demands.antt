@@ -1,0 +1,160 @@
+-- What demand 3 asks of any line reader, as a function on lists (docs/RULES.md, "A line"; docs/STATEMENTS.md). Assumes nothing.
+use Prim.Native.Nat.{ℕ, _+_, _-_, _*_, _<_, _≤_}
+use mathlib.Core.Path.{_≡_}
+use mathlib.Core.Bool.{Bool, true, false}
+use mathlib.Core.Logic.{_⊎_, _↔_}
+use mathlib.Core.List.{List, [], _∷_, _++_}
+use lib.ListN.{length, getD, take, drop}
+use Rattle.text.specs.Answer.{Answer, says, numberOf, valuesOf}
+use Rattle.text.specs.Utf8.{isUtf8}
+use Rattle.pieces.specs.Pieces.{joined}
+use Rattle.pieces.specs.Demands.{Free}
+use Rattle.line.specs.Line.{Ending, nothing, feed, return-feed, endingBytes, endsInReturn}
+
+-- not empty, UTF-8, free of tab and LF
+pub record Column (c : List ℕ) : Type 0 where
+  pub some : 0 < length c
+  pub utf8 : isUtf8 c ≡ true
+  pub no-tab : Free 9 c
+  pub no-feed : Free 10 c
+
+-- the ending after the columns' text and before a rest: CR LF; or LF where the text doesn't end in CR; or nothing where nothing is left
+pub data Ended (t : List ℕ) : Ending → List ℕ → Type 0 where
+  by-nothing : Ended t nothing []
+  by-feed : {rest : List ℕ} → endsInReturn t ≡ false → Ended t feed rest
+  by-return-feed : {rest : List ℕ} → Ended t return-feed rest
+
+-- the columns, eight or at least ten, joined by tabs, then the ending, then the rest, are the input
+pub record Begins (s : List ℕ) (cs : List (List ℕ)) (e : Ending) (rest : List ℕ) : Type 0 where
+  pub count : (length cs ≡ 8) ⊎ (10 ≤ length cs)
+  pub each : (i : ℕ) → i < length cs → Column (getD cs i [])
+  pub whole : joined 9 cs ++ (endingBytes e ++ rest) ≡ s
+  pub ended : Ended (joined 9 cs) e rest
+
+-- a reader is given an input and a place, and answers on paper
+abbrev pub Reader : Type 0
+Reader = List ℕ → ℕ → Answer
+
+-- ---- exact
+
+pub record Refuses (a : Answer) : Type 0 where
+  pub two : 2 ≤ numberOf a
+  pub five : numberOf a ≤ 5
+
+-- from a place in the input it refuses, with 2, 3, 4 or 5, exactly when no columns begin what is left
+unfoldable pub Exact : Reader → Type 0
+Exact read = (s : List ℕ) (at : ℕ) → at < length s → Refuses (read s at) ↔ ((cs : List (List ℕ)) (e : Ending) (rest : List ℕ) → Begins (drop at s) cs e rest → ⊥)
+
+-- ---- one
+
+-- place i of a list of starts and lengths, cut out of the buffer
+unfoldable pub fieldOf : List ℕ → ℕ → List ℕ → List ℕ
+fieldOf places i s = take (getD places (2 * i + 1) 0) (drop (getD places (2 * i) 0) s)
+
+-- the ten places cut these columns out of the buffer: FORMAT and the samples, which stay joined, where there are such
+pub record CutsOut (places : List ℕ) (s : List ℕ) (cs : List (List ℕ)) (end : ℕ) : Type 0 where
+  pub ten : length places ≡ 20
+  pub eight : (i : ℕ) → i < 8 → fieldOf places i s ≡ getD cs i []
+  pub bare : length cs ≡ 8 → drop 16 places ≡ end ∷ 0 ∷ end ∷ 0 ∷ []
+  pub format : 10 ≤ length cs → fieldOf places 8 s ≡ getD cs 8 []
+  pub samples : 10 ≤ length cs → fieldOf places 9 s ≡ joined 9 (drop 9 cs)
+
+-- the answer 0 stands for these columns, with this ending and rest, and for no others; the next place is just past the ending
+pub record Stands (s : List ℕ) (at : ℕ) (a : Answer) : Type 0 where
+  pub columns : List (List ℕ)
+  pub ending : Ending
+  pub rest : List ℕ
+  pub places : List ℕ
+  pub begin : Begins (drop at s) columns ending rest
+  pub only : (cs : List (List ℕ)) (e : Ending) (r : List ℕ) → Begins (drop at s) cs e r → (cs ≡ columns) × (e ≡ ending) × (r ≡ rest)
+  pub values : valuesOf a ≡ (at + length (joined 9 columns) + length (endingBytes ending)) ∷ places
+  pub cuts : CutsOut places s columns (at + length (joined 9 columns))
+
+unfoldable pub One : Reader → Type 0
+One read = (s : List ℕ) (at : ℕ) → numberOf (read s at) ≡ 0 → Stands s at (read s at)
+
+-- ---- moves on
+
+-- the first LF of s from the place at on is at the place `feed`
+pub record FirstFeed (s : List ℕ) (at feed : ℕ) : Type 0 where
+  pub after : at ≤ feed
+  pub within : feed < length s
+  pub is : getD s feed 0 ≡ 10
+  pub first : (k : ℕ) → at ≤ k → k < feed → getD s k 0 ≡ 10 → ⊥
+
+-- no LF from the place on
+unfoldable pub NoFeed : List ℕ → ℕ → Type 0
+NoFeed s at = (k : ℕ) → at ≤ k → k < length s → getD s k 0 ≡ 10 → ⊥
+
+-- past the line: past its LF, or the end of the input
+pub data PastLine (s : List ℕ) (at : ℕ) : ℕ → Type 0 where
+  past-feed : {feed : ℕ} → FirstFeed s at feed → PastLine s at (feed + 1)
+  at-end : NoFeed s at → PastLine s at (length s)
+
+-- a tab at k ends an empty column: it stands at the place itself, or after a tab
+pub record EmptyTab (s : List ℕ) (at k : ℕ) : Type 0 where
+  pub after : at ≤ k
+  pub is : getD s k 0 ≡ 9
+  pub empty : (k ≡ at) ⊎ ((at < k) × (getD s (k - 1) 0 ≡ 9))
+
+-- past the first such tab, which stands in the line
+pub record PastTab (s : List ℕ) (at next : ℕ) : Type 0 where
+  pub tab : ℕ
+  pub past : next ≡ tab + 1
+  pub within : tab < length s
+  pub here : EmptyTab s at tab
+  pub first : (k : ℕ) → k < tab → EmptyTab s at k → ⊥
+  pub unfed : (k : ℕ) → at ≤ k → k < tab → getD s k 0 ≡ 10 → ⊥
+
+-- where each number goes on: 1 and 6 at the place given, 0 and 5 past the line, 3 past its LF, 4 at the end of the input,
+-- 2 past the first tab that ends an empty column, or past the LF where there is none
+pub data GoesOn (s : List ℕ) (at : ℕ) : ℕ → ℕ → Type 0 where
+  stays-1 : at ≡ length s → GoesOn s at 1 at
+  stays-6 : length s < at → GoesOn s at 6 at
+  line-0 : {next : ℕ} → PastLine s at next → GoesOn s at 0 next
+  line-5 : {next : ℕ} → PastLine s at next → GoesOn s at 5 next
+  feed-2 : {feed : ℕ} → FirstFeed s at feed → ((k : ℕ) → k < feed → EmptyTab s at k → ⊥) → GoesOn s at 2 (feed + 1)
+  tab-2 : {next : ℕ} → PastTab s at next → GoesOn s at 2 next
+  feed-3 : {feed : ℕ} → FirstFeed s at feed → GoesOn s at 3 (feed + 1)
+  end-4 : NoFeed s at → GoesOn s at 4 (length s)
+
+-- the next place is the answer's first value, is as its number says, and lies further on for every number but 1 and 6
+pub record Moved (s : List ℕ) (at : ℕ) (a : Answer) : Type 0 where
+  pub next : ℕ
+  pub others : List ℕ
+  pub values : valuesOf a ≡ next ∷ others
+  pub goes : GoesOn s at (numberOf a) next
+  pub further : (numberOf a ≡ 1 → ⊥) → (numberOf a ≡ 6 → ⊥) → at < next
+  pub within : (numberOf a ≡ 6 → ⊥) → next ≤ length s
+
+unfoldable pub MovesOn : Reader → Type 0
+MovesOn read = (s : List ℕ) (at : ℕ) → Moved s at (read s at)
+
+-- ---- window
+
+-- places, of which every second number is a start, d further on
+unfoldable pub movedPlaces : ℕ → List ℕ → List ℕ
+movedPlaces d [] = []
+movedPlaces d (start ∷ []) = (start + d) ∷ []
+movedPlaces d (start ∷ len ∷ places) = (start + d) ∷ len ∷ movedPlaces d places
+
+-- the next place and the starts of an answer, d further on
+unfoldable pub moved : ℕ → Answer → Answer
+moved d (says n []) = says n []
+moved d (says n (next ∷ places)) = says n ((next + d) ∷ movedPlaces d places)
+
+-- a buffer holds from p on what the input holds from at on: through the first LF, or to the input's end
+pub data Window (s : List ℕ) (at : ℕ) (w : List ℕ) (p : ℕ) : Type 0 where
+  through-feed : {feed : ℕ} → FirstFeed s at feed → p + (feed + 1 - at) ≤ length w
+      → take (feed + 1 - at) (drop p w) ≡ take (feed + 1 - at) (drop at s) → Window s at w p
+  to-end : at ≤ length s → p ≤ length w → drop p w ≡ drop at s → Window s at w p
+
+-- the answer from the buffer, its places counted from p, is the answer from the input, its places counted from at
+unfoldable pub Windowed : Reader → Type 0
+Windowed read = (s : List ℕ) (at : ℕ) (w : List ℕ) (p : ℕ) → Window s at w p → moved at (read w p) ≡ moved p (read s at)
+
+-- ---- columns and the whole
+
+-- a text is UTF-8 exactly when each piece between tabs is
+unfoldable pub ByColumns : (List ℕ → Bool) → (List (List ℕ) → Bool) → (List ℕ → List (List ℕ)) → Type 0
+ByColumns check all columns = (t : List ℕ) → check t ≡ all (columns t)

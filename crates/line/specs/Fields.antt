@@ -1,0 +1,54 @@
+-- The text of each field of a line (docs/RULES.md, "A line"). Assumes nothing.
+use Prim.Native.Nat.{ℕ, _+_, _-_}
+use mathlib.Core.Bool.{Bool, _&&_}
+use mathlib.Core.List.{List, [], _∷_}
+use lib.ListN.{length}
+use lib.Dec.{leb}
+use Rattle.text.specs.Pick.{pick}
+use Rattle.text.specs.Answer.{Answer, says}
+use Rattle.text.specs.Range.{cut}
+use Rattle.text.specs.declared.range.Range.{Range}
+use Rattle.line.specs.Pos.{isByte}
+use Rattle.line.specs.declared.read.Record.{Record}
+use Rattle.line.specs.declared.fields.Name.{Name}
+use Rattle.line.specs.declared.fields.Name.the-variants as N
+
+unfoldable pub rangeOf : Record → Name → Range
+rangeOf r N.Chrom = r .chrom
+rangeOf r N.Pos = r .pos
+rangeOf r N.Id = r .id
+rangeOf r N.Reference = r .reference
+rangeOf r N.Alt = r .alt
+rangeOf r N.Qual = r .qual
+rangeOf r N.Filter = r .filter
+rangeOf r N.Info = r .info
+rangeOf r N.Format = r .format
+rangeOf r N.Samples = r .samples
+
+-- the range's start lies in the buffer, and its length does not pass what is left
+unfoldable pub fitsIn : Range → List ℕ → Bool
+fitsIn r s = leb (r .start) (length s) && leb (r .len) (length s - r .start)
+
+-- the place, or 6
+unfoldable pub placeAnswer : List ℕ → Range → Answer
+placeAnswer s r = pick (fitsIn r s) (says 0 (r .start ∷ r .len ∷ [])) (says 6 [])
+
+-- what a `.` reads as: empty at its column's end, absent, or as it stands
+unfoldable pub dotAnswer : Name → Range → Answer
+dotAnswer N.Chrom r = says 0 (r .start ∷ r .len ∷ [])
+dotAnswer N.Pos r = says 0 (r .start ∷ r .len ∷ [])
+dotAnswer N.Id r = says 0 ((r .start + r .len) ∷ 0 ∷ [])
+dotAnswer N.Reference r = says 0 (r .start ∷ r .len ∷ [])
+dotAnswer N.Alt r = says 0 ((r .start + r .len) ∷ 0 ∷ [])
+dotAnswer N.Qual r = says 0 []
+dotAnswer N.Filter r = says 0 ((r .start + r .len) ∷ 0 ∷ [])
+dotAnswer N.Info r = says 0 ((r .start + r .len) ∷ 0 ∷ [])
+dotAnswer N.Format r = says 0 (r .start ∷ r .len ∷ [])
+dotAnswer N.Samples r = says 0 (r .start ∷ r .len ∷ [])
+
+-- a range's text that is a `.` reads as its field says; any other stands as it is
+unfoldable pub textAnswer : List ℕ → Name → Range → Answer
+textAnswer s n r = pick (fitsIn r s && isByte 46 (cut r s)) (dotAnswer n r) (placeAnswer s r)
+
+unfoldable pub fieldAnswer : List ℕ → Record → Name → Answer
+fieldAnswer s r n = textAnswer s n (rangeOf r n)

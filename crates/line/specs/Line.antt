@@ -1,0 +1,111 @@
+-- A line and its columns (docs/RULES.md, "A line"): cut the line, split it at tabs, judge the columns from the left.
+-- Assumes nothing.
+use Prim.Native.Nat.{ℕ, zero, suc, _+_}
+use mathlib.Core.Bool.{Bool, true, false, _&&_, _||_}
+use mathlib.Core.List.{List, [], _∷_, _++_, dropLast}
+use lib.ListN.{length, drop}
+use lib.Dec.{leb, ltb, eqb}
+use Rattle.text.specs.Pick.{pick}
+use Rattle.text.specs.Answer.{Answer, says}
+use Rattle.text.specs.Utf8.{isUtf8}
+use Rattle.pieces.specs.Pieces.{split, joined}
+
+-- ---- the line that an input begins with
+
+-- how a line ended: by the end of the input, by LF, by CR LF
+pub data Ending : Type 0 where
+  nothing : Ending
+  feed : Ending
+  return-feed : Ending
+
+unfoldable pub endingBytes : Ending → List ℕ
+endingBytes nothing = []
+endingBytes feed = 10 ∷ []
+endingBytes return-feed = 13 ∷ 10 ∷ []
+
+-- the line's text, its ending, and the rest of the input
+pub data Line : Type 0 where
+  line : List ℕ → Ending → List ℕ → Line
+
+unfoldable pub endsInReturn : List ℕ → Bool
+endsInReturn [] = false
+endsInReturn (b ∷ []) = eqb b 13
+endsInReturn (b ∷ c ∷ s) = endsInReturn (c ∷ s)
+
+-- before an LF one CR belongs to the ending
+unfoldable pub fed : List ℕ → List ℕ → Line
+fed t rest = pick (endsInReturn t) (line (dropLast t) return-feed rest) (line t feed rest)
+
+-- the input cut at its first LF
+unfoldable pub lineIn : List (List ℕ) → Line
+lineIn [] = line [] nothing []
+lineIn (t ∷ []) = line t nothing []
+lineIn (t ∷ u ∷ ts) = fed t (joined 10 (u ∷ ts))
+
+unfoldable pub lineOf : List ℕ → Line
+lineOf s = lineIn (split 10 s)
+
+-- ---- the columns, judged from the left
+
+-- the columns are in order, or the first that is not has a number, and the place past its terminator
+pub data Verdict : Type 0 where
+  fine : Verdict
+  refused : ℕ → ℕ → Verdict
+
+-- columns 1 to 7, and FORMAT, must be ended by a tab
+unfoldable pub required : ℕ → Bool
+required k = leb k 7 || eqb k 9
+
+unfoldable pub isEmpty : List ℕ → Bool
+isEmpty [] = true
+isEmpty (b ∷ s) = false
+
+-- the last column: k is its number, counted from 1, and past the place past the line
+unfoldable pub lastVerdict : ℕ → List ℕ → Ending → ℕ → Verdict
+lastVerdict k c nothing past = pick (required k || isEmpty c) (refused 4 past) fine
+lastVerdict k c feed past = pick (required k) (refused 3 past) (pick (isEmpty c) (refused 2 past) fine)
+lastVerdict k c return-feed past = pick (required k) (refused 3 past) (pick (isEmpty c) (refused 2 past) fine)
+
+-- the columns from number k on, the first of which starts at the place `from`
+unfoldable pub verdict : ℕ → ℕ → List (List ℕ) → Ending → ℕ → Verdict
+verdict k from [] e past = fine
+verdict k from (c ∷ []) e past = lastVerdict k c e past
+verdict k from (c ∷ d ∷ cs) e past = pick (isEmpty c) (refused 2 (from + 1)) (verdict (k + 1) (from + length c + 1) (d ∷ cs) e past)
+
+-- ---- the places of the ten fields
+
+-- start and length of each column, the first of which starts at the place `from`
+unfoldable pub columnPlaces : ℕ → List (List ℕ) → List ℕ
+columnPlaces from [] = []
+columnPlaces from (c ∷ cs) = from ∷ length c ∷ columnPlaces (from + length c + 1) cs
+
+-- the same for the first n, and what is left as one: the samples
+unfoldable pub leadingPlaces : ℕ → ℕ → List (List ℕ) → List ℕ
+leadingPlaces n from [] = []
+leadingPlaces zero from (c ∷ cs) = from ∷ length (joined 9 (c ∷ cs)) ∷ []
+leadingPlaces (suc n) from (c ∷ cs) = from ∷ length c ∷ leadingPlaces n (from + length c + 1) cs
+
+-- eight columns, with FORMAT and the samples empty at the text's end; or nine, and the samples
+unfoldable pub fieldPlaces : ℕ → List (List ℕ) → ℕ → List ℕ
+fieldPlaces from cs end = pick (eqb (length cs) 8) (columnPlaces from cs ++ end ∷ 0 ∷ end ∷ 0 ∷ []) (leadingPlaces 9 from cs)
+
+-- ---- the answer
+
+unfoldable pub allUtf8 : List (List ℕ) → Bool
+allUtf8 [] = true
+allUtf8 (c ∷ cs) = isUtf8 c && allUtf8 cs
+
+-- structure before UTF-8
+unfoldable pub judgedAnswer : Verdict → ℕ → ℕ → List (List ℕ) → ℕ → Answer
+judgedAnswer (refused n next) from end cs past = says n (next ∷ [])
+judgedAnswer fine from end cs past = pick (allUtf8 cs) (says 0 (past ∷ fieldPlaces from cs end)) (says 5 (past ∷ []))
+
+-- a line whose text starts at the place `from`
+unfoldable pub lineAnswer : ℕ → Line → Answer
+lineAnswer from (line t e rest) =
+    judgedAnswer (verdict 1 from (split 9 t) e (from + length t + length (endingBytes e))) from (from + length t) (split 9 t)
+    (from + length t + length (endingBytes e))
+
+-- 6 beyond the input, 1 at its end, else the line from the place on
+unfoldable pub readAnswer : List ℕ → ℕ → Answer
+readAnswer s at = pick (ltb (length s) at) (says 6 (at ∷ [])) (pick (eqb at (length s)) (says 1 (at ∷ [])) (lineAnswer at (lineOf (drop at s))))

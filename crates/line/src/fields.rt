@@ -1,0 +1,119 @@
+// The text of each field of a line, as a place in the line's buffer.
+use crate::read::Record;
+use text::range::Range;
+ghost use mathlib.Core.Path.{_≡_};
+ghost use Prim.Native.Nat.{_+_, _<_, _^_};
+ghost use mathlib.Core.Bool.{_&&_};
+ghost use Rattle.text.specs.Range.{cut};
+ghost use Rattle.line.specs.Fields.{placeAnswer, fieldAnswer, rangeOf, dotAnswer, fitsIn};
+ghost use Rattle.line.specs.Pos.{isByte};
+ghost use Rattle.line.specs.Paper.{fieldPaper};
+
+// The ten fields of a line.
+pub enum Name {
+    Chrom,
+    Pos,
+    Id,
+    Reference,
+    Alt,
+    Qual,
+    Filter,
+    Info,
+    Format,
+    Samples,
+}
+
+// What a field's text is.
+pub enum Text {
+    // 0: its place.
+    At(Range),
+    // 0: there is none.
+    Absent,
+    // 6: the place does not fit the buffer.
+    Beyond,
+}
+
+// The field's range in a record.
+fn range_of(line: Record, name: Name) -> Range
+    ensures { λ r. ⌜ r ≡ rangeOf line name ⌝ }
+{
+    match name {
+        Name::Chrom => line.chrom,
+        Name::Pos => line.pos,
+        Name::Id => line.id,
+        Name::Reference => line.reference,
+        Name::Alt => line.alt,
+        Name::Qual => line.qual,
+        Name::Filter => line.filter,
+        Name::Info => line.info,
+        Name::Format => line.format,
+        Name::Samples => line.samples,
+    }
+}
+
+// A place from anywhere, whatever its numbers: it fits the buffer, or gets 6.
+pub fn place_in(s: &[u8], range: Range) -> Text
+    ensures { λ r. ⌜ fieldPaper r ≡ placeAnswer (now (s .entry)) range ⌝ }
+{
+    let start = range.start;
+    let len = range.len;
+    if start > s.len() {
+        return Text::Beyond;
+    }
+    if len > s.len() - start {
+        return Text::Beyond;
+    }
+    Text::At(range)
+}
+
+// Whether a place fits the buffer and holds one `.`.
+fn is_dot(s: &[u8], range: Range) -> bool
+    ensures { λ r. ⌜ r ≡ (fitsIn range (now (s .entry)) && isByte 46 (cut range (now (s .entry)))) ⌝ }
+{
+    let start = range.start;
+    let len = range.len;
+    if len != 1 {
+        return false;
+    }
+    if start >= s.len() {
+        return false;
+    }
+    s[start] == 46
+}
+
+// What a `.` in a field reads as.
+fn dot(name: Name, range: Range) -> Text
+    requires { ⌜ range .start + range .len < 2 ^ 64 ⌝ }
+    ensures { λ r. ⌜ fieldPaper r ≡ dotAnswer name range ⌝ }
+{
+    let start = range.start;
+    let len = range.len;
+    let empty = Range {
+        start: start + len,
+        len: 0,
+    };
+    match name {
+        Name::Chrom => Text::At(range),
+        Name::Pos => Text::At(range),
+        Name::Id => Text::At(empty),
+        Name::Reference => Text::At(range),
+        Name::Alt => Text::At(empty),
+        Name::Qual => Text::Absent,
+        Name::Filter => Text::At(empty),
+        Name::Info => Text::At(empty),
+        Name::Format => Text::At(range),
+        Name::Samples => Text::At(range),
+    }
+}
+
+// The text of a field of the record's line, in the buffer that the line was read from. A `.` is
+// empty at its column's end for ID, ALT, FILTER and INFO, and absent for QUAL.
+pub fn field(s: &[u8], line: Record, name: Name) -> Text
+    ensures { λ r. ⌜ fieldPaper r ≡ fieldAnswer (now (s .entry)) line name ⌝ }
+{
+    let range = range_of(line, name);
+    if is_dot(s, range) {
+        return dot(name, range);
+    }
+    place_in(s, range)
+}

@@ -1,0 +1,272 @@
+// Reading a line: where its columns end, whether they are in order, and the places of its fields.
+use pieces::step::Step;
+use pieces::step::piece_at;
+use text::range::Range;
+use text::utf8::Utf8;
+use text::utf8::check_utf8;
+ghost use mathlib.Core.Path.{_≡_};
+ghost use Prim.Native.Nat.{_≤_, _<_};
+ghost use lib.ListN.{length, drop};
+ghost use Rattle.pieces.specs.Pieces.{split};
+ghost use Rattle.line.specs.Line.{required, lineOf, fieldPlaces, lineAnswer, readAnswer};
+ghost use Rattle.line.specs.Paper.{recordPlaces, readPaper};
+ghost use Rattle.line.specs.Inner.{StopsAt, Stopped, Clear, TextEnd, judgementOf, judgedPaper, Placed, Standing, columnsFrom, Next, Enough, InOrder};
+
+// The places of a line's ten fields. Others ask for them by `fields`.
+pub struct Record {
+    pub(crate) chrom: Range,
+    pub(crate) pos: Range,
+    pub(crate) id: Range,
+    pub(crate) reference: Range,
+    pub(crate) alt: Range,
+    pub(crate) qual: Range,
+    pub(crate) filter: Range,
+    pub(crate) info: Range,
+    pub(crate) format: Range,
+    pub(crate) samples: Range,
+}
+
+// What reading at a place finds. Each case has the next place.
+pub enum Read {
+    // 0: a line.
+    Line(Record, usize),
+    // 1: the place is the end of the input.
+    End(usize),
+    // 2: an empty column.
+    Empty(usize),
+    // 3: a column ended by LF that must be ended by a tab.
+    Fed(usize),
+    // 4: a column cut by the end of the input.
+    Cut(usize),
+    // 5: a column that is not UTF-8.
+    NotUtf8(usize),
+    // 6: the place lies beyond the input.
+    Beyond(usize),
+}
+
+// What ends a column, and where.
+enum Stop {
+    Tab(usize),
+    Feed(usize),
+    Input,
+}
+
+// How a line's columns are judged: where its text ends and the next place, or a refusal's.
+enum Judged {
+    Fine(usize, usize),
+    Empty(usize),
+    Fed(usize),
+    Cut(usize),
+}
+
+// Stops at the first tab or LF.
+fn column_end(s: &[u8], from: usize) -> Stop
+    requires { ⌜ from ≤ length (now s) ⌝ }
+    ensures { λ r. ⌜ StopsAt (now (s .entry)) from r ⌝ }
+{
+    let mut i = from;
+    loop {
+        if i >= s.len() {
+            break Stop::Input;
+        }
+        let b = s[i];
+        if b == 9 {
+            break Stop::Tab(i);
+        }
+        if b == 10 {
+            break Stop::Feed(i);
+        }
+        i += 1;
+    }
+}
+
+// Columns 1 to 7 and FORMAT must be ended by a tab.
+fn is_required(k: usize) -> bool
+    ensures { λ r. ⌜ r ≡ required k ⌝ }
+{
+    if k <= 7 {
+        return true;
+    }
+    k == 9
+}
+
+// Where a text that an LF ends has its end: before the LF, and before one CR that stands there.
+fn text_end(s: &[u8], start: usize, feed: usize) -> usize
+    requires { ⌜ (start ≤ feed) × (feed < length (now s)) ⌝ }
+    ensures { λ r. ⌜ TextEnd (now (s .entry)) start feed r ⌝ }
+{
+    if feed == start {
+        return feed;
+    }
+    if s[feed - 1] == 13 {
+        return feed - 1;
+    }
+    feed
+}
+
+// The last column of a line, number k, which an LF ends.
+fn judge_fed(s: &[u8], k: usize, start: usize, feed: usize) -> Judged
+    requires { ⌜ Stopped (now s) start feed 10 ⌝ }
+    ensures { λ r. ⌜ judgedPaper r ≡ judgementOf k start (lineOf (drop start (now (s .entry)))) ⌝ }
+{
+    let next = feed + 1;
+    if is_required(k) {
+        return Judged::Fed(next);
+    }
+    let end = text_end(s, start, feed);
+    if end == start {
+        return Judged::Empty(next);
+    }
+    Judged::Fine(end, next)
+}
+
+// The last column of a line, number k, which the end of the input ends.
+fn judge_cut(s: &[u8], k: usize, start: usize) -> Judged
+    requires { ⌜ start ≤ length (now s) ⌝ }
+    requires { ⌜ Clear (now s) start (length (now s)) ⌝ }
+    ensures { λ r. ⌜ judgedPaper r ≡ judgementOf k start (lineOf (drop start (now (s .entry)))) ⌝ }
+{
+    if is_required(k) {
+        return Judged::Cut(s.len());
+    }
+    if start == s.len() {
+        return Judged::Cut(start);
+    }
+    Judged::Fine(s.len(), s.len())
+}
+
+// Judges the columns of the line at a place, from the left.
+fn judge(s: &[u8], at: usize) -> Judged
+    requires { ⌜ at ≤ length (now s) ⌝ }
+    ensures { λ r. ⌜ judgedPaper r ≡ judgementOf 1 at (lineOf (drop at (now (s .entry)))) ⌝ }
+{
+    let mut k = 1;
+    let mut start = at;
+    'columns: loop {
+        let stop = column_end(s, start);
+        match stop {
+            Stop::Tab(tab) => {
+                if tab == start {
+                    break 'columns Judged::Empty(tab + 1);
+                }
+                start = tab + 1;
+                k += 1;
+            }
+            Stop::Feed(feed) => {
+                break 'columns judge_fed(s, k, start, feed);
+            }
+            Stop::Input => {
+                break 'columns judge_cut(s, k, start);
+            }
+        }
+    }
+}
+
+// The place of the column that starts at `start` in the text t.
+fn column_at(t: &[u8], start: usize) -> Range
+    requires { ⌜ start ≤ length (now t) ⌝ }
+    ensures { λ r. ⌜ Placed (now (t .entry)) start r ⌝ }
+{
+    let found = piece_at(t, 9, start);
+    match found {
+        Step::More(range, _) => range,
+        Step::Last(range) => range,
+        Step::Nothing => Range { start, len: 0 },
+        Step::Beyond => Range { start, len: 0 },
+    }
+}
+
+// The place of the column after the one at `range`, which is not the last.
+fn next_column(t: &[u8], range: Range) -> Range
+    requires { ⌜ Standing (now t) range ⌝ }
+    requires { ⌜ 2 ≤ columnsFrom (now t) range ⌝ }
+    ensures { λ r. ⌜ Next (now (t .entry)) range r ⌝ }
+{
+    let start = range.start;
+    let len = range.len;
+    column_at(t, start + len + 1)
+}
+
+// The places of the fields of the line that starts at `at` in t and ends where t ends.
+fn fields_of(t: &[u8], at: usize) -> Record
+    requires { ⌜ Enough (now t) at ⌝ }
+    ensures { λ r. ⌜ recordPlaces r ≡ fieldPlaces at (split 9 (drop at (now (t .entry)))) (length (now (t .entry))) ⌝ }
+{
+    let chrom = column_at(t, at);
+    let pos = next_column(t, chrom);
+    let id = next_column(t, pos);
+    let reference = next_column(t, id);
+    let alt = next_column(t, reference);
+    let qual = next_column(t, alt);
+    let filter = next_column(t, qual);
+    let info = next_column(t, filter);
+    let info_start = info.start;
+    let info_len = info.len;
+    let end = info_start + info_len;
+    if end == t.len() {
+        let none = Range { start: end, len: 0 };
+        return Record {
+            chrom,
+            pos,
+            id,
+            reference,
+            alt,
+            qual,
+            filter,
+            info,
+            format: none,
+            samples: none,
+        };
+    }
+    let format = next_column(t, info);
+    let format_start = format.start;
+    let format_len = format.len;
+    let first = format_start + format_len + 1;
+    let samples = Range {
+        start: first,
+        len: t.len() - first,
+    };
+    Record {
+        chrom,
+        pos,
+        id,
+        reference,
+        alt,
+        qual,
+        filter,
+        info,
+        format,
+        samples,
+    }
+}
+
+// A line whose columns are in order, with its text's end and the next place: all that is left to judge is UTF-8.
+fn finish(s: &[u8], at: usize, end: usize, next: usize) -> Read
+    requires { ⌜ InOrder (now s) at end next ⌝ }
+    ensures { λ r. ⌜ readPaper r ≡ lineAnswer at (lineOf (drop at (now (s .entry)))) ⌝ }
+{
+    let checked = check_utf8(&s[at..end]);
+    match checked {
+        Utf8::Text => Read::Line(fields_of(&s[..end], at), next),
+        Utf8::Broken => Read::NotUtf8(next),
+    }
+}
+
+// Reads the line at a place.
+pub fn read_line(s: &[u8], at: usize) -> Read
+    ensures { λ r. ⌜ readPaper r ≡ readAnswer (now (s .entry)) at ⌝ }
+{
+    if at > s.len() {
+        return Read::Beyond(at);
+    }
+    if at == s.len() {
+        return Read::End(at);
+    }
+    let judged = judge(s, at);
+    match judged {
+        Judged::Fine(end, next) => finish(s, at, end, next),
+        Judged::Empty(next) => Read::Empty(next),
+        Judged::Fed(next) => Read::Fed(next),
+        Judged::Cut(next) => Read::Cut(next),
+    }
+}
