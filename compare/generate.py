@@ -28,12 +28,16 @@ class Dice:
         return things[self.roll(len(things))]
 
 
-def ask(verb, *arguments):
-    """A line that is a case: bytes are given as hex, numbers as decimals."""
-    words = [verb]
-    for argument in arguments:
-        words.append(str(argument) if isinstance(argument, int) else argument.hex() or "-")
-    return " ".join(words).encode(), True
+def ask(*words):
+    """A line that is a case: bytes are given as hex, a tuple of numbers with commas, all else as it is."""
+    written = []
+    for word in words:
+        if isinstance(word, bytes):
+            word = word.hex() or "-"
+        elif isinstance(word, tuple):
+            word = ",".join(map(str, word)) or "-"
+        written.append(str(word))
+    return " ".join(written).encode(), True
 
 
 def none(line):
@@ -274,6 +278,357 @@ def prints(large, dice):
         yield ask("print", dice.roll(24), value)
 
 
+# ---- line and field
+
+FIELDS = ("chrom", "pos", "id", "ref", "alt", "qual", "filter", "info", "format", "samples")
+COLUMNS = (b"c", b"12", b"id", b"A", b"GT", b"3.5", b"q1", b"N=1;D", b"GT:DP", b"0|1:7", b".", b"/1")
+ENDINGS = (b"\n", b"\r\n", b"")
+# About the limits of the types that a place may pass through.
+FAR = (2**31, 2**32 - 1, 2**32, 2**32 + 1, 2**63 - 1, 2**63, 2**63 + 1, LARGEST - 2, LARGEST - 1, LARGEST)
+# VCF 4.4, section 1.1: the header line and the records of its example, a space here for each tab.
+EXAMPLE = (
+    b"#CHROM POS ID REF ALT QUAL FILTER INFO FORMAT NA00001 NA00002 NA00003",
+    b"20 14370 rs6054257 G A 29 PASS NS=3;DP=14;AF=0.5;DB;H2 GT:GQ:DP:HQ 0|0:48:1:51,51 1|0:48:8:51,51 1/1:43:5:.,.",
+    b"20 17330 . T A 3 q10 NS=3;DP=11;AF=0.017 GT:GQ:DP:HQ 0|0:49:3:58,50 0|1:3:5:65,3 0/0:41:3",
+    b"20 1110696 rs6040355 A G,T 67 PASS NS=2;DP=10;AF=0.333,0.667;AA=T;DB GT:GQ:DP:HQ 1|2:21:6:23,27 2|1:2:0:18,2 "
+    b"2/2:35:4",
+    b"20 1230237 . T . 47 PASS NS=3;DP=13;AA=T GT:GQ:DP:HQ 0|0:54:7:56,60 0|0:48:4:51,51 0/0:61:2",
+    b"20 1234567 microsat1 GTC G,GTCT 50 PASS NS=3;DP=9;AA=G GT:GQ:DP 0/1:35:4 0/2:17:2 1/1:40:3",
+)
+
+
+def row(columns):
+    return b"\t".join(columns)
+
+
+def seven(*columns):
+    """Seven good columns, and those given."""
+    return row((b"c", b"1", b".", b"A", b"G", b".", b"P", *columns))
+
+
+def replaced(columns, changes):
+    """The columns with some of them, given by index, changed."""
+    return [changes.get(index, column) for index, column in enumerate(columns)]
+
+
+# Lines one after the other: good ones, and between them one for each refusal.
+LINES = (
+    seven(b"I") + b"\n",
+    seven(b"I", b"F", b"s", b"t") + b"\r\n",
+    b"c\t\t" + seven(b"I") + b"\n",
+    b"c\t1\t.\r\n",
+    b"\n",
+    b"\r\n",
+    seven(b"I\xff") + b"\n",
+    seven(b"I\xc3", b"\xa9F", b"s") + b"\r\n",
+    seven(b"", b"F", b"s") + b"\n",
+    seven(b"I", b"F") + b"\n",
+    seven(b"I", b"F", b"s", b"", b"u") + b"\n",
+    seven(b".") + b"\r\r\n",
+    seven(b"I", b"F", b""),
+)
+
+
+def reads_of_lines(large):
+    """Several lines in one text: four of them read from every place, all of them from about each start."""
+    few, every = b"".join(LINES[1:5]), b"".join(LINES)
+    starts = itertools.accumulate(map(len, LINES), initial=0)
+    about = {start + step for start in starts for step in (-1, 0, 1)} - {-1}
+    for at in (*range(len(few) + 3), *FAR):
+        yield few, at
+    for at in range(len(every) + 3) if large else sorted(about):
+        yield every, at
+
+
+def examples():
+    return [record.replace(b" ", b"\t") for record in EXAMPLE]
+
+
+def terminated():
+    """Each terminator at each column, which is empty or not, at the end of the text or before a rest."""
+    for count, end, rest in itertools.product(range(1, 13), (b"\t", b"\n", b"\r\n", b"\r", b""), (b"", b"rest\n")):
+        yield row(COLUMNS[:count]) + end + rest
+        yield row((*COLUMNS[: count - 1], b"")) + end + rest
+
+
+def with_carriage_returns(large):
+    """One CR or two (three at large) in every place of the last two columns."""
+    tail = b"ab\tcd"
+    spots = range(len(tail) + 1)
+    for before, returns in itertools.product((6, 8, 9), range(1, 4 if large else 3)):
+        for chosen in itertools.combinations_with_replacement(spots, returns):
+            text = b"".join(b"\r" * chosen.count(at) + tail[at : at + 1] for at in spots)
+            for ending in ENDINGS:
+                yield row((*COLUMNS[:before], text)) + ending
+
+
+def with_empty_columns(large):
+    """Every single column empty, every two of them (at large), all of them."""
+    for count, ending in itertools.product((8, 10, 12), (*ENDINGS, b"\r")):
+        for chosen in (1, 2, count) if large else (1, count):
+            for empty in itertools.combinations(range(count), chosen):
+                yield row(replaced(COLUMNS[:count], dict.fromkeys(empty, b""))) + ending
+
+
+def short_texts(alphabet, longest):
+    for length in range(longest + 1):
+        yield from map(bytes, itertools.product(alphabet, repeat=length))
+
+
+def exhaustive(large):
+    """All short texts after good columns: where INFO starts, within FORMAT, where a sample starts; and alone."""
+    heads = ((seven(b""), 4), (seven(b"I", b"F"), 3), (seven(b"I", b"F", b"s", b""), 3), (b"", 2))
+    for head, longest in heads:
+        for text in short_texts(b"a\t\n\r", 6 if large else longest):
+            yield head + text
+    for columns in ((), (b"I", b"F"), (b"I", b"F", b"s")):
+        for text in short_texts(b"\xc3\xa9\t\n", 6 if large else 3):
+            yield seven(*columns) + text
+
+
+def broken(large):
+    """Bytes that are no UTF-8 within each column, and characters cut by each tab, by two tabs and by an ending."""
+    for count in (8, 10, 12) if large else (8, 12):
+        columns = COLUMNS[:count]
+        for index, wrong in itertools.product(range(count), (b"\xc3", b"\xa9", b"a\xffz", b"\xed\xa0\x80")):
+            yield row(replaced(columns, {index: wrong})) + b"\n"
+        for index, character in itertools.product(range(count - 1), ("\u00e9", "\u8a9e", "\U000233b4")):
+            whole = character.encode()
+            for at in range(1, len(whole)):
+                yield row(replaced(columns, {index: b"a" + whole[:at], index + 1: whole[at:] + b"z"})) + b"\r\n"
+        for index in range(count - 2):
+            yield row(replaced(columns, {index: b"\xe8", index + 1: b"\xaa", index + 2: b"\x9e"}))
+            # a character cut by a tab, and a byte that is wrong without the tab too
+            yield row(replaced(columns, {index: b"\xc3", index + 1: b"\xa9\xa9"})) + b"\n"
+            # what would be too long a form, or a surrogate, without the tab
+            yield row(replaced(columns, {index: b"\xc0", index + 1: b"\x80"})) + b"\n"
+            yield row(replaced(columns, {index: b"\xed", index + 1: b"\xa0\x80"})) + b"\n"
+    for end in (b"\xc3\n\xa9", b"\xc3\r\n\xa9", b"\xc3\r\xa9\n", b"\xc3\r", b"\xc3\r\r\n", "\u00e9\r\n".encode()):
+        yield seven(b"I" + end)
+        yield seven(b"I", b"F", b"s" + end)
+    # a structure that is wrong too
+    for end in (b"\n", b"", b"\t\t", b"\t\n", b"\t"):
+        yield b"\xff" + end
+        yield seven()[:-1] + b"\xff" + end
+        yield seven(b"I", b"F\xff") + end
+        yield seven(b"I", b"F\xc3\t\xa9s") + end
+
+
+def with_samples():
+    """No sample, 1, 3 and 300."""
+    for ending in ENDINGS:
+        yield seven(b"I") + ending
+        for count in (1, 3, 300):
+            yield seven(b"I", b"GT", *(b"0|%d" % (number % 7) for number in range(count))) + ending
+    yield seven(b"I", b"GT", *[b"0/1"] * 299, b"") + b"\n"
+    yield seven(b"I", b"GT", *[b"0/1"] * 299, b"\xc3") + b"\n"
+
+
+def random_column(dice):
+    """Now and then an empty one."""
+    length = 1 + dice.roll(3) if dice.roll(30) else 0
+    return "".join(dice.pick("a0. \r\x00\u00e9\u2028\u8a9e\U000233b4") for _ in range(length)).encode()
+
+
+def random_line(dice):
+    columns = [random_column(dice) for _ in range(dice.pick((7, 8, 8, 8, 9, 10, 10, 11, 12, 14)))]
+    return row(columns) + dice.pick((b"\n", b"\n", b"\r\n", b"\r\r\n", b"\t\n", b"\r", b""))
+
+
+def random_reads(large, dice):
+    """Texts of one line to three, whole and damaged, read from their start and from elsewhere."""
+    for _ in range(15_000 if large else 60):
+        text = b"".join(random_line(dice) for _ in range(1 + dice.roll(3)))
+        yield text, 0
+        yield damaged(dice, text), 0
+        yield text, dice.roll(len(text) + 2)
+
+
+def lines(large, dice):
+    records = [record + ending for record, ending in itertools.product(examples(), ENDINGS)]
+    for record in records:
+        yield ask("line", record, 0)
+        yield ask("line", records[0] + record, len(records[0]))
+    for text, at in (*itertools.product((b"", b"\n"), (0, 1, 2, LARGEST)), *reads_of_lines(large)):
+        yield ask("line", text, at)
+    shapes = (terminated(), with_carriage_returns(large), with_empty_columns(large), exhaustive(large))
+    for text in itertools.chain(*shapes, broken(large), with_samples()):
+        yield ask("line", text, 0)
+    for text, at in random_reads(large, dice):
+        yield ask("line", text, at)
+
+
+def with_dots():
+    """Columns that are one dot or two, each by itself and all of them, with FORMAT and without."""
+    for count, dots in itertools.product((8, 10), (b".", b"..")):
+        for index in range(count):
+            yield row(replaced(COLUMNS[:count], {index: dots})) + b"\n"
+        yield row([dots] * count)
+    yield row([b"."] * 11)
+    # a dot before each ending: CR stays where no LF follows
+    for ending in (b"\r\n", b"\r", b"\r\r\n"):
+        yield seven(b".") + ending
+        yield seven(b"I", b".", b".") + ending
+
+
+def fields(large, dice):
+    asked = [(text, 0) for text in (*examples(), *with_dots(), b"")]
+    asked += [(LINES[0] + line, len(LINES[0])) for line in (*LINES, b"")]
+    asked += [(LINES[0], at) for at in (len(LINES[0]) + 1, LARGEST)]
+    asked += [(seven(b"I\xc3", b"\xa9F", b"s"), 0), (seven(b"I", b"F", b"s\xc3", b"\xa9t"), 0)]
+    asked += itertools.islice(random_reads(large, dice), 2_000 if large else 10)
+    for (text, at), name in itertools.product(asked, FIELDS):
+        yield ask("field", name, text, at)
+
+
+# ---- place
+
+
+def places(large):
+    """Near places and far ones, whose sum with a length would pass the largest number."""
+    for text in (b"", b"a", b"a\t\xff"):
+        far = FAR if large or len(text) == 3 else (LARGEST,)
+        for start, length in itertools.product((*range(len(text) + 3), *far), repeat=2):
+            yield ask("place", text, start, length)
+
+
+# ---- pos
+
+
+def pos_texts(large, dice):
+    for value in numbers():
+        yield str(value).encode()
+        yield b"+%d" % value
+    for text in (b"0", b"1", b"9", b"%d" % LARGEST, b"%d" % (LARGEST + 1)):
+        for sign in (b"0", b"00", b"+0", b"+00", b"-", b"++", b"+-", b" ", b"+" + b"0" * 300, b"0" * 300):
+            yield sign + text
+        for end in (b" ", b".", b"\r", b"\n", b"\t", b"\x00", b"a", b"\xff", b"\xc3\xa9", b"\xa9"):
+            yield text + end
+    yield from (b"", b".", b"+", b"-", b"-0", b"-1", b"1,000", b"1e3", b"0x1", b"\xff", b"\xc3", b"\xd9\xa1")
+    if large:
+        yield from decimal_texts(large, dice)
+    else:
+        yield from short_texts(b"01+", 3)
+
+
+def positions(large, dice):
+    for text in pos_texts(large, dice):
+        yield ask("pos", text)
+
+
+# ---- join
+
+
+def listed(columns, tail=b""):
+    """The columns as one text, with a tail after them, and the end of each."""
+    return b"".join(columns) + tail, tuple(itertools.accumulate(map(len, columns)))
+
+
+def needed(columns):
+    return sum(map(len, columns)) + len(columns)
+
+
+def both_ways(columns):
+    """Columns to join and, since the Rust reads lines but joins none, the line of them to read."""
+    yield ask("join", needed(columns), 0, *listed(columns))
+    yield ask("line", row(columns) + b"\n", 0)
+
+
+def with_faults(large):
+    """A column that is empty, holds a tab, LF or CR somewhere or is no UTF-8, or is only near to that."""
+    faults = (
+        b"", b"\t", b"a\t", b"\ta", b"\n", b"a\n", b"\na", b"\r", b"a\r", b"\ra", b"a\r\r", b"a\r\n", b"\xc3", b"\xff",
+        b"\xc3\t", b"\n\xff", b"\xc3\r", b".", b" ", b"\x0b", b"\x00", "\u00e9".encode(), "\u8a9e\r".encode(),
+    )
+    for count, fault in itertools.product((8, 10, 12) if large else (8, 10), faults):
+        for index in range(count) if large else (0, count - 2, count - 1):
+            yield replaced(COLUMNS[:count], {index: fault})
+
+
+def mixed_faults():
+    """Every mixture of faults, so that each is seen to go before the next."""
+    faults = ({}, {2: b"\t"}, {2: b"\xc3"}, {2: b"\xc3\t"}, {1: b"\xc3", 3: b""}, {1: b"", 3: b"\xc3"})
+    for count, fault in itertools.product((7, 8, 9, 10), faults):
+        columns = replaced(COLUMNS[:count], fault)
+        need, (text, good) = needed(columns), listed(columns)
+        fall, pass_text = (*good[:5], 0, *good[6:]), (*good[:-1], len(text) + 1)
+        for ends, room in itertools.product((good, fall, pass_text), (need, need - 1)):
+            yield ask("join", room, 0, text, ends)
+            yield ask("join", room, room + 1, text, ends)
+
+
+def rooms_and_places():
+    """Rooms from none to more than needed, places from the first to past the output."""
+    for columns in (COLUMNS[:8], COLUMNS[:11]):
+        need, (text, ends) = needed(columns), listed(columns)
+        for room in range(need + 2):
+            yield ask("join", room, 0, text, ends)
+        for room in range(2, need + 5):
+            yield ask("join", room, 3, text, ends)
+        for at in (*range(need + 7), *FAR):
+            yield ask("join", need + 4, at, text, ends)
+        for at in (1, *FAR):
+            yield ask("join", 0, at, text, ends)
+
+
+def joined_ends():
+    """Ends that fall, stand still or pass the text, at each column; tails; entries that cut a character."""
+    text, ends = listed(COLUMNS[:8])
+    for index in range(8):
+        before = ends[index - 1] if index else 0
+        near = {before - 1, before, before + 1, len(text), len(text) + 1} - {-1}
+        for end in (*sorted(near), 2**32 + ends[index], LARGEST):
+            yield ask("join", 40, 1, text, (*ends[:index], end, *ends[index + 1 :]))
+    for tail in (b"a", b"\t", b"\n", b"\xff", b"\xa9", b"a" * 300):
+        yield ask("join", 40, 1, *listed(COLUMNS[:8], tail))
+        yield ask("join", 40, 1, *listed((*COLUMNS[:7], b"\xc3"), tail))
+        yield ask("join", 40, 1, *listed((*COLUMNS[:7], b"I\r"), tail))
+    for tail in (b"", b"a"):
+        yield ask("join", 9, 0, tail, ())
+        for count in (1, 7, 8, 9, 10, 1_024):
+            yield ask("join", 9, 0, tail, (0,) * count)
+    for first, second in ((b"\xe8", b"\xaa\x9e"), (b"\xe8\xaa", b"\x9e")):
+        yield ask("join", 40, 0, *listed(replaced(COLUMNS[:8], {3: first, 4: second})))
+
+
+def wide_joins():
+    """As many columns as a case may have, and outputs as long as may be: filled, one byte short, one byte long."""
+    for count in (1_023, 1_024):
+        columns = [b"a"] * count
+        for room in (2 * count - 1, 2 * count):
+            yield ask("join", room, 0, *listed(columns))
+        yield ask("join", 4_096, 7, *listed([*columns[:-1], b"a\r"]))
+    for length in (4_080, 4_081, 4_082):
+        yield ask("join", 4_096, 0, *listed([b"a"] * 7 + [filler(length)]))
+
+
+def random_joins(large, dice):
+    for _ in range(8_000 if large else 80):
+        columns = [random_column(dice) for _ in range(dice.pick((7, 8, 8, 8, 9, 10, 10, 11, 12)))]
+        text, ends = listed(columns, random_column(dice))
+        if not dice.roll(3):
+            text = damaged(dice, text + b"a")
+        if not dice.roll(8):
+            at = dice.roll(len(ends))
+            ends = (*ends[:at], dice.roll(len(text) + 2), *ends[at + 1 :])
+        at = dice.roll(4)
+        yield ask("join", at + needed(columns) + dice.roll(6) - 2, at, text, ends)
+
+
+def joins(large, dice):
+    for count in range(13):
+        yield from both_ways(COLUMNS[:count])
+    for record in examples():
+        yield from both_ways(record.split(b"\t"))
+    for columns in with_faults(large):
+        yield from both_ways(columns)
+    yield from mixed_faults()
+    yield from rooms_and_places()
+    yield from joined_ends()
+    yield from wide_joins()
+    yield from random_joins(large, dice)
+
+
 # ---- the form of a case
 
 NO_CASES = (
@@ -309,9 +664,47 @@ NO_CASES = (
 )
 
 
-def spoilt(large):
+# The same of line, field, place, pos and join.
+NO_RECORD_CASES = (
+    # an unknown verb, an argument too few or too many, spaces
+    b"lin - 0", b"lines - 0", b"Line - 0", b"line", b"line -", b"line 0", b"line - 0 0", b"line  - 0", b"line -  0",
+    b"line - 0 ", b" line - 0", b"line - ", b"line -\t0", b"line - 0\r", b"fields id - 0", b"fiel id - 0", b"field",
+    b"field id", b"field id -", b"field - 0", b"field id - 0 0", b"field id 0", b"field  - 0", b"field id  0",
+    b"place", b"places - 0 0", b"plac - 0 0", b"place -", b"place - 0", b"place - 0 0 0", b"place 0 0", b"pos",
+    b"po 31", b"poss 31", b"POS 31", b"pos 31 32", b"pos 31 ", b"pos  31", b"pos ", b"join", b"joi 9 0 - -",
+    b"joins 9 0 - -", b"join 9 0 -", b"join 9 - -", b"join 9 0 - - -", b"join 9 0  -", b"join 9 0 - ",
+    b"join 9 0 61 1 2",
+    # no name of a field
+    b"field x - 0", b"field - - 0", b"field 0 - 0", b"field 2 - 0", b"field CHROM - 0", b"field Chrom - 0",
+    b"field chro - 0", b"field chromo - 0", b"field po - 0", b"field poss - 0", b"field ids - 0", b"field i - 0",
+    b"field re - 0", b"field reference - 0", b"field alts - 0", b"field quality - 0", b"field filters - 0",
+    b"field infos - 0", b"field forma - 0", b"field sample - 0", b"field sampless - 0", b"field 6964 - 0",
+    b"field id\x00 - 0", b"field \x00 - 0", b"field id,alt - 0", b"field \xff - 0",
+    # hex that is odd, upper case or none
+    b"line 6 0", b"line 6A 0", b"line 0x61 0", b"line -- 0", b"field id 616 0", b"field id 6A 0", b"place 6 0 0",
+    b"place 6G 0 0", b"pos 3", b"pos 3A", b"pos +1", b"pos 12345", b"join 9 0 6 0", b"join 9 0 6A 1", b"join 9 0 61- 1",
+    # a number that is empty, has a sign or a leading zero, passes its type, or is none
+    b"line - 00", b"line - 01", b"line - +0", b"line - -0", b"line - -", b"line - -1", b"line - a", b"line - 0a",
+    b"line - 18446744073709551616", b"line - 18446744073709551620", b"line - 99999999999999999999", b"line - 0,0",
+    b"field id - 00", b"field id - -", b"field id - +1", b"field id - 18446744073709551616", b"place - 00 0",
+    b"place - 0 00", b"place - - 0", b"place - 0 -", b"place - +0 0", b"place - 0 +0",
+    b"place - 18446744073709551616 0", b"place - 0 18446744073709551616", b"place - 0 36893488147419103232",
+    b"join 4097 0 - -", b"join 09 0 - -", b"join - 0 - -", b"join +9 0 - -", b"join 18446744073709551616 0 - -",
+    b"join 9 00 - -", b"join 9 - - -", b"join 9 -1 - -", b"join 9 18446744073709551616 - -",
+    # ends
+    b"join 9 0 - ,", b"join 9 0 - 0,", b"join 9 0 - ,0", b"join 9 0 - 0,,0", b"join 9 0 - 0,-", b"join 9 0 - -,0",
+    b"join 9 0 - --", b"join 9 0 - -,-", b"join 9 0 - 00", b"join 9 0 - 0,00", b"join 9 0 - 00,0", b"join 9 0 - 1,02",
+    b"join 9 0 - +0", b"join 9 0 - -0", b"join 9 0 - 0,+0", b"join 9 0 - 0;0", b"join 9 0 - 0.0", b"join 9 0 - 0 ,0",
+    b"join 9 0 - 0, 0", b"join 9 0 - a", b"join 9 0 - 0,a", b"join 9 0 - 0,1a", b"join 9 0 - 0,\xff",
+    b"join 9 0 - 0\x00", b"join 9 0 - 18446744073709551616", b"join 9 0 - 0,18446744073709551616",
+    b"join 9 0 - 18446744073709551616,0",
+    # one too many, the last of as many as may be none
+    b"join 9 0 - 0" + b",0" * 1_024, b"join 9 0 - 0" + b",0" * 1_022 + b",x", b"join 9 0 - 0" + b",0" * 2_000,
+)
+
+
+def spoilt(lines, large):
     """Good lines with one byte put in, in every place, that makes each of them none."""
-    lines = (b"utf8 41", b"print 5 70", b"space -", b"decimal 2b37") if large else (b"utf8 41", b"print 5 70")
     for line, byte in itertools.product(lines, b"\x00\t\r \x7f\x80\xffxG" if large else b"\x00 x"):
         for at in range(len(line) + 1):
             yield line[:at] + bytes([byte]) + line[at:]
@@ -344,10 +737,34 @@ def long_lines(large):
         yield none(b"\x00" * (3 * LONGEST_LINE + 1))
 
 
+def long_record_lines(large):
+    """The same of the verbs on records."""
+    text = b"0123456789" + seven(b"I", b"F", b"")
+    text += filler(32_764 - len(text))
+    yield ask("line", text, 10)
+    if large:
+        yield ask("line", text[:-1] + b"\xc3", 10)
+        yield ask("line", text[:-1] + b"\n", 10)
+        yield ask("line", b"\n" * 32_757, 32_756)
+        yield ask("line", b"\t" * 32_757, 32_756)
+        yield none(ask("line", text, 100)[0])
+        yield ask("field", "samples", text[:-16] + b"\r\n", 10)
+        yield ask("place", text[:32_757], 32_756, 1)
+        yield ask("place", text[:32_757], 32_756, 2)
+        yield ask("pos", b"0" * 32_765 + b"1")
+        yield ask("join", 4_096, 0, b"a" * 30_000, tuple(range(1, 1_025)))
+        yield none(ask("join", 4_096, 0, b"a" * 32_000, tuple(range(1, 1_025)))[0])
+
+
 def form(large):
     """Lines that are none and long lines, each before a case with an answer of its own: a shift shows at once."""
-    wrong = [none(line) for line in (*NO_CASES, *spoilt(large))]
-    for index, case in enumerate((*wrong, *long_lines(large))):
+    good = (b"utf8 41", b"print 5 70", b"space -", b"decimal 2b37") if large else (b"utf8 41", b"print 5 70")
+    more = (b"field id 61 0", b"join 9 0 6162 1,2", *((b"line 6109 0", b"place 61 0 1", b"pos 31") if large else ()))
+    lines = (
+        *map(none, (*NO_CASES, *spoilt(good, large))), *long_lines(large),
+        *map(none, (*NO_RECORD_CASES, *spoilt(more, large))), *long_record_lines(large),
+    )
+    for index, case in enumerate(lines):
         yield case
         yield ask("decimal", str(1_000 + index).encode())
 
@@ -356,7 +773,10 @@ def cases(size):
     """All lines in order, each with whether it is a case. The last one is to be given without LF."""
     large = {"small": False, "large": True}[size]
     # dice for each area, so that a new area changes no other; each question once, as areas overlap
-    areas = (texts(large, Dice(1)), decimals(large, Dice(2)), prints(large, Dice(3)))
+    areas = (
+        texts(large, Dice(1)), decimals(large, Dice(2)), prints(large, Dice(3)), lines(large, Dice(4)),
+        fields(large, Dice(5)), places(large), positions(large, Dice(6)), joins(large, Dice(7)),
+    )
     yield from dict.fromkeys(itertools.chain(*areas))
     yield from form(large)
     yield none(b"x" * LONGEST_LINE + b"y") if large else ask("decimal", b"+3629")

@@ -6,13 +6,19 @@ A case is one line: a verb and its arguments, one space between them, ended by L
 65,536 bytes without the LF. A line that is no case is answered `?`.
 """
 
+import itertools
 import sys
 
 LONGEST_LINE = 65_536
 LARGEST = 18_446_744_073_709_551_615
 LARGEST_ROOM = 4_096
+MOST_ENDS = 1_024
 
-DONE, NOT_UTF8, BAD_NUMBER, TOO_SHORT = 0, 5, 12, 17
+DONE, AT_END, EMPTY, LINE_ENDS, CUT, NOT_UTF8, BEYOND = range(7)
+BAD_NUMBER, BAD_ENDS, TOO_SHORT, BAD_COLUMN, BAD_COUNT, BAD_POS = 12, 16, 17, 18, 19, 21
+
+FIELDS = (b"chrom", b"pos", b"id", b"ref", b"alt", b"qual", b"filter", b"info", b"format", b"samples")
+INFO, FORMAT, SAMPLES = 7, 8, 9
 
 
 class NoCase(Exception):
@@ -45,6 +51,20 @@ def room(argument):
     return number(argument, LARGEST_ROOM)
 
 
+def field_name(argument):
+    if argument not in FIELDS:
+        raise NoCase
+    return argument
+
+
+def list_ends(argument):
+    """Numbers joined by commas; `-` for none."""
+    found = [] if argument == b"-" else [number(one) for one in argument.split(b",")]
+    if len(found) > MOST_ENDS:
+        raise NoCase
+    return found
+
+
 # ---- the rules
 
 
@@ -56,6 +76,12 @@ def digits_value(text):
             return None
         value = 10 * value + byte - ord("0")
     return value if text else None
+
+
+def decimal_value(text):
+    """What a decimal is worth; None where the text is none."""
+    value = digits_value(text[1:] if text[:1] == b"+" else text)
+    return None if value is None or value > LARGEST else value
 
 
 # Each row: the first byte from .. to, the second byte from .. to, the bytes in all. Bytes after the second are 80-BF.
@@ -109,8 +135,72 @@ def points(text):
     return found
 
 
+def is_utf8(text):
+    return points(text) is not None
+
+
 def is_white_space(point):
     return any(first <= point <= last for first, last in WHITE_SPACE)
+
+
+def list_entries(text, ends):
+    """The entries of a list; None where its ends fall, or pass the text."""
+    bounds = [0, *ends]
+    if bounds != sorted(bounds) or bounds[-1] > len(text):
+        return None
+    return [text[start:end] for start, end in zip(bounds, ends)]
+
+
+def read_line(text, at):
+    """The answer of the line reader, the next place and, where it is 0, the ten places.
+
+    The line is taken to its LF or the end of the text first, cut at its tabs, and judged from left to right.
+    """
+    if at > len(text):
+        return BEYOND, at, None
+    if at == len(text):
+        return AT_END, at, None
+    whole, fed, _ = text[at:].partition(b"\n")
+    past = at + len(whole) + len(fed)
+    columns = whole.split(b"\t")
+    last = len(columns) - 1
+    if fed:
+        columns[last] = columns[last].removesuffix(b"\r")
+    starts = [at]
+    for column in columns[:last]:
+        starts.append(starts[-1] + len(column) + 1)
+    for index, column in enumerate(columns):
+        if index == last and (index < INFO or index == FORMAT):
+            return LINE_ENDS if fed else CUT, past, None
+        if not column:
+            if index == last:
+                return EMPTY if fed else CUT, past, None
+            return EMPTY, starts[index + 1], None
+    if not all(map(is_utf8, columns)):
+        return NOT_UTF8, past, None
+    end = starts[last] + len(columns[last])
+    places = list(zip(starts, map(len, columns)))
+    if last == INFO:
+        places += [(end, 0), (end, 0)]
+    else:
+        places[SAMPLES:] = [(starts[SAMPLES], end - starts[SAMPLES])]
+    return DONE, past, places
+
+
+def joined(text, ends):
+    """The line of the columns given; or the numbers of a refusal."""
+    columns = list_entries(text, ends)
+    if columns is None:
+        return (BAD_ENDS,)
+    if len(columns) < 8 or len(columns) == 9:
+        return (BAD_COUNT,)
+    for index, column in enumerate(columns):
+        last = index == len(columns) - 1
+        if not column or b"\t" in column or b"\n" in column or (last and column.endswith(b"\r")):
+            return BAD_COLUMN, index
+        if not is_utf8(column):
+            return NOT_UTF8, index
+    return b"\t".join(columns) + b"\n"
 
 
 # ---- answers
@@ -120,29 +210,78 @@ def shown(output):
     return output.hex() or "-"
 
 
+def words(*values):
+    return " ".join(map(str, values))
+
+
+def laid_out(length, at, made):
+    """A writer's answer and its whole output. What it makes is bytes, or the numbers of a refusal."""
+    output = bytearray(b"\xee" * length)
+    if at > length:
+        made = (BEYOND,)
+    elif isinstance(made, bytes):
+        if len(made) > length - at:
+            made = (TOO_SHORT,)
+        else:
+            output[at : at + len(made)] = made
+            made = (DONE, len(made))
+    return words(*made, shown(output))
+
+
 def utf8(text):
-    return f"{DONE}" if points(text) is not None else f"{NOT_UTF8}"
+    return words(DONE if is_utf8(text) else NOT_UTF8)
 
 
 def space(text):
     found = points(text)
     if found is None:
-        return f"{NOT_UTF8}"
-    return f"{DONE} {int(any(map(is_white_space, found)))}"
+        return words(NOT_UTF8)
+    return words(DONE, int(any(map(is_white_space, found))))
 
 
 def decimal(text):
-    value = digits_value(text[1:] if text[:1] == b"+" else text)
-    return f"{BAD_NUMBER}" if value is None or value > LARGEST else f"{DONE} {value}"
+    value = decimal_value(text)
+    return words(BAD_NUMBER) if value is None else words(DONE, value)
 
 
 def print_number(length, value):
-    output = bytearray(b"\xee" * length)
-    digits = str(value).encode()
-    if len(digits) > length:
-        return f"{TOO_SHORT} {shown(output)}"
-    output[: len(digits)] = digits
-    return f"{DONE} {len(digits)} {shown(output)}"
+    return laid_out(length, 0, str(value).encode())
+
+
+def line_places(text, at):
+    answered, past, places = read_line(text, at)
+    if answered != DONE:
+        return words(answered, past)
+    return words(answered, past, *itertools.chain(*places))
+
+
+def field(name, text, at):
+    answered, _, places = read_line(text, at)
+    if answered != DONE:
+        return words(answered)
+    start, length = places[FIELDS.index(name)]
+    if text[start : start + length] == b".":
+        if name == b"qual":
+            return words(DONE, "absent")
+        if name in (b"id", b"alt", b"filter", b"info"):
+            return words(DONE, start + length, 0)
+    return words(DONE, start, length)
+
+
+def place(text, start, length):
+    beyond = start > len(text) or length > len(text) - start
+    return words(BEYOND) if beyond else words(DONE, start, length)
+
+
+def pos(text):
+    if text == b"0":
+        return words(DONE, "none")
+    value = decimal_value(text)
+    return words(DONE, value) if value else words(BAD_POS)
+
+
+def join(length, at, text, ends):
+    return laid_out(length, at, joined(text, ends))
 
 
 # Each verb: what answers it, and the readers of its arguments.
@@ -151,6 +290,11 @@ VERBS = {
     b"space": (space, (hexed,)),
     b"decimal": (decimal, (hexed,)),
     b"print": (print_number, (room, number)),
+    b"line": (line_places, (hexed, number)),
+    b"field": (field, (field_name, hexed, number)),
+    b"place": (place, (hexed, number, number)),
+    b"pos": (pos, (hexed,)),
+    b"join": (join, (room, number, hexed, list_ends)),
 }
 
 

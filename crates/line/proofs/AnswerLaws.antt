@@ -112,7 +112,7 @@ module _ {s : List ℕ} {at end next : ℕ} (g : InOrder s at end next) where
       where
         by : Ordered s at end next → readPaper (R.Line r next) ≡ lineAnswer at (lineOf (drop at s))
         by o =
-            let v : allUtf8 (split 9 (o .text)) ≡ true = sym (by-columns (o .text)) ∙ told-text (o .text) x (rw (o .stands) at u) q in
+            let v : allUtf8 (split 9 (o .text)) ≡ true = sym (by-columns (o .text)) ∙ told-text (o .text) (rw (q, o .stands) at u) in
             rw (line-judged o, v, p, text-cut o, length-take-le end s (o .within))
 
     pub finish-broken : x ≡ U.Broken → readPaper (R.NotUtf8 next) ≡ lineAnswer at (lineOf (drop at s))
@@ -121,7 +121,7 @@ module _ {s : List ℕ} {at end next : ℕ} (g : InOrder s at end next) where
       where
         by : Ordered s at end next → readPaper (R.NotUtf8 next) ≡ lineAnswer at (lineOf (drop at s))
         by o =
-            let v : allUtf8 (split 9 (o .text)) ≡ false = sym (by-columns (o .text)) ∙ told-broken (o .text) x (rw (o .stands) at u) q in
+            let v : allUtf8 (split 9 (o .text)) ≡ false = sym (by-columns (o .text)) ∙ told-broken (o .text) (rw (q, o .stands) at u) in
             rw (line-judged o, v)
 
 -- ---- the reader

@@ -76,11 +76,25 @@ return-later a [] h = absurd (omega arith)
 return-later a (b ∷ s) h = refl
 
 -- what stands behind a tab tells whether the text ends in CR
-return-tab : (c t : List ℕ) → endsInReturn (c ++ 9 ∷ t) ≡ endsInReturn t
+pub return-tab : (c t : List ℕ) → endsInReturn (c ++ 9 ∷ t) ≡ endsInReturn t
 unfolding endsInReturn
 return-tab [] [] = refl
 return-tab [] (b ∷ t) = refl
 return-tab (a ∷ c) t = return-later a (c ++ 9 ∷ t) (simp length-append (omega arith)) ∙ return-tab c t
+
+-- the last byte tells it
+pub return-none : (t : List ℕ) → length t ≡ 0 → endsInReturn t ≡ false
+unfolding endsInReturn
+return-none [] h = refl
+return-none (a ∷ t) h = absurd (omega arith)
+
+pub return-at : (t : List ℕ) → 0 < length t → endsInReturn t ≡ eqb (getD t (length t - 1) 0) 13
+unfolding endsInReturn
+return-at [] h = absurd (omega arith)
+return-at (a ∷ []) h = refl
+return-at (a ∷ b ∷ t) h =
+    let e : suc (suc (length t)) - 1 ≡ suc (suc (length t) - 1) = omega arith in
+    return-later a (b ∷ t) (omega arith) ∙ rw e (return-at (b ∷ t) (omega arith))
 
 -- a text with CR behind it ends in CR, and comes back without it
 return-last : (t : List ℕ) → endsInReturn (t ++ 13 ∷ []) ≡ true
@@ -124,6 +138,10 @@ line-feed c s f = rw (split-append c s f, in-more c (split 10 s) (split-some 10 
 pub line-end : (c : List ℕ) → Free 10 c → lineOf c ≡ line c nothing []
 unfolding lineOf lineIn
 line-end c f = rw (split-whole c f)
+
+pub feed-bytes : endingBytes feed ≡ 10 ∷ []
+unfolding endingBytes
+feed-bytes = refl
 
 -- a text free of LF, then an ending that is right after it, then the rest, are the input
 pub record LineCut (s t : List ℕ) (e : Ending) (rest : List ℕ) : Type 0 where
@@ -235,7 +253,7 @@ past-test : (t : Bool) (n p : ℕ) {v : Verdict} → pick t (refused n p) v ≡ 
 past-test true n p h = absurd (let z : _≡_ {A = ℕ} 0 1 = cc in omega arith)
 past-test false n p h = (refl, h)
 
-or-none : (a b : Bool) → (a || b) ≡ false → (a ≡ false) × (b ≡ false)
+pub or-none : (a b : Bool) → (a || b) ≡ false → (a ≡ false) × (b ≡ false)
 or-none true b h = absurd (true≢false h)
 or-none false b h = (refl, h)
 
@@ -243,6 +261,11 @@ pub empty-some : (c : List ℕ) → isEmpty c ≡ false → 0 < length c
 unfolding isEmpty
 empty-some [] h = absurd (true≢false h)
 empty-some (b ∷ c) h = omega arith
+
+pub none-empty : (c : List ℕ) → length c ≡ 0 → isEmpty c ≡ true
+unfolding isEmpty
+none-empty [] h = refl
+none-empty (b ∷ c) h = absurd (omega arith)
 
 pub some-empty : (c : List ℕ) → 0 < length c → isEmpty c ≡ false
 unfolding isEmpty

@@ -1,6 +1,6 @@
 -- Reading a line column by column: the search for a column's end, the last column, and what is left from a column on.
 -- Assumes nothing.
-use Prim.Native.Nat.{ℕ, zero, suc, _+_, _-_, _≤_, _<_}
+use Prim.Native.Nat.{ℕ, _+_, _-_, _≤_, _<_}
 use mathlib.Core.Path.{_≡_, refl, sym, ap, _∙_}
 use mathlib.Core.Bool.{Bool, true, false, _||_, or-true}
 use mathlib.Core.List.{List, [], _∷_, _++_, dropLast}
@@ -22,7 +22,7 @@ use Rattle.line.specs.declared.read.Stop.{Stop}
 use Rattle.line.specs.declared.read.Stop.the-variants as S
 use Rattle.line.specs.declared.read.Judged.{Judged}
 use Rattle.line.specs.declared.read.Judged.the-variants as J
-use Rattle.line.proofs.ColumnLaws.{line-end, line-feed, line-tab, some-empty}
+use Rattle.line.proofs.ColumnLaws.{return-none, return-at, line-end, line-feed, line-tab, none-empty, some-empty}
 
 -- ---- the search for a column's end
 
@@ -94,11 +94,6 @@ module _ {s : List ℕ} {start feed : ℕ} where
   pub end-bare : (start ≤ feed) × (feed < length s) → (feed ≡ start → ⊥) → (getD s (feed - 1) 0 ≡ 13 → ⊥) → TextEnd s start feed feed
   end-bare h n e = bare (omega arith) e
 
-empty-none : (c : List ℕ) → length c ≡ 0 → isEmpty c ≡ true
-unfolding isEmpty
-empty-none [] e = refl
-empty-none (a ∷ c) e = absurd (omega arith)
-
 -- ---- a part of the input as a text
 
 -- no byte b from one place up to another, said of the part
@@ -167,15 +162,6 @@ length-last [] = refl
 length-last (a ∷ []) = refl
 length-last (a ∷ b ∷ c) = let l = length-last (b ∷ c) in omega arith
 
--- its last byte decides
-ends-at : (c : List ℕ) (n : ℕ) → length c ≡ suc n → endsInReturn c ≡ eqb (getD c n 0) 13
-unfolding endsInReturn
-ends-at [] n e = absurd (omega arith)
-ends-at (a ∷ []) zero e = refl
-ends-at (a ∷ []) (suc n) e = absurd (omega arith)
-ends-at (a ∷ b ∷ c) zero e = absurd (omega arith)
-ends-at (a ∷ b ∷ c) (suc n) e = ends-at (b ∷ c) n (omega arith)
-
 free-last : {b : ℕ} (c : List ℕ) → Free b c → Free b (dropLast c)
 free-last [] f = f
 free-last (a ∷ []) f = free-nil
@@ -185,11 +171,6 @@ ends-some : (c : List ℕ) → endsInReturn c ≡ true → 0 < length c
 unfolding endsInReturn
 ends-some [] e = let z : _≡_ {A = ℕ} 0 1 = cc in absurd (omega arith)
 ends-some (a ∷ c) e = omega arith
-
-ends-none : (c : List ℕ) → length c ≡ 0 → endsInReturn c ≡ false
-unfolding endsInReturn
-ends-none [] e = refl
-ends-none (a ∷ c) e = absurd (omega arith)
 
 strip-bare : (c : List ℕ) → endsInReturn c ≡ false → length (stripped c) ≡ length c
 unfolding stripped
@@ -234,15 +215,17 @@ module _ (s : List ℕ) (k start feed : ℕ) (g : Stopped s start feed 10) where
   unfolding column
   column-ends h =
       let l = part-length s g in
+      let i : length column - 1 ≡ feed - 1 - start = omega arith in
       let n : feed - 1 - start < feed - start = omega arith in
       let m : start + (feed - 1 - start) ≡ feed - 1 = omega arith in
-      ends-at column (feed - 1 - start) (omega arith)
+      return-at column (omega arith)
+      ∙ ap (λ (k : ℕ). eqb (getD column k 0) 13) i
       ∙ ap (λ (x : ℕ). eqb x 13) (getD-take (feed - start) (drop start s) (feed - 1 - start) 0 n ∙ getD-drop start s (feed - 1 - start) 0 ∙ ap (λ (i : ℕ). getD s i 0) m)
 
   -- the text ends where the code says
   end-length : {end : ℕ} → TextEnd s start feed end → length (stripped column) ≡ end - start
   unfolding column
-  end-length (none e) = let l = part-length s g in strip-bare column (ends-none column (omega arith)) ∙ l
+  end-length (none e) = let l = part-length s g in strip-bare column (return-none column (omega arith)) ∙ l
   end-length (bare h n) = let l = part-length s g in strip-bare column (column-ends h ∙ ne-eqb _ _ n) ∙ l
   end-length (return h e) = let l = part-length s g in let m = strip-return column (column-ends h ∙ eq-eqb _ _ e) in omega arith
 
@@ -259,7 +242,7 @@ module _ (s : List ℕ) (k start feed : ℕ) (g : Stopped s start feed 10) where
     module _ {end : ℕ} (t : q ≡ false) (z : TextEnd s start feed end) where
       pub fed-empty : end ≡ start → judgedPaper (J.Empty (feed + 1)) ≡ judgementOf k start (lineOf (drop start s))
       unfolding judgedPaper judgement
-      fed-empty n = let l = end-length z in rw (feed-judged, ← e, t, empty-none (stripped column) (omega arith))
+      fed-empty n = let l = end-length z in rw (feed-judged, ← e, t, none-empty (stripped column) (omega arith))
 
       pub fed-fine : (end ≡ start → ⊥) → judgedPaper (J.Fine end (feed + 1)) ≡ judgementOf k start (lineOf (drop start s))
       unfolding judgedPaper judgement
@@ -331,7 +314,7 @@ module _ {s : List ℕ} {at k start tab : ℕ} (g : Going s at k start) (h : Sto
   unfolding judgedPaper here-column
   judge-empty e =
       let l = part-length s h in
-      sym (tab-line ∙ tab-empty-judged k start here-column (part-no-tab s h) (part-no-feed s h) (drop (tab + 1) s) (empty-none here-column (omega arith)) ∙ rw e) ∙ g .same
+      sym (tab-line ∙ tab-empty-judged k start here-column (part-no-tab s h) (part-no-feed s h) (drop (tab + 1) s) (none-empty here-column (omega arith)) ∙ rw e) ∙ g .same
 
   pub judge-turn : (tab ≡ start → ⊥) → Going s at (k + 1) (tab + 1)
   unfolding here-column

@@ -1,7 +1,7 @@
 -- Counting a byte: those passed and those to come are those of the whole. Assumes nothing.
 use Prim.Native.Nat.{ℕ, _+_, _<_, _≤_, zero-le}
-use mathlib.Core.Path.{_≡_}
-use mathlib.Core.List.{List}
+use mathlib.Core.Path.{_≡_, refl}
+use mathlib.Core.List.{List, [], _∷_}
 use mathlib.Core.Bool.{Bool, true, false}
 use native.Mathlib.Omega.{arith}
 use native.Mathlib.Nat.{zero-add}
@@ -27,6 +27,19 @@ one-small a b e = rw e (by (eqb a b))
     by : (t : Bool) → pick t 1 0 ≤ 1
     by true = omega arith
     by false = omega arith
+
+-- the count, byte by byte
+pub count-none : (b : ℕ) → countOf b [] ≡ 0
+unfolding countOf
+count-none b = refl
+
+pub count-here : (b : ℕ) (s : List ℕ) {a : ℕ} → a ≡ b → countOf b (a ∷ s) ≡ 1 + countOf b s
+unfolding countOf oneIf
+count-here b s {a} e = rw (eq-eqb a b e)
+
+pub count-other : (b : ℕ) (s : List ℕ) {a : ℕ} → (a ≡ b → ⊥) → countOf b (a ∷ s) ≡ countOf b s
+unfolding countOf oneIf
+count-other b s {a} h = rw (ne-eqb a b h) (zero-add _)
 
 -- n of the first i bytes are b
 pub record Counting (b : ℕ) (s : List ℕ) (n i : ℕ) : Type 0 where

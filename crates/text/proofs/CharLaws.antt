@@ -16,7 +16,6 @@ use Rattle.text.specs.Answer.{says}
 use Rattle.text.specs.Utf8.{within, Row, row, table, Lead, lead, leadIn, leadOf, further, second, follows, isChar, sizeBy, charSize, before, charsFrom, charsOf, there, isUtf8, utf8Answer}
 use Rattle.text.specs.Inner.{CharAt}
 use Rattle.text.specs.Paper.{utf8Paper}
-use Rattle.text.specs.declared.utf8.Utf8.{Utf8}
 use Rattle.text.specs.declared.utf8.Utf8.the-variants.{Text, Broken}
 use Rattle.text.proofs.Utf8Laws.{alone}
 
@@ -223,19 +222,18 @@ pub check-past : {s : List ℕ} {i : ℕ} → Checking s i → length s ≤ i �
 unfolding utf8Paper utf8Answer isUtf8 there charsOf charsFrom
 check-past {s} c h = rw (← c .same, drop-of-length-le s h)
 
--- ---- what the check's answer tells
-
-pub told-text : (t : List ℕ) (r : Utf8) → utf8Paper r ≡ utf8Answer t → r ≡ Text → isUtf8 t ≡ true
+-- what each verdict tells
+pub told-text : (t : List ℕ) → utf8Paper Text ≡ utf8Answer t → isUtf8 t ≡ true
 unfolding utf8Paper utf8Answer
-told-text t r e q = by (isUtf8 t) (rw q at e)
+told-text t e = by (isUtf8 t) e
   where
     by : (b : Bool) → says 0 [] ≡ pick b (says 0 []) (says 5 []) → b ≡ true
     by true e = refl
     by false e = cc
 
-pub told-broken : (t : List ℕ) (r : Utf8) → utf8Paper r ≡ utf8Answer t → r ≡ Broken → isUtf8 t ≡ false
+pub told-broken : (t : List ℕ) → utf8Paper Broken ≡ utf8Answer t → isUtf8 t ≡ false
 unfolding utf8Paper utf8Answer
-told-broken t r e q = by (isUtf8 t) (rw q at e)
+told-broken t e = by (isUtf8 t) e
   where
     by : (b : Bool) → says 5 [] ≡ pick b (says 0 []) (says 5 []) → b ≡ false
     by true e = cc

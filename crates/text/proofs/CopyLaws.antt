@@ -1,15 +1,17 @@
 -- Copying byte by byte: what is left to copy lies over what stands. Assumes nothing.
 use Prim.Native.Nat.{ℕ, _+_, _<_, _≤_}
 use mathlib.Core.Path.{_≡_, refl, _∙_}
-use mathlib.Core.List.{List, _++_}
+use mathlib.Core.List.{List, [], _∷_, _++_}
 use native.Mathlib.Omega.{arith}
 use native.Mathlib.Numerals.{add-one}
 use native.Mathlib.Nat.{zero-add}
 use lib.ListN.{length, getD, drop, set, length-set, drop-of-length-le}
 use lib.Seq.{sets, sets-eq, drop-cons}
 use borrow.Author.Tests.{le-leb, lt-leb}
+use Rattle.text.specs.Answer.{says}
 use Rattle.text.specs.Over.{over, roomAnswer, leaves, Writes}
 use Rattle.text.specs.Paper.{writtenPaper}
+use Rattle.text.specs.declared.copy.Written.{Written}
 use Rattle.text.specs.declared.copy.Written.the-variants.{Done, Short}
 
 -- i bytes of vs are copied, and l stands where l₀ stood
@@ -44,5 +46,19 @@ copy-past {vs} {l₀} {l} {i} g h =
 pub copy-short : {vs l : List ℕ} → length l < length vs → Writes vs l Short l
 unfolding roomAnswer leaves writtenPaper
 copy-short h = record { answer = rw (lt-leb _ _ h); bytes = rw (lt-leb _ _ h) }
+
+-- ---- where there is room, and where not
+
+pub room-fits : (vs l : List ℕ) → length vs ≤ length l → roomAnswer vs l ≡ says 0 (length vs ∷ [])
+unfolding roomAnswer
+room-fits vs l h = rw (le-leb _ _ h)
+
+pub room-lacks : (vs l : List ℕ) → length l < length vs → roomAnswer vs l ≡ says 17 []
+unfolding roomAnswer
+room-lacks vs l h = rw (lt-leb _ _ h)
+
+pub writes-fits : {vs l l′ : List ℕ} {r : Written} → Writes vs l r l′ → length vs ≤ length l → l′ ≡ over vs l
+unfolding leaves
+writes-fits w h = w .bytes ∙ rw (le-leb _ _ h)
 
 pub ruleset laws = (copy-first, copy-turn, copy-past, copy-short)

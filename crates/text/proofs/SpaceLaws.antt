@@ -159,15 +159,15 @@ module _ {s : List ℕ} {i n : ℕ} (k : Seeking s i) (h : i < length s) (g : Ch
 
     pub seek-held : {r : Utf8} → t ≡ true → utf8Paper r ≡ utf8Answer (take (length s - i) (drop i s)) → r ≡ U.Text → spacePaper S.Held ≡ spaceAnswer s
     unfolding spacePaper spaceAnswer isUtf8
-    seek-held {r} w u q =
+    seek-held w u q =
         let v : there (before (take n (drop i s)) (charsOf (drop (i + n) s))) ≡ true =
-        ap there (sym (char-next h g z)) ∙ told-text (drop i s) r (rw (rest-all s i) at u) q in
+        ap there (sym (char-next h g z)) ∙ told-text (drop i s) (rw (q, rest-all s i) at u) in
         sym (ap spacedAnswer (char-next h g z) ∙ held-before (take n (drop i s)) _ (code-is ∙ w) v) ∙ k .same
 
 pub seek-broken : {s : List ℕ} {i : ℕ} {r : Utf8} → Seeking s i → utf8Paper r ≡ utf8Answer (take (length s - i) (drop i s)) → r ≡ U.Broken
     → spacePaper S.Broken ≡ spaceAnswer s
 unfolding spacePaper spaceAnswer isUtf8
-seek-broken {s} {i} {r} k u q = sym (broken (charsOf (drop i s)) (told-broken (drop i s) r (rw (rest-all s i) at u) q)) ∙ k .same
+seek-broken {s} {i} k u q = sym (broken (charsOf (drop i s)) (told-broken (drop i s) (rw (q, rest-all s i) at u))) ∙ k .same
 
 pub seek-past : {s : List ℕ} {i : ℕ} → Seeking s i → length s ≤ i → spacePaper S.Free ≡ spaceAnswer s
 unfolding spacePaper spaceAnswer spacedAnswer charsOf charsFrom anySpace
