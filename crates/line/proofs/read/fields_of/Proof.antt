@@ -42,13 +42,19 @@ add-first : tie.Need-add-first
 add-first c = omega (arith, c .next-column8 .ensures .stands .fits, c .before .before .before .before .before .before .before .before .before .before .before .good)
 
 add-first-2 : tie.Need-add-first-2
-add-first-2 c = omega (arith, first-sample ((c .before .before) .before .before .before .before .before .before .before .column-at .ensures) ((c .before .before) .before .before .before .before .before .before .next-column .ensures) ((c .before .before) .before .before .before .before .before .next-column2 .ensures) ((c .before .before) .before .before .before .before .next-column3 .ensures) ((c .before .before) .before .before .before .next-column4 .ensures) ((c .before .before) .before .before .next-column5 .ensures) ((c .before .before) .before .next-column6 .ensures) ((c .before .before) .next-column7 .ensures) ((c .before .before) .before .before .before .before .before .before .before .before .before .pre) (c .next-column8 .ensures), c .before .before .before .before .before .before .before .before .before .before .before .good)
+add-first-2 c =
+    let d = c .before .before in
+    omega (arith, first-sample (d .before .before .before .before .before .before .before .column-at .ensures) (d .before .before .before .before .before .before .next-column .ensures) (d .before .before .before .before .before .next-column2 .ensures) (d .before .before .before .before .next-column3 .ensures) (d .before .before .before .next-column4 .ensures) (d .before .before .next-column5 .ensures) (d .before .next-column6 .ensures) (d .next-column7 .ensures) (d .before .before .before .before .before .before .before .before .before .pre) (c .next-column8 .ensures), d .before .before .before .before .before .before .before .before .before .good)
 
 sub-t22 : tie.Need-sub-t22
-sub-t22 c = omega (arith, first-sample ((c .before .before) .before .before .before .before .before .before .before .column-at .ensures) ((c .before .before) .before .before .before .before .before .before .next-column .ensures) ((c .before .before) .before .before .before .before .before .next-column2 .ensures) ((c .before .before) .before .before .before .before .next-column3 .ensures) ((c .before .before) .before .before .before .next-column4 .ensures) ((c .before .before) .before .before .next-column5 .ensures) ((c .before .before) .before .next-column6 .ensures) ((c .before .before) .next-column7 .ensures) ((c .before .before) .before .before .before .before .before .before .before .before .before .pre) (c .next-column8 .ensures))
+sub-t22 c =
+    let d = c .before .before in
+    omega (arith, first-sample (d .before .before .before .before .before .before .before .column-at .ensures) (d .before .before .before .before .before .before .next-column .ensures) (d .before .before .before .before .before .next-column2 .ensures) (d .before .before .before .before .next-column3 .ensures) (d .before .before .before .next-column4 .ensures) (d .before .before .next-column5 .ensures) (d .before .next-column6 .ensures) (d .next-column7 .ensures) (d .before .before .before .before .before .before .before .before .before .pre) (c .next-column8 .ensures))
 
 returns-2 : tie.Need-returns-2
-returns-2 c = filled-ten ((c .before .before) .before .before .before .before .before .before .before .column-at .ensures) ((c .before .before) .before .before .before .before .before .before .next-column .ensures) ((c .before .before) .before .before .before .before .before .next-column2 .ensures) ((c .before .before) .before .before .before .before .next-column3 .ensures) ((c .before .before) .before .before .before .next-column4 .ensures) ((c .before .before) .before .before .next-column5 .ensures) ((c .before .before) .before .next-column6 .ensures) ((c .before .before) .next-column7 .ensures) ((c .before .before) .before .before .before .before .before .before .before .before .before .pre) (c .next-column8 .ensures)
+returns-2 c =
+    let d = c .before .before in
+    filled-ten (d .before .before .before .before .before .before .before .column-at .ensures) (d .before .before .before .before .before .before .next-column .ensures) (d .before .before .before .before .before .next-column2 .ensures) (d .before .before .before .before .next-column3 .ensures) (d .before .before .before .next-column4 .ensures) (d .before .before .next-column5 .ensures) (d .before .next-column6 .ensures) (d .next-column7 .ensures) (d .before .before .before .before .before .before .before .before .before .pre) (c .next-column8 .ensures)
 
 pub fields-of-spec : {M : Type 1} → statement M
 fields-of-spec =

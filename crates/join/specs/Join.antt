@@ -1,0 +1,72 @@
+-- Joining columns to a line (docs/RULES.md, "Joining"). Assumes nothing.
+use Prim.Native.Nat.{ℕ, _+_}
+use mathlib.Core.Path.{_≡_}
+use mathlib.Core.Bool.{Bool, true, false, _&&_, _||_, not}
+use mathlib.Core.List.{List, [], _∷_, _++_}
+use lib.ListN.{length, drop}
+use lib.Dec.{leb, eqb}
+use Rattle.text.specs.Pick.{pick}
+use Rattle.text.specs.Answer.{Answer, says}
+use Rattle.text.specs.Over.{overAt, roomAnswer}
+use Rattle.text.specs.Utf8.{isUtf8}
+use Rattle.pieces.specs.Pieces.{joined}
+use Rattle.pieces.specs.Entries.{rising, entryList}
+use Rattle.line.specs.Line.{endsInReturn, isEmpty}
+use Rattle.join.specs.Paper.{joinedPaper}
+use Rattle.join.specs.declared.columns.Joined.{Joined}
+
+-- ---- the columns
+
+unfoldable pub holds : ℕ → List ℕ → Bool
+holds b [] = false
+holds b (a ∷ s) = eqb a b || holds b s
+
+-- a column that is empty, or holds a tab or an LF
+unfoldable pub isBad : List ℕ → Bool
+isBad c = isEmpty c || (holds 9 c || holds 10 c)
+
+-- what is found of the columns, the first of which has index i: each by 18, then 5; the last may not end in CR
+pub data Judged : Type 0 where
+  fine : Judged
+  refused : ℕ → ℕ → Judged
+
+unfoldable pub columnJudged : ℕ → Bool → List ℕ → Judged → Judged
+columnJudged i bad c next = pick bad (refused 18 i) (pick (isUtf8 c) next (refused 5 i))
+
+unfoldable pub columnsJudged : ℕ → List (List ℕ) → Judged
+columnsJudged i [] = fine
+columnsJudged i (c ∷ []) = columnJudged i (isBad c || endsInReturn c) c fine
+columnsJudged i (c ∷ d ∷ cs) = columnJudged i (isBad c) c (columnsJudged (i + 1) (d ∷ cs))
+
+-- ---- the answer, and what is left in the output
+
+-- the columns joined by tabs, and an LF
+unfoldable pub lineText : List (List ℕ) → List ℕ
+lineText cs = joined 9 cs ++ 10 ∷ []
+
+-- eight columns, or at least ten
+unfoldable pub isCount : ℕ → Bool
+isCount n = eqb n 8 || leb 10 n
+
+-- room is judged last
+unfoldable pub fitted : Judged → List ℕ → List ℕ → Answer
+fitted fine vs l = roomAnswer vs l
+fitted (refused n i) vs l = says n (i ∷ [])
+
+-- 16, 19, then the columns, then room from the place on
+unfoldable pub listAnswer : List ℕ → List ℕ → List ℕ → Answer
+listAnswer t ends l =
+    pick (rising 0 ends (length t)) (pick (isCount (length ends)) (fitted (columnsJudged 0 (entryList t ends)) (lineText (entryList t ends)) l) (says 19 [])) (says 16 [])
+
+-- 6 first
+unfoldable pub joinAnswer : List ℕ → List ℕ → ℕ → List ℕ → Answer
+joinAnswer t ends at out = pick (leb at (length out)) (listAnswer t ends (drop at out)) (says 6 [])
+
+-- only an answer that is done changes the output
+unfoldable pub isDone : Answer → Bool
+isDone (says n vs) = eqb n 0
+
+-- the joiner answers r, and leaves out′ in an output that held out
+pub record JoinsAt (t ends : List ℕ) (at : ℕ) (out : List ℕ) (r : Joined) (out′ : List ℕ) : Type 0 where
+  pub answer : joinedPaper r ≡ joinAnswer t ends at out
+  pub bytes : out′ ≡ pick (isDone (joinAnswer t ends at out)) (overAt at (lineText (entryList t ends)) out) out

@@ -1,0 +1,3 @@
+pub mod Paper
+pub mod Join
+pub mod Demands

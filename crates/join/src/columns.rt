@@ -1,0 +1,230 @@
+// The columns of a line, given as an entry list, judged and then written.
+use pieces::count::count_byte;
+use pieces::entries::Ends;
+use pieces::entries::Entry;
+use pieces::entries::entry_at;
+use pieces::entries::judge_ends;
+use text::copy::copy;
+use text::utf8::Utf8;
+use text::utf8::check_utf8;
+ghost use mathlib.Core.Path.{_≡_};
+ghost use mathlib.Core.Bool.{true, _&&_, _||_};
+ghost use mathlib.Core.List.{[], _∷_, _++_};
+ghost use Prim.Native.Nat.{_+_, _≤_, _<_};
+ghost use lib.ListN.{length, getD};
+ghost use Rattle.text.specs.Pick.{pick};
+ghost use Rattle.text.specs.Utf8.{isUtf8};
+ghost use Rattle.text.specs.Over.{over, overAt};
+ghost use Rattle.pieces.specs.Entries.{rising, entryList, startOf};
+ghost use Rattle.line.specs.Line.{endsInReturn};
+ghost use Rattle.join.specs.Join.{JoinsAt, holds, isBad, isCount, columnsJudged, lineText, fitted, listAnswer, isDone};
+ghost use Rattle.join.specs.Paper.{joinedPaper};
+
+// The answer of the joiner.
+pub enum Joined {
+    // 0: so many bytes were written.
+    Done(usize),
+    // 5: the column with this index is not UTF-8.
+    NotUtf8(usize),
+    // 6: the place lies beyond the output.
+    Beyond,
+    // 16: the ends fall, or pass the text.
+    Wrong,
+    // 17: the line does not fit.
+    Short,
+    // 18: the column with this index is empty, holds a tab or an LF, or is the last and ends in CR.
+    Bad(usize),
+    // 19: fewer than eight columns, or nine.
+    Few,
+}
+
+// Whether the byte `b` stands in a column.
+fn has_byte(c: &[u8], b: u8) -> bool
+    ensures { λ r. ⌜ r ≡ holds b (now (c .entry)) ⌝ }
+{
+    count_byte(c, b) > 0
+}
+
+// Whether a column is empty, or holds a tab or an LF.
+fn is_bad(c: &[u8]) -> bool
+    ensures { λ r. ⌜ r ≡ isBad (now (c .entry)) ⌝ }
+{
+    if c.len() == 0 {
+        return true;
+    }
+    if has_byte(c, 9) {
+        return true;
+    }
+    has_byte(c, 10)
+}
+
+// Whether a column ends in CR.
+fn ends_in_return(c: &[u8]) -> bool
+    ensures { λ r. ⌜ r ≡ endsInReturn (now (c .entry)) ⌝ }
+{
+    if c.len() == 0 {
+        return false;
+    }
+    c[c.len() - 1] == 13
+}
+
+// Whether a column is refused by 18: the last may not end in CR.
+fn is_refused(c: &[u8], last: bool) -> bool
+    ensures { λ r. ⌜ r ≡ (isBad (now (c .entry)) || (last && endsInReturn (now (c .entry)))) ⌝ }
+{
+    if is_bad(c) {
+        return true;
+    }
+    if last {
+        return ends_in_return(c);
+    }
+    false
+}
+
+// Whether a column is UTF-8.
+fn is_utf8(c: &[u8]) -> bool
+    ensures { λ r. ⌜ r ≡ isUtf8 (now (c .entry)) ⌝ }
+{
+    match check_utf8(c) {
+        Utf8::Text => true,
+        Utf8::Broken => false,
+    }
+}
+
+// Column i.
+fn column<'a>(text: &'a [u8], ends: &[usize], i: usize) -> &'a [u8]
+    requires { ⌜ rising 0 (now ends) (length (now text)) ≡ true ⌝ }
+    requires { ⌜ i < length (now ends) ⌝ }
+    ensures { λ r. ⌜ now r ≡ getD (entryList (now (text .entry)) (now (ends .entry))) i [] ⌝ }
+{
+    match entry_at(text, ends, i) {
+        Entry::At(place) => {
+            let start = place.start;
+            let end = start + place.len;
+            &text[start..end]
+        }
+        Entry::Nothing => text,
+        Entry::Wrong => text,
+    }
+}
+
+// Eight columns, or at least ten.
+fn is_count(n: usize) -> bool
+    ensures { λ r. ⌜ r ≡ isCount n ⌝ }
+{
+    if n == 8 {
+        return true;
+    }
+    n >= 10
+}
+
+// Where the last column ends, of at least one.
+fn last_end(ends: &[usize]) -> usize
+    requires { ⌜ 0 < length (now ends) ⌝ }
+    ensures { λ r. ⌜ r ≡ startOf (now (ends .entry)) (length (now (ends .entry))) ⌝ }
+{
+    ends[ends.len() - 1]
+}
+
+// Judges the columns from the left, and then whether the line, one byte more for each column, fits in the rest of the output.
+fn judge_columns(text: &[u8], ends: &[usize], rest: &[u8]) -> Joined
+    requires { ⌜ rising 0 (now ends) (length (now text)) ≡ true ⌝ }
+    requires { ⌜ 0 < length (now ends) ⌝ }
+    ensures { λ r. ⌜ joinedPaper r ≡ fitted (columnsJudged 0 (entryList (now (text .entry)) (now (ends .entry)))) (lineText (entryList (now (text .entry)) (now (ends .entry)))) (now (rest .entry)) ⌝ }
+{
+    let mut i = 0;
+    while i < ends.len() {
+        let c = column(text, ends, i);
+        if is_refused(c, i + 1 == ends.len()) {
+            return Joined::Bad(i);
+        }
+        if !is_utf8(c) {
+            return Joined::NotUtf8(i);
+        }
+        i += 1;
+    }
+    let end = last_end(ends);
+    if end > rest.len() {
+        return Joined::Short;
+    }
+    if i > rest.len() - end {
+        return Joined::Short;
+    }
+    Joined::Done(end + i)
+}
+
+// What is answered of a list of columns and the rest of the output.
+fn judge(text: &[u8], ends: &[usize], rest: &[u8]) -> Joined
+    ensures { λ r. ⌜ joinedPaper r ≡ listAnswer (now (text .entry)) (now (ends .entry)) (now (rest .entry)) ⌝ }
+{
+    match judge_ends(text, ends) {
+        Ends::Wrong => Joined::Wrong,
+        Ends::Good => {
+            if is_count(ends.len()) {
+                judge_columns(text, ends, rest)
+            } else {
+                Joined::Few
+            }
+        }
+    }
+}
+
+// What stands behind a column: LF behind the last, else a tab.
+fn terminator(last: bool) -> u8
+    ensures { λ r. ⌜ r ≡ pick last 10 9 ⌝ }
+{
+    if last { 10 } else { 9 }
+}
+
+// Writes a column and a byte behind it at the start of the output, and returns how many bytes they are.
+fn put_column(c: &[u8], b: u8, out: &mut [u8]) -> usize
+    requires { ⌜ length (now c) < length (now out) ⌝ }
+    ensures bytes { λ _. ⌜ now (out .exit) ≡ over (now (c .entry) ++ b ∷ []) (now (out .entry)) ⌝ }
+    ensures count { λ r. ⌜ r ≡ length (now (c .entry)) + 1 ⌝ }
+{
+    out[c.len()] = b;
+    copy(c, out);
+    c.len() + 1
+}
+
+// Writes the line from a place of the output on.
+fn put_line(text: &[u8], ends: &[usize], out: &mut [u8], at: usize)
+    requires { ⌜ rising 0 (now ends) (length (now text)) ≡ true ⌝ }
+    requires { ⌜ 0 < length (now ends) ⌝ }
+    requires { ⌜ at + length (lineText (entryList (now text) (now ends))) ≤ length (now out) ⌝ }
+    ensures { λ _. ⌜ now (out .exit) ≡ overAt at (lineText (entryList (now (text .entry)) (now (ends .entry)))) (now (out .entry)) ⌝ }
+{
+    let mut i = 0;
+    let mut place = at;
+    while i < ends.len() {
+        let c = column(text, ends, i);
+        let b = terminator(i + 1 == ends.len());
+        place += put_column(c, b, &mut out[place..]);
+        i += 1;
+    }
+}
+
+// Whether an answer is no refusal.
+fn is_done(r: Joined) -> bool
+    ensures { λ d. ⌜ d ≡ isDone (joinedPaper r) ⌝ }
+{
+    match r {
+        Joined::Done(_) => true,
+        _ => false,
+    }
+}
+
+// Writes columns, given as an entry list, with tabs between and a final LF, at a place of the output.
+pub fn join(text: &[u8], ends: &[usize], out: &mut [u8], at: usize) -> Joined
+    ensures { λ r. ⌜ JoinsAt (now (text .entry)) (now (ends .entry)) at (now (out .entry)) r (now (out .exit)) ⌝ }
+{
+    if at > out.len() {
+        return Joined::Beyond;
+    }
+    let r = judge(text, ends, &out[at..]);
+    if is_done(r) {
+        put_line(text, ends, out, at);
+        return r;
+    }
+    r
+}

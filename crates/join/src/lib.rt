@@ -1,0 +1,2 @@
+// Joining columns to a line: tabs between, and a final LF.
+pub mod columns;
