@@ -115,14 +115,14 @@ line-feed : (cs : List (List ℕ)) (rest : List ℕ) → joined 9 cs ++ (endingB
 unfolding lineText
 line-feed cs rest = rw (feed-bytes, append-assoc)
 
-pub forth : Forth
+pub forth : Forth lineText
 unfolding Forth
 forth cs rest k =
     let n = count-of (length cs) (k .count) in
     let some : 0 < length cs = ⊎-elim (λ h. omega arith) (λ h. omega arith) n in
     record { count = n; each = fine-each 0 cs (k .judged); whole = line-feed cs rest; ended = by-feed (fine-return 0 cs some (k .judged)) }
 
-pub back : Back
+pub back : Back lineText
 unfolding Back
 back s cs rest b =
     record {

@@ -1,28 +1,26 @@
--- What is asked of any joiner and line reader together, as functions on lists (docs/STATEMENTS.md). Assumes nothing.
-use Prim.Native.Nat.{ℕ, _+_}
+-- What is asked of any joiner, by what it writes for a list of columns (docs/STATEMENTS.md). Assumes nothing.
+use Prim.Native.Nat.{ℕ}
 use mathlib.Core.Path.{_≡_}
 use mathlib.Core.Bool.{true}
-use mathlib.Core.List.{List, [], _∷_, _++_}
-use lib.ListN.{length, drop}
-use Rattle.text.specs.Answer.{Answer, says}
-use Rattle.pieces.specs.Pieces.{joined}
-use Rattle.line.specs.Line.{Ending, feed}
+use mathlib.Core.List.{List, _++_}
+use lib.ListN.{length}
+use Rattle.line.specs.Line.{feed}
 use Rattle.line.specs.Demands.{Begins}
-use Rattle.join.specs.Join.{Judged, fine, isCount, columnsJudged, lineText}
+use Rattle.join.specs.Join.{fine, isCount, columnsJudged}
 
 -- columns that the joiner takes: eight, or at least ten, and none refused
 pub record Taken (cs : List (List ℕ)) : Type 0 where
   pub count : isCount (length cs) ≡ true
   pub judged : columnsJudged 0 cs ≡ fine
 
--- what it writes begins with these columns and an LF, whatever follows
-unfoldable pub Forth : Type 0
-Forth = (cs : List (List ℕ)) (rest : List ℕ) → Taken cs → Begins (lineText cs ++ rest) cs feed rest
+-- what it writes for columns that are taken begins with these columns and an LF, whatever follows
+unfoldable pub Forth : (List (List ℕ) → List ℕ) → Type 0
+Forth write = (cs : List (List ℕ)) (rest : List ℕ) → Taken cs → Begins (write cs ++ rest) cs feed rest
 
 -- the columns of a line that ends in LF are taken, and give the bytes consumed
-pub record Again (s : List ℕ) (cs : List (List ℕ)) (rest : List ℕ) : Type 0 where
+pub record Again (write : List (List ℕ) → List ℕ) (s : List ℕ) (cs : List (List ℕ)) (rest : List ℕ) : Type 0 where
   pub taken : Taken cs
-  pub same : lineText cs ++ rest ≡ s
+  pub same : write cs ++ rest ≡ s
 
-unfoldable pub Back : Type 0
-Back = (s : List ℕ) (cs : List (List ℕ)) (rest : List ℕ) → Begins s cs feed rest → Again s cs rest
+unfoldable pub Back : (List (List ℕ) → List ℕ) → Type 0
+Back write = (s : List ℕ) (cs : List (List ℕ)) (rest : List ℕ) → Begins s cs feed rest → Again write s cs rest
