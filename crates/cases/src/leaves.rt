@@ -3,8 +3,8 @@ use crate::output::Answer;
 use crate::output::Buffer;
 use crate::output::Place;
 use crate::output::put_number;
+use crate::output::put_with;
 use crate::output::then_hex;
-use crate::output::then_number;
 use crate::parts::front;
 use crate::parts::part;
 use crate::words::Decoded;
@@ -13,6 +13,7 @@ use crate::words::Text;
 use crate::words::decode;
 use crate::words::is;
 use crate::words::number;
+use crate::words::verb_is;
 use crate::words::word;
 use decimal::print::print_decimal;
 use decimal::read::Number;
@@ -41,7 +42,7 @@ pub fn answer(
 
 // The verbs whose one argument is HEX.
 fn answer_hex(case: &[u8], text: &mut Text, out: &mut Buffer, at: Place) -> Answer {
-    let Decoded::Upto(end) = decode(word(case, 1), text, 0) else {
+    let Decoded::Upto(end) = decode(case, 1, text, 0) else {
         return Answer::NoCase;
     };
     answer_bytes(word(case, 0), part(text, 0, end), out, at)
@@ -72,36 +73,27 @@ fn space(s: &[u8], out: &mut Buffer, at: Place) -> Place {
     let found = find_space(s);
     match found {
         Space::Broken => put_number(out, at, 5),
-        Space::Held => {
-            let next = put_number(out, at, 0);
-            then_number(out, next, 1)
-        }
-        Space::Free => {
-            let next = put_number(out, at, 0);
-            then_number(out, next, 0)
-        }
+        Space::Held => put_with(out, at, 0, 1),
+        Space::Free => put_with(out, at, 0, 0),
     }
 }
 
 fn decimal(s: &[u8], out: &mut Buffer, at: Place) -> Place {
     let read = read_decimal(s);
     match read {
-        Number::Value(n) => {
-            let next = put_number(out, at, 0);
-            then_number(out, next, n)
-        }
+        Number::Value(n) => put_with(out, at, 0, n),
         Number::Bad => put_number(out, at, 12),
     }
 }
 
 fn answer_print(case: &[u8], out: &mut Buffer, at: Place) -> Answer {
-    if !is(word(case, 0), b"print") {
+    if !verb_is(case, b"print") {
         return Answer::NoCase;
     }
-    let Number::Value(room) = number(word(case, 1), ROOM) else {
+    let Number::Value(room) = number(case, 1, ROOM) else {
         return Answer::NoCase;
     };
-    let Number::Value(n) = number(word(case, 2), u64::MAX) else {
+    let Number::Value(n) = number(case, 2, u64::MAX) else {
         return Answer::NoCase;
     };
     let mut space = [0xEEu8; 4096];
@@ -112,8 +104,7 @@ fn print(n: u64, lent: &mut [u8], out: &mut Buffer, at: Place) -> Place {
     let written = print_decimal(n, lent);
     match written {
         Written::Done(len) => {
-            let next = put_number(out, at, 0);
-            let next = then_number(out, next, len as u64);
+            let next = put_with(out, at, 0, len as u64);
             then_hex(out, next, lent)
         }
         Written::Short => {

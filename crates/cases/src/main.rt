@@ -1,6 +1,8 @@
 // Reads cases from standard input, one a line, and prints one answer line for each.
 mod input;
+mod joining;
 mod leaves;
+mod lines;
 mod output;
 mod parts;
 mod verbs;

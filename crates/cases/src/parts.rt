@@ -11,6 +11,14 @@ pub fn part(s: &[u8], from: usize, end: usize) -> &[u8] {
     &s[from..end]
 }
 
+// The first n numbers, or all where there are fewer.
+pub fn first(row: &[usize], n: usize) -> &[usize] {
+    if n > row.len() {
+        return row;
+    }
+    &row[0..n]
+}
+
 // The first n bytes, or all where there are fewer.
 pub fn front(s: &mut [u8], n: usize) -> &mut [u8] {
     if n > s.len() {

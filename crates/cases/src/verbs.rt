@@ -1,6 +1,8 @@
 // The answer line of a case. Each area is a module that answers the verbs it knows; they are asked
 // in turn.
+use crate::joining;
 use crate::leaves;
+use crate::lines;
 use crate::output::Answer;
 use crate::output::Buffer;
 use crate::output::Place;
@@ -9,12 +11,25 @@ use crate::words::Text;
 use pieces::count::count_byte;
 
 pub fn answer(case: &[u8], text: &mut Text, out: &mut Buffer, at: Place) -> Place {
+    let given = ask(case, text, out, at);
+    match given {
+        Answer::Given(next) => put_byte(out, next, b'\n'),
+        Answer::NoCase => refuse(out, at),
+    }
+}
+
+fn ask(case: &[u8], text: &mut Text, out: &mut Buffer, at: Place) -> Answer {
     // a case has a space for each argument
     let arguments = count_byte(case, b' ');
-    if let Answer::Given(next) = leaves::answer(case, arguments, text, out, at) {
-        return put_byte(out, next, b'\n');
+    let given = leaves::answer(case, arguments, text, out, at);
+    if let Answer::Given(_) = given {
+        return given;
     }
-    refuse(out, at)
+    let given = lines::answer(case, arguments, text, out, at);
+    if let Answer::Given(_) = given {
+        return given;
+    }
+    joining::answer(case, arguments, text, out, at)
 }
 
 // The answer line of what is no case.

@@ -1,10 +1,10 @@
-// The words of a case, and its arguments as numbers and bytes.
+// The words of a case, and its arguments as numbers, rows of numbers and bytes.
 use crate::parts::part;
 use decimal::read::Number;
 use decimal::read::read_decimal;
 use pieces::step::Step;
 use pieces::step::piece_at;
-ghost use Prim.Native.Nat.{_≤_};
+ghost use Prim.Native.Nat.{_≤_, _<_};
 
 // The most bytes of output that a case may lend.
 pub const ROOM: u64 = 4096;
@@ -52,6 +52,10 @@ pub fn word(case: &[u8], k: usize) -> &[u8] {
     piece(case, b' ', k)
 }
 
+pub fn verb_is(case: &[u8], verb: &[u8]) -> bool {
+    is(word(case, 0), verb)
+}
+
 pub fn is(s: &[u8], t: &[u8]) -> bool {
     if s.len() != t.len() {
         return false;
@@ -66,9 +70,25 @@ pub fn is(s: &[u8], t: &[u8]) -> bool {
     true
 }
 
-// A number of at most `most`. The reader takes a plus sign and leading zeros too, which a case may
-// not have.
-pub fn number(s: &[u8], most: u64) -> Number {
+// Which of the first n words of `names` s is, or n.
+pub fn index_in(names: &[u8], n: usize, s: &[u8]) -> usize {
+    let mut k = 0;
+    while k < n {
+        if is(s, word(names, k)) {
+            return k;
+        }
+        k += 1;
+    }
+    n
+}
+
+// Word k of a case as a number of at most `most`.
+pub fn number(case: &[u8], k: usize, most: u64) -> Number {
+    number_of(word(case, k), most)
+}
+
+// The reader takes a plus sign and leading zeros too, which a case may not have.
+fn number_of(s: &[u8], most: u64) -> Number {
     if s.len() == 0 {
         return Number::Bad;
     }
@@ -85,6 +105,47 @@ pub fn number(s: &[u8], most: u64) -> Number {
         return Number::Bad;
     }
     Number::Value(n)
+}
+
+// The most numbers that a row of a case may have.
+const MOST: usize = 1024;
+
+pub type Row = [usize; MOST];
+
+// How many numbers a row has, or that the word is none.
+pub enum Counted {
+    Of(usize),
+    Bad,
+}
+
+// Word k of a case as numbers joined by commas, `-` for none, put into a row from its start on.
+pub fn numbers(case: &[u8], k: usize, row: &mut Row) -> Counted {
+    numbers_of(word(case, k), row)
+}
+
+fn numbers_of(s: &[u8], row: &mut Row) -> Counted {
+    if is(s, b"-") {
+        return Counted::Of(0);
+    }
+    split_numbers(s, row)
+}
+
+fn split_numbers(s: &[u8], row: &mut Row) -> Counted {
+    let mut at = 0;
+    let mut n = 0;
+    while n < MOST {
+        let end = mark_from(s, b',', at);
+        let Number::Value(value) = number_of(part(s, at, end), u64::MAX) else {
+            return Counted::Bad;
+        };
+        row[n] = value as usize;
+        n += 1;
+        if end >= s.len() {
+            return Counted::Of(n);
+        }
+        at = end + 1;
+    }
+    Counted::Bad
 }
 
 // The byte that two hex digits make, or that one of them is none.
@@ -122,8 +183,12 @@ pub enum Decoded {
     Bad,
 }
 
-// Puts the bytes of a HEX into text from a place on, which a second HEX can go on from.
-pub fn decode(s: &[u8], text: &mut [u8], from: usize) -> Decoded {
+// Puts the bytes of word k, a HEX, into text from a place on, which a second HEX can go on from.
+pub fn decode(case: &[u8], k: usize, text: &mut [u8], from: usize) -> Decoded {
+    decode_word(word(case, k), text, from)
+}
+
+fn decode_word(s: &[u8], text: &mut [u8], from: usize) -> Decoded {
     if s.len() == 0 {
         return Decoded::Bad;
     }
@@ -151,4 +216,23 @@ fn decode_pairs(s: &[u8], text: &mut [u8], from: usize) -> Decoded {
         i += 2;
     }
     Decoded::Upto(end)
+}
+
+// The place past the bytes of a HEX, and the number of the word after it.
+pub enum Placed {
+    At(usize, usize),
+    Bad,
+}
+
+// Word k of a case as a HEX, put into text from its start on, and the word after it as a number.
+pub fn decode_and_number(case: &[u8], k: usize, text: &mut [u8]) -> Placed
+    requires { ⌜ k < 65536 ⌝ }
+{
+    let Decoded::Upto(end) = decode(case, k, text, 0) else {
+        return Placed::Bad;
+    };
+    let Number::Value(n) = number(case, k + 1, u64::MAX) else {
+        return Placed::Bad;
+    };
+    Placed::At(end, n as usize)
 }

@@ -9,7 +9,7 @@ use Rattle.text.specs.Pick.{pick}
 use Rattle.text.specs.Answer.{Answer, says}
 use Rattle.text.specs.declared.range.Range.{Range}
 use Rattle.line.specs.Line.{readAnswer}
-use Rattle.line.specs.Fields.{placeAnswer, fieldAnswer}
+use Rattle.line.specs.Fields.{rangeOf, placeAnswer, fieldAnswer}
 use Rattle.line.specs.Pos.{posAnswer}
 use Rattle.line.specs.Paper.{recordPlaces, readPaper, fieldPaper, positionPaper}
 use Rattle.line.specs.declared.read.Record.{Record}
@@ -80,6 +80,9 @@ text-back F.Beyond = refl
 
 pub field-paper-injective : (x y : Text) → fieldPaper x ≡ fieldPaper y → x ≡ y
 field-paper-injective = LeftInverse·injective textOf fieldPaper text-back
+
+pub place-of-determined : (line : Record) (name : Name) (r r′ : Range) → r ≡ rangeOf line name → r′ ≡ rangeOf line name → r ≡ r′
+place-of-determined line name r r′ p q = p ∙ sym q
 
 pub place-determined : (s : List ℕ) (range : Range) (r r′ : Text) → fieldPaper r ≡ placeAnswer s range → fieldPaper r′ ≡ placeAnswer s range → r ≡ r′
 place-determined s range r r′ p q = field-paper-injective r r′ (p ∙ sym q)

@@ -8,7 +8,7 @@ use lib.ListN.{length, getD, drop, length-drop}
 use lib.Seq.{length-take-le}
 use lib.Dec.{leb, eqb}
 use borrow.Author.Tests.{le-leb, lt-leb, leb-true}
-use Rattle.text.specs.Answer.{says}
+use Rattle.text.specs.Answer.{Answer, says}
 use Rattle.text.specs.Range.{cut}
 use Rattle.text.specs.declared.range.Range.{Range}
 use Rattle.text.proofs.Lists.{here, cut-is}
@@ -21,49 +21,6 @@ use Rattle.line.specs.declared.fields.Name.the-variants as N
 use Rattle.line.specs.declared.fields.Text.{Text}
 use Rattle.line.specs.declared.fields.Text.the-variants as F
 use Rattle.line.proofs.PosLaws.{byte-not}
-
--- ---- the field's range in a record
-
-module _ (line : Record) {name : Name} where
-  pub of-chrom : name ≡ N.Chrom → line .chrom ≡ rangeOf line name
-  unfolding rangeOf
-  of-chrom e = rw e
-
-  pub of-pos : name ≡ N.Pos → line .pos ≡ rangeOf line name
-  unfolding rangeOf
-  of-pos e = rw e
-
-  pub of-id : name ≡ N.Id → line .id ≡ rangeOf line name
-  unfolding rangeOf
-  of-id e = rw e
-
-  pub of-reference : name ≡ N.Reference → line .reference ≡ rangeOf line name
-  unfolding rangeOf
-  of-reference e = rw e
-
-  pub of-alt : name ≡ N.Alt → line .alt ≡ rangeOf line name
-  unfolding rangeOf
-  of-alt e = rw e
-
-  pub of-qual : name ≡ N.Qual → line .qual ≡ rangeOf line name
-  unfolding rangeOf
-  of-qual e = rw e
-
-  pub of-filter : name ≡ N.Filter → line .filter ≡ rangeOf line name
-  unfolding rangeOf
-  of-filter e = rw e
-
-  pub of-info : name ≡ N.Info → line .info ≡ rangeOf line name
-  unfolding rangeOf
-  of-info e = rw e
-
-  pub of-format : name ≡ N.Format → line .format ≡ rangeOf line name
-  unfolding rangeOf
-  of-format e = rw e
-
-  pub of-samples : name ≡ N.Samples → line .samples ≡ rangeOf line name
-  unfolding rangeOf
-  of-samples e = rw e
 
 -- ---- a place in a buffer
 
@@ -124,46 +81,9 @@ module _ (s : List ℕ) (r : Range) where
 
 -- ---- what a `.` reads as
 
-module _ (r : Range) {name : Name} where
-  pub reads-chrom : name ≡ N.Chrom → fieldPaper (F.At r) ≡ dotAnswer name r
-  unfolding fieldPaper dotAnswer
-  reads-chrom e = rw e
-
-  pub reads-pos : name ≡ N.Pos → fieldPaper (F.At r) ≡ dotAnswer name r
-  unfolding fieldPaper dotAnswer
-  reads-pos e = rw e
-
-  pub reads-id : name ≡ N.Id → fieldPaper (F.At (record { start = r .start + r .len; len = 0 })) ≡ dotAnswer name r
-  unfolding fieldPaper dotAnswer
-  reads-id e = rw e
-
-  pub reads-reference : name ≡ N.Reference → fieldPaper (F.At r) ≡ dotAnswer name r
-  unfolding fieldPaper dotAnswer
-  reads-reference e = rw e
-
-  pub reads-alt : name ≡ N.Alt → fieldPaper (F.At (record { start = r .start + r .len; len = 0 })) ≡ dotAnswer name r
-  unfolding fieldPaper dotAnswer
-  reads-alt e = rw e
-
-  pub reads-qual : name ≡ N.Qual → fieldPaper F.Absent ≡ dotAnswer name r
-  unfolding fieldPaper dotAnswer
-  reads-qual e = rw e
-
-  pub reads-filter : name ≡ N.Filter → fieldPaper (F.At (record { start = r .start + r .len; len = 0 })) ≡ dotAnswer name r
-  unfolding fieldPaper dotAnswer
-  reads-filter e = rw e
-
-  pub reads-info : name ≡ N.Info → fieldPaper (F.At (record { start = r .start + r .len; len = 0 })) ≡ dotAnswer name r
-  unfolding fieldPaper dotAnswer
-  reads-info e = rw e
-
-  pub reads-format : name ≡ N.Format → fieldPaper (F.At r) ≡ dotAnswer name r
-  unfolding fieldPaper dotAnswer
-  reads-format e = rw e
-
-  pub reads-samples : name ≡ N.Samples → fieldPaper (F.At r) ≡ dotAnswer name r
-  unfolding fieldPaper dotAnswer
-  reads-samples e = rw e
+-- the answer for the name that it is known to be
+pub dot-known : (r : Range) {name known : Name} {a : Answer} → name ≡ known → a ≡ dotAnswer known r → a ≡ dotAnswer name r
+dot-known r e q = rw e q
 
 -- ---- a field
 
@@ -218,4 +138,4 @@ module _ (s : List ℕ) (line : Record) where
   unfolding fieldAnswer textAnswer placeAnswer
   field-stands name f h = rw (f, byte-not 46 (cut (rangeOf line name) s) h)
 
-pub ruleset laws = (of-chrom, of-pos, of-id, of-reference, of-alt, of-qual, of-filter, of-info, of-format, of-samples, place-far, place-long, place-fits, dot-not-one, dot-past, dot-at, reads-chrom, reads-pos, reads-id, reads-reference, reads-alt, reads-qual, reads-filter, reads-info, reads-format, reads-samples, field-dot, field-place)
+pub ruleset laws = (place-far, place-long, place-fits, dot-not-one, dot-past, dot-at, field-dot, field-place)

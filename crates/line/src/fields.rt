@@ -33,8 +33,8 @@ pub enum Text {
     Beyond,
 }
 
-// The field's range in a record.
-fn range_of(line: Record, name: Name) -> Range
+// The place of a field of the record's line, a `.` as it stands.
+pub fn place_of(line: Record, name: Name) -> Range
     ensures { λ r. ⌜ r ≡ rangeOf line name ⌝ }
 {
     match name {
@@ -111,7 +111,7 @@ fn dot(name: Name, range: Range) -> Text
 pub fn field(s: &[u8], line: Record, name: Name) -> Text
     ensures { λ r. ⌜ fieldPaper r ≡ fieldAnswer (now (s .entry)) line name ⌝ }
 {
-    let range = range_of(line, name);
+    let range = place_of(line, name);
     if is_dot(s, range) {
         return dot(name, range);
     }

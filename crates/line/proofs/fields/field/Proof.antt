@@ -5,15 +5,15 @@ use Rattle.line.proofs.FieldLaws.{dot-within, laws}
 use Rattle.line.proofs.fields.field.Statement.{statement}
 use Rattle.line.proofs.fields.field.Tie as tie
 
-range-of-requires : tie.Need-range-of-requires
-range-of-requires c κs = search (needs, laws)
+place-of-requires : tie.Need-place-of-requires
+place-of-requires c κs = search (needs, laws)
 
 is-dot-requires : tie.Need-is-dot-requires
 is-dot-requires c κs = search (needs, laws)
 
 dot-requires : tie.Need-dot-requires
 dot-requires c κs =
-    let h = dot-within (c .before .before .before .before .args .s .now) (c .before .before .range-of .result) (c .before .is-dot .ensures) (c .if1 .taken) in
+    let h = dot-within (c .before .before .before .before .args .s .now) (c .before .before .place-of .result) (c .before .is-dot .ensures) (c .if1 .taken) in
     omega arith
 
 returns : tie.Need-returns
@@ -28,4 +28,4 @@ returns-2 c = search (needs, laws)
 pub field-spec : {M : Type 1} → statement M
 field-spec =
     tie.close
-    (tie.spec range-of-requires is-dot-requires dot-requires returns place-in-requires returns-2)
+    (tie.spec place-of-requires is-dot-requires dot-requires returns place-in-requires returns-2)

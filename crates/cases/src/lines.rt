@@ -1,0 +1,204 @@
+// The verbs of the crate line.
+use crate::output::Answer;
+use crate::output::Buffer;
+use crate::output::Place;
+use crate::output::put_number;
+use crate::output::put_with;
+use crate::output::then_bytes;
+use crate::output::then_number;
+use crate::parts::part;
+use crate::words::Decoded;
+use crate::words::Placed;
+use crate::words::Text;
+use crate::words::decode;
+use crate::words::decode_and_number;
+use crate::words::index_in;
+use crate::words::number;
+use crate::words::word;
+use decimal::read::Number;
+use line::fields;
+use line::fields::Name;
+use line::fields::field;
+use line::fields::place_in;
+use line::fields::place_of;
+use line::pos::Position;
+use line::pos::read_pos;
+use line::read::Read;
+use line::read::Record;
+use line::read::read_line;
+use text::range::Range;
+
+pub fn answer(
+    case: &[u8],
+    arguments: usize,
+    text: &mut Text,
+    out: &mut Buffer,
+    at: Place,
+) -> Answer {
+    let verb = index_in(b"pos line field place", 4, word(case, 0));
+    if arguments != takes(verb) {
+        return Answer::NoCase;
+    }
+    match verb {
+        0 => answer_pos(case, text, out, at),
+        1 => answer_line(case, text, out, at),
+        2 => answer_field(case, text, out, at),
+        3 => answer_place(case, text, out, at),
+        _ => Answer::NoCase,
+    }
+}
+
+// How many arguments a verb has.
+fn takes(verb: usize) -> usize {
+    match verb {
+        0 => 1,
+        1 => 2,
+        _ => 3,
+    }
+}
+
+fn answer_pos(case: &[u8], text: &mut Text, out: &mut Buffer, at: Place) -> Answer {
+    let Decoded::Upto(end) = decode(case, 1, text, 0) else {
+        return Answer::NoCase;
+    };
+    Answer::Given(pos(part(text, 0, end), out, at))
+}
+
+fn pos(s: &[u8], out: &mut Buffer, at: Place) -> Place {
+    let read = read_pos(s);
+    match read {
+        Position::At(n) => put_with(out, at, 0, n),
+        Position::Nowhere => {
+            let next = put_number(out, at, 0);
+            then_bytes(out, next, b"none")
+        }
+        Position::Bad => put_number(out, at, 21),
+    }
+}
+
+fn answer_line(case: &[u8], text: &mut Text, out: &mut Buffer, at: Place) -> Answer {
+    let Placed::At(end, from) = decode_and_number(case, 1, text) else {
+        return Answer::NoCase;
+    };
+    Answer::Given(line(part(text, 0, end), from, out, at))
+}
+
+fn line(s: &[u8], from: usize, out: &mut Buffer, at: Place) -> Place {
+    let read = read_line(s, from);
+    let then = put_with(out, at, number_of(read), next_of(read) as u64);
+    if let Read::Line(record, _) = read {
+        return then_places(record, out, then);
+    }
+    then
+}
+
+fn number_of(read: Read) -> u64 {
+    match read {
+        Read::Line(_, _) => 0,
+        Read::End(_) => 1,
+        Read::Empty(_) => 2,
+        Read::Fed(_) => 3,
+        Read::Cut(_) => 4,
+        Read::NotUtf8(_) => 5,
+        Read::Beyond(_) => 6,
+    }
+}
+
+fn next_of(read: Read) -> usize {
+    match read {
+        Read::Line(_, next) => next,
+        Read::End(next) => next,
+        Read::Empty(next) => next,
+        Read::Fed(next) => next,
+        Read::Cut(next) => next,
+        Read::NotUtf8(next) => next,
+        Read::Beyond(next) => next,
+    }
+}
+
+fn then_places(record: Record, out: &mut Buffer, at: Place) -> Place {
+    let mut next = at;
+    let mut k = 0;
+    while k < NAMES {
+        next = then_range(place_of(record, name(k)), out, next);
+        k += 1;
+    }
+    next
+}
+
+fn then_range(range: Range, out: &mut Buffer, at: Place) -> Place {
+    let start = range.start;
+    let len = range.len;
+    let next = then_number(out, at, start as u64);
+    then_number(out, next, len as u64)
+}
+
+const NAMES: usize = 10;
+
+// Name k of a line's fields, in their order.
+fn name(k: usize) -> Name {
+    match k {
+        0 => Name::Chrom,
+        1 => Name::Pos,
+        2 => Name::Id,
+        3 => Name::Reference,
+        4 => Name::Alt,
+        5 => Name::Qual,
+        6 => Name::Filter,
+        7 => Name::Info,
+        8 => Name::Format,
+        _ => Name::Samples,
+    }
+}
+
+fn answer_field(case: &[u8], text: &mut Text, out: &mut Buffer, at: Place) -> Answer {
+    let k = index_in(
+        b"chrom pos id ref alt qual filter info format samples",
+        NAMES,
+        word(case, 1),
+    );
+    if k == NAMES {
+        return Answer::NoCase;
+    }
+    let Placed::At(end, from) = decode_and_number(case, 2, text) else {
+        return Answer::NoCase;
+    };
+    Answer::Given(field_at(part(text, 0, end), from, name(k), out, at))
+}
+
+fn field_at(s: &[u8], from: usize, name: Name, out: &mut Buffer, at: Place) -> Place {
+    let read = read_line(s, from);
+    if let Read::Line(record, _) = read {
+        return put_text(field(s, record, name), out, at);
+    }
+    put_number(out, at, number_of(read))
+}
+
+fn answer_place(case: &[u8], text: &mut Text, out: &mut Buffer, at: Place) -> Answer {
+    let Placed::At(end, start) = decode_and_number(case, 1, text) else {
+        return Answer::NoCase;
+    };
+    let Number::Value(len) = number(case, 3, u64::MAX) else {
+        return Answer::NoCase;
+    };
+    Answer::Given(place(part(text, 0, end), start, len as usize, out, at))
+}
+
+fn place(s: &[u8], start: usize, len: usize, out: &mut Buffer, at: Place) -> Place {
+    put_text(place_in(s, Range { start, len }), out, at)
+}
+
+// What a field's text is.
+fn put_text(found: fields::Text, out: &mut Buffer, at: Place) -> Place {
+    match found {
+        fields::Text::At(range) => {
+            let next = put_number(out, at, 0);
+            then_range(range, out, next)
+        }
+        fields::Text::Absent => {
+            let next = put_number(out, at, 0);
+            then_bytes(out, next, b"absent")
+        }
+        fields::Text::Beyond => put_number(out, at, 6),
+    }
+}
