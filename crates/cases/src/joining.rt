@@ -14,9 +14,10 @@ use crate::words::ROOM;
 use crate::words::Row;
 use crate::words::Text;
 use crate::words::decode;
+use crate::words::is;
 use crate::words::number;
 use crate::words::numbers;
-use crate::words::verb_is;
+use crate::words::word;
 use decimal::read::Number;
 use join::columns;
 use join::columns::Joined;
@@ -31,7 +32,7 @@ pub fn answer(
     if arguments != 4 {
         return Answer::NoCase;
     }
-    if !verb_is(case, b"join") {
+    if !is(word(case, 0), b"join") {
         return Answer::NoCase;
     }
     let mut ends = [0usize; 1024];

@@ -2,8 +2,8 @@
 use crate::output::Answer;
 use crate::output::Buffer;
 use crate::output::Place;
-use crate::output::put_number;
-use crate::output::put_with;
+use crate::output::Said;
+use crate::output::put_said;
 use crate::output::then_hex;
 use crate::parts::front;
 use crate::parts::part;
@@ -11,9 +11,8 @@ use crate::words::Decoded;
 use crate::words::ROOM;
 use crate::words::Text;
 use crate::words::decode;
-use crate::words::is;
+use crate::words::index_in;
 use crate::words::number;
-use crate::words::verb_is;
 use crate::words::word;
 use decimal::print::print_decimal;
 use decimal::read::Number;
@@ -31,65 +30,64 @@ pub fn answer(
     out: &mut Buffer,
     at: Place,
 ) -> Answer {
-    if arguments == 1 {
-        return answer_hex(case, text, out, at);
+    let verb = index_in(b"utf8 space decimal print", 4, word(case, 0));
+    if arguments != takes(verb) {
+        return Answer::NoCase;
     }
-    if arguments == 2 {
-        return answer_print(case, out, at);
+    match verb {
+        0 | 1 | 2 => answer_hex(case, verb, text, out, at),
+        3 => answer_print(case, out, at),
+        _ => Answer::NoCase,
     }
-    Answer::NoCase
+}
+
+// How many arguments a verb has.
+fn takes(verb: usize) -> usize {
+    if verb == 3 { 2 } else { 1 }
 }
 
 // The verbs whose one argument is HEX.
-fn answer_hex(case: &[u8], text: &mut Text, out: &mut Buffer, at: Place) -> Answer {
+fn answer_hex(case: &[u8], verb: usize, text: &mut Text, out: &mut Buffer, at: Place) -> Answer {
     let Decoded::Upto(end) = decode(case, 1, text, 0) else {
         return Answer::NoCase;
     };
-    answer_bytes(word(case, 0), part(text, 0, end), out, at)
+    Answer::Given(put_said(out, at, said(verb, part(text, 0, end))))
 }
 
-fn answer_bytes(verb: &[u8], s: &[u8], out: &mut Buffer, at: Place) -> Answer {
-    if is(verb, b"utf8") {
-        return Answer::Given(utf8(s, out, at));
+fn said(verb: usize, s: &[u8]) -> Said {
+    match verb {
+        0 => utf8(s),
+        1 => space(s),
+        _ => decimal(s),
     }
-    if is(verb, b"space") {
-        return Answer::Given(space(s, out, at));
-    }
-    if is(verb, b"decimal") {
-        return Answer::Given(decimal(s, out, at));
-    }
-    Answer::NoCase
 }
 
-fn utf8(s: &[u8], out: &mut Buffer, at: Place) -> Place {
+fn utf8(s: &[u8]) -> Said {
     let found = check_utf8(s);
     match found {
-        Utf8::Text => put_number(out, at, 0),
-        Utf8::Broken => put_number(out, at, 5),
+        Utf8::Text => Said::Alone(0),
+        Utf8::Broken => Said::Alone(5),
     }
 }
 
-fn space(s: &[u8], out: &mut Buffer, at: Place) -> Place {
+fn space(s: &[u8]) -> Said {
     let found = find_space(s);
     match found {
-        Space::Broken => put_number(out, at, 5),
-        Space::Held => put_with(out, at, 0, 1),
-        Space::Free => put_with(out, at, 0, 0),
+        Space::Broken => Said::Alone(5),
+        Space::Held => Said::With(0, 1),
+        Space::Free => Said::With(0, 0),
     }
 }
 
-fn decimal(s: &[u8], out: &mut Buffer, at: Place) -> Place {
+fn decimal(s: &[u8]) -> Said {
     let read = read_decimal(s);
     match read {
-        Number::Value(n) => put_with(out, at, 0, n),
-        Number::Bad => put_number(out, at, 12),
+        Number::Value(n) => Said::With(0, n),
+        Number::Bad => Said::Alone(12),
     }
 }
 
 fn answer_print(case: &[u8], out: &mut Buffer, at: Place) -> Answer {
-    if !verb_is(case, b"print") {
-        return Answer::NoCase;
-    }
     let Number::Value(room) = number(case, 1, ROOM) else {
         return Answer::NoCase;
     };
@@ -101,15 +99,15 @@ fn answer_print(case: &[u8], out: &mut Buffer, at: Place) -> Answer {
 }
 
 fn print(n: u64, lent: &mut [u8], out: &mut Buffer, at: Place) -> Place {
+    let said = printed(n, lent);
+    let next = put_said(out, at, said);
+    then_hex(out, next, lent)
+}
+
+fn printed(n: u64, lent: &mut [u8]) -> Said {
     let written = print_decimal(n, lent);
     match written {
-        Written::Done(len) => {
-            let next = put_with(out, at, 0, len as u64);
-            then_hex(out, next, lent)
-        }
-        Written::Short => {
-            let next = put_number(out, at, 17);
-            then_hex(out, next, lent)
-        }
+        Written::Done(len) => Said::With(0, len as u64),
+        Written::Short => Said::Alone(17),
     }
 }

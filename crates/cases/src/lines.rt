@@ -2,8 +2,9 @@
 use crate::output::Answer;
 use crate::output::Buffer;
 use crate::output::Place;
+use crate::output::Said;
 use crate::output::put_number;
-use crate::output::put_with;
+use crate::output::put_said;
 use crate::output::then_bytes;
 use crate::output::then_number;
 use crate::parts::part;
@@ -67,7 +68,7 @@ fn answer_pos(case: &[u8], text: &mut Text, out: &mut Buffer, at: Place) -> Answ
 fn pos(s: &[u8], out: &mut Buffer, at: Place) -> Place {
     let read = read_pos(s);
     match read {
-        Position::At(n) => put_with(out, at, 0, n),
+        Position::At(n) => put_said(out, at, Said::With(0, n)),
         Position::Nowhere => {
             let next = put_number(out, at, 0);
             then_bytes(out, next, b"none")
@@ -85,34 +86,31 @@ fn answer_line(case: &[u8], text: &mut Text, out: &mut Buffer, at: Place) -> Ans
 
 fn line(s: &[u8], from: usize, out: &mut Buffer, at: Place) -> Place {
     let read = read_line(s, from);
-    let then = put_with(out, at, number_of(read), next_of(read) as u64);
+    let told = tell(read);
+    let number = told.number;
+    let next = told.next;
+    let then = put_said(out, at, Said::With(number, next as u64));
     if let Read::Line(record, _) = read {
         return then_places(record, out, then);
     }
     then
 }
 
-fn number_of(read: Read) -> u64 {
-    match read {
-        Read::Line(_, _) => 0,
-        Read::End(_) => 1,
-        Read::Empty(_) => 2,
-        Read::Fed(_) => 3,
-        Read::Cut(_) => 4,
-        Read::NotUtf8(_) => 5,
-        Read::Beyond(_) => 6,
-    }
+// A reading's number, and the next place.
+struct Told {
+    number: u64,
+    next: usize,
 }
 
-fn next_of(read: Read) -> usize {
+fn tell(read: Read) -> Told {
     match read {
-        Read::Line(_, next) => next,
-        Read::End(next) => next,
-        Read::Empty(next) => next,
-        Read::Fed(next) => next,
-        Read::Cut(next) => next,
-        Read::NotUtf8(next) => next,
-        Read::Beyond(next) => next,
+        Read::Line(_, next) => Told { number: 0, next },
+        Read::End(next) => Told { number: 1, next },
+        Read::Empty(next) => Told { number: 2, next },
+        Read::Fed(next) => Told { number: 3, next },
+        Read::Cut(next) => Told { number: 4, next },
+        Read::NotUtf8(next) => Told { number: 5, next },
+        Read::Beyond(next) => Told { number: 6, next },
     }
 }
 
@@ -171,7 +169,9 @@ fn field_at(s: &[u8], from: usize, name: Name, out: &mut Buffer, at: Place) -> P
     if let Read::Line(record, _) = read {
         return put_text(field(s, record, name), out, at);
     }
-    put_number(out, at, number_of(read))
+    let told = tell(read);
+    let number = told.number;
+    put_number(out, at, number)
 }
 
 fn answer_place(case: &[u8], text: &mut Text, out: &mut Buffer, at: Place) -> Answer {

@@ -87,12 +87,6 @@ pub fn then_number(out: &mut Buffer, at: Place, n: u64) -> Place {
     put_number(out, next, n)
 }
 
-// An answer's number, and the value that comes with it.
-pub fn put_with(out: &mut Buffer, at: Place, n: u64, value: u64) -> Place {
-    let next = put_number(out, at, n);
-    then_number(out, next, value)
-}
-
 // A space, and then the bytes as they are.
 pub fn then_bytes(out: &mut Buffer, at: Place, s: &[u8]) -> Place {
     let next = put_byte(out, at, b' ');
@@ -114,6 +108,9 @@ pub enum Said {
 pub fn put_said(out: &mut Buffer, at: Place, said: Said) -> Place {
     match said {
         Said::Alone(n) => put_number(out, at, n),
-        Said::With(n, value) => put_with(out, at, n, value),
+        Said::With(n, value) => {
+            let next = put_number(out, at, n);
+            then_number(out, next, value)
+        }
     }
 }

@@ -9,8 +9,10 @@ ghost use Prim.Native.Nat.{_≤_, _<_};
 // The most bytes of output that a case may lend.
 pub const ROOM: u64 = 4096;
 
-// Room for the bytes of every HEX of a case, which has two digits for each.
-pub type Text = [u8; 32768];
+// As many bytes as every HEX of a case can have, with two digits for each.
+const BYTES: usize = 32768;
+
+pub type Text = [u8; BYTES];
 
 // The place of the first mark from a place on, or one that is past every byte of s.
 pub fn mark_from(s: &[u8], mark: u8, from: usize) -> usize
@@ -50,10 +52,6 @@ pub fn piece(s: &[u8], mark: u8, k: usize) -> &[u8] {
 // starts or ends with one, and no verb and no argument is empty.
 pub fn word(case: &[u8], k: usize) -> &[u8] {
     piece(case, b' ', k)
-}
-
-pub fn verb_is(case: &[u8], verb: &[u8]) -> bool {
-    is(word(case, 0), verb)
 }
 
 pub fn is(s: &[u8], t: &[u8]) -> bool {
@@ -184,11 +182,11 @@ pub enum Decoded {
 }
 
 // Puts the bytes of word k, a HEX, into text from a place on, which a second HEX can go on from.
-pub fn decode(case: &[u8], k: usize, text: &mut [u8], from: usize) -> Decoded {
+pub fn decode(case: &[u8], k: usize, text: &mut Text, from: usize) -> Decoded {
     decode_word(word(case, k), text, from)
 }
 
-fn decode_word(s: &[u8], text: &mut [u8], from: usize) -> Decoded {
+fn decode_word(s: &[u8], text: &mut Text, from: usize) -> Decoded {
     if s.len() == 0 {
         return Decoded::Bad;
     }
@@ -198,14 +196,14 @@ fn decode_word(s: &[u8], text: &mut [u8], from: usize) -> Decoded {
     decode_pairs(s, text, from)
 }
 
-fn decode_pairs(s: &[u8], text: &mut [u8], from: usize) -> Decoded {
+fn decode_pairs(s: &[u8], text: &mut Text, from: usize) -> Decoded {
     let mut end = from;
     let mut i = 0;
     while i < s.len() {
         if s.len() - i < 2 {
             return Decoded::Bad;
         }
-        if end >= text.len() {
+        if end >= BYTES {
             return Decoded::Bad;
         }
         let Pair::Byte(b) = byte_of(s[i], s[i + 1]) else {
@@ -225,7 +223,7 @@ pub enum Placed {
 }
 
 // Word k of a case as a HEX, put into text from its start on, and the word after it as a number.
-pub fn decode_and_number(case: &[u8], k: usize, text: &mut [u8]) -> Placed
+pub fn decode_and_number(case: &[u8], k: usize, text: &mut Text) -> Placed
     requires { ⌜ k < 65536 ⌝ }
 {
     let Decoded::Upto(end) = decode(case, k, text, 0) else {

@@ -1,5 +1,4 @@
--- `cases::words::decode_pairs` is safe and ends: each index has its own test, the lent slice keeps its length, and the measure is how many digits are left. Assumes nothing.
-use mathlib.Core.Path.{_≡_}
+-- `cases::words::decode_pairs` is safe and ends: each index has its own test, and the measure is how many digits are left. Assumes nothing.
 use Prim.Native.Nat.{_-_}
 use lib.ListN.{length}
 use borrow.Author.Needs.{needs}
@@ -7,7 +6,7 @@ use Rattle.cases.proofs.words.decode_pairs.Statement.{statement}
 use Rattle.cases.proofs.words.decode_pairs.Tie as tie
 
 abbrev Inv-loop : tie.InvT-loop
-Inv-loop s text₀ from end₀ i₀ text end i = length text ≡ length text₀
+Inv-loop s text₀ from end₀ i₀ text end i = Unit {0}
 
 abbrev μ-loop : tie.MeasureT-loop
 μ-loop s text₀ from end₀ i₀ text end i = length s - i
@@ -18,14 +17,8 @@ loop-holds c = search needs
 sub-if1 : tie.Need-sub-if1 Inv-loop μ-loop
 sub-if1 c = search needs
 
-same-length : tie.Need-same-length Inv-loop μ-loop
-same-length c = search needs
-
 returns : tie.Need-returns Inv-loop μ-loop
 returns c = search needs
-
-same-length-2 : tie.Need-same-length-2 Inv-loop μ-loop
-same-length-2 c = search needs
 
 returns-2 : tie.Need-returns-2 Inv-loop μ-loop
 returns-2 c = search needs
@@ -48,14 +41,11 @@ enum-known-b c = search needs
 enum-told : tie.Need-enum-told Inv-loop μ-loop
 enum-told c = search needs
 
-same-length-3 : tie.Need-same-length-3 Inv-loop μ-loop
-same-length-3 c = search needs
-
 returns-3 : tie.Need-returns-3 Inv-loop μ-loop
 returns-3 c = search needs
 
-slice-write-text : tie.Need-slice-write-text Inv-loop μ-loop
-slice-write-text c = search needs
+element-write-text : tie.Need-element-write-text Inv-loop μ-loop
+element-write-text c = search needs
 
 add-end : tie.Need-add-end Inv-loop μ-loop
 add-end c = search needs
@@ -69,9 +59,6 @@ loop-less c = search needs
 loop-again : tie.Need-loop-again Inv-loop μ-loop
 loop-again c = search needs
 
-same-length-4 : tie.Need-same-length-4 Inv-loop μ-loop
-same-length-4 c = search needs
-
 returns-4 : tie.Need-returns-4 Inv-loop μ-loop
 returns-4 c = search needs
 
@@ -83,9 +70,7 @@ decode-pairs-spec =
     μ-loop
     loop-holds
     sub-if1
-    same-length
     returns
-    same-length-2
     returns-2
     shared-slice-read-byte-of
     add-byte-of
@@ -93,12 +78,10 @@ decode-pairs-spec =
     byte-of-requires
     enum-known-b
     enum-told
-    same-length-3
     returns-3
-    slice-write-text
+    element-write-text
     add-end
     add-i
     loop-less
     loop-again
-    same-length-4
     returns-4)
