@@ -42,16 +42,11 @@ fn start_of(s: &[u8], mark: u8, k: usize) -> usize {
     at
 }
 
-// What stands between marks, k marks on; empty where there are fewer.
-pub fn piece(s: &[u8], mark: u8, k: usize) -> &[u8] {
-    let start = start_of(s, mark, k);
-    part(s, start, mark_from(s, mark, start))
-}
-
-// Word k of a case, its verb being word 0. It is empty where two spaces meet and where the case
-// starts or ends with one, and no verb and no argument is empty.
+// Word k of a case, its verb being word 0. It is empty where two spaces meet, where the case starts
+// or ends with one, and where there are fewer words; no verb and no argument is empty.
 pub fn word(case: &[u8], k: usize) -> &[u8] {
-    piece(case, b' ', k)
+    let start = start_of(case, b' ', k);
+    part(case, start, mark_from(case, b' ', start))
 }
 
 pub fn is(s: &[u8], t: &[u8]) -> bool {
