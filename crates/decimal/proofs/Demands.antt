@@ -30,7 +30,6 @@ unfolding PassesZeros valueOf
 passes-zeros b s h = rw (ne-eqb b 43 h) (zero-first b s)
 
 pub reads-back : ReadsBack shortest valueOf
-unfolding ReadsBack
 reads-back n h = digits-value (shortest n) (record { one = length-some n; digits = shortest-digits-only n; value = shortest-worth n; fits = h })
 
 -- ---- digits, from their last
@@ -71,7 +70,6 @@ module _ {s : List ℕ} {n : ℕ} (g : Digits s n) where
   only e = digits-spelled s (g .digits) .last ∙ ap₂ lastDigits e (g .value) ∙ sym (shortest-last n)
 
 pub none-shorter : NoneShorter shortest valueOf
-unfolding NoneShorter
 none-shorter n t e d = by (value-decimal t n e) d
   where
     by : {t : List ℕ} → Decimal t n → (t ≡ shortest n → ⊥) → length (shortest n) < length t

@@ -29,9 +29,9 @@ unfoldable pub PassesZeros : (List ℕ → Option ℕ) → Type 0
 PassesZeros read = (b : ℕ) (s : List ℕ) → (b ≡ 43 → ⊥) → read (48 ∷ b ∷ s) ≡ read (b ∷ s)
 
 -- what is printed reads back as the number
-unfoldable pub ReadsBack : (ℕ → List ℕ) → (List ℕ → Option ℕ) → Type 0
+abbrev pub ReadsBack : (ℕ → List ℕ) → (List ℕ → Option ℕ) → Type 0
 ReadsBack print read = (n : ℕ) → n ≤ 18446744073709551615 → read (print n) ≡ some n
 
 -- every other text that reads as the number is longer than what is printed
-unfoldable pub NoneShorter : (ℕ → List ℕ) → (List ℕ → Option ℕ) → Type 0
+abbrev pub NoneShorter : (ℕ → List ℕ) → (List ℕ → Option ℕ) → Type 0
 NoneShorter print read = (n : ℕ) (t : List ℕ) → read t ≡ some n → (t ≡ print n → ⊥) → length (print n) < length t

@@ -14,10 +14,10 @@ use Rattle.text.specs.Answer.{numberOf}
 use Rattle.text.specs.Utf8.{isUtf8}
 use Rattle.pieces.specs.Pieces.{joined}
 use Rattle.pieces.specs.Demands.{Free}
-use Rattle.pieces.proofs.PieceLaws.{free-nil, free-cons, free-head, free-tail}
+use Rattle.pieces.proofs.PieceLaws.{joined-one, joined-more, free-nil, free-cons, free-head, free-tail}
 use Rattle.line.specs.Line.{feed, endingBytes, endsInReturn, isEmpty, readAnswer}
 use Rattle.line.specs.Demands.{Column, Ended, by-feed, Stands}
-use Rattle.line.proofs.ColumnLaws.{joined-one, joined-more, return-tab, feed-bytes, empty-some, some-empty, or-none}
+use Rattle.line.proofs.ColumnLaws.{return-tab, feed-bytes, empty-some, some-empty, or-none}
 use Rattle.line.proofs.Exact.{begins-read}
 use Rattle.join.specs.Join.{holds, isBad, fine, refused, columnJudged, columnsJudged, lineText, isCount}
 use Rattle.join.specs.Demands.{Taken, Forth, Back}

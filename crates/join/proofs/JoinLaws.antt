@@ -37,7 +37,8 @@ use Rattle.pieces.specs.declared.entries.Entry.the-variants as E
 use Rattle.pieces.proofs.CountLaws.{count-none, count-here, count-other}
 use Rattle.pieces.proofs.EntryLaws.{start-later, rising-fits, entries-length, entries-text, ends-tell, Entered, entry-tells}
 use Rattle.line.specs.Line.{endsInReturn}
-use Rattle.line.proofs.ColumnLaws.{joined-one, joined-more, none-empty, some-empty, return-none, return-at}
+use Rattle.pieces.proofs.PieceLaws.{joined-one, joined-more}
+use Rattle.line.proofs.ColumnLaws.{none-empty, some-empty, return-none, return-at}
 use Rattle.join.specs.Join.{holds, isBad, Judged, fine, refused, columnJudged, columnsJudged, lineText, isCount, fitted, listAnswer, joinAnswer, isDone, JoinsAt}
 use Rattle.join.specs.Paper.{joinedPaper}
 use Rattle.join.specs.declared.columns.Joined.{Joined}

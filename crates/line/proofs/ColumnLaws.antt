@@ -11,11 +11,10 @@ use lib.Dec.{leb, eqb}
 use borrow.Author.Tests.{leb-false, lt-leb, eqb-true, eqb-false, ne-eqb}
 use Rattle.text.specs.Pick.{pick}
 use Rattle.text.specs.Utf8.{isUtf8}
-use Rattle.text.specs.Demands.{Parted}
 use Rattle.text.proofs.Demands.{parted}
 use Rattle.pieces.specs.Pieces.{split, joined}
 use Rattle.pieces.specs.Demands.{Free}
-use Rattle.pieces.proofs.PieceLaws.{free-nil, free-cons, free-head, free-tail, split-some, split-nil, split-free, split-joined, split-whole, split-append, one-text, more-text}
+use Rattle.pieces.proofs.PieceLaws.{first-free, joined-none, joined-one, joined-more, free-nil, free-cons, free-head, free-tail, split-some, split-nil, split-joined, split-whole, split-append, one-text, more-text}
 use Rattle.line.specs.Line.{Ending, nothing, feed, return-feed, endingBytes, line, endsInReturn, fed, lineIn, lineOf, Verdict, fine, refused, required, isEmpty, lastVerdict, verdict, allUtf8}
 use Rattle.line.specs.Demands.{Ended, by-nothing, by-feed, by-return-feed, ByColumns}
 
@@ -35,23 +34,7 @@ pub free-right : {b : ℕ} (p q : List ℕ) → Free b (p ++ q) → Free b q
 free-right [] q f = f
 free-right (a ∷ p) q f = free-right p q (free-tail f)
 
--- the first piece of a text is free of the separator
-first-free : (b : ℕ) (s : List ℕ) {p : List ℕ} {ps : List (List ℕ)} → split b s ≡ p ∷ ps → Free b p
-first-free b s h = rw h at (split-free b s 0 (split-some b s))
-
 -- ---- pieces joined
-
-joined-none : (a : ℕ) → joined a [] ≡ []
-unfolding joined
-joined-none a = refl
-
-pub joined-one : (a : ℕ) (p : List ℕ) → joined a (p ∷ []) ≡ p
-unfolding joined
-joined-one a p = refl
-
-pub joined-more : (a : ℕ) (p q : List ℕ) (ps : List (List ℕ)) → joined a (p ∷ q ∷ ps) ≡ p ++ a ∷ joined a (q ∷ ps)
-unfolding joined
-joined-more a p q ps = refl
 
 -- pieces free of a byte, joined by another, are free of it
 pub free-joined : {a b : ℕ} (ps : List (List ℕ)) → (a ≡ b → ⊥) → ((i : ℕ) → i < length ps → Free b (getD ps i [])) → Free b (joined a ps)
@@ -218,7 +201,6 @@ same-bool false true f g = g refl
 same-bool false false f g = refl
 
 utf8-tab : (c t : List ℕ) → isUtf8 (c ++ 9 ∷ t) ≡ isUtf8 c && isUtf8 t
-unfolding Parted
 utf8-tab c t =
     let p = parted c t 9 (omega arith) in
     let a = and-eq-true-iff (isUtf8 c) (isUtf8 t) in

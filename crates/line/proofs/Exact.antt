@@ -53,7 +53,7 @@ good-read from t e rest g = rw (count-fine from (split 9 t) e (from + length t +
 
 -- any other line is refused
 pub read-good : (from : ℕ) (t : List ℕ) (e : Ending) (rest : List ℕ) → Refuses (lineAnswer from (line t e rest)) ⊎ Good (split 9 t)
-unfolding lineAnswer judgedAnswer numberOf
+unfolding lineAnswer judgedAnswer
 read-good from t e rest = told (verdict 1 from cs e past) refl (judged 1 from cs e past)
   where
     cs : List (List ℕ)
@@ -111,7 +111,6 @@ good-begins {t = t} c g =
 -- where columns begin what is left, the answer is 0
 pub begins-read : (s : List ℕ) (at : ℕ) {cs : List (List ℕ)} {e : Ending} {rest : List ℕ} → at < length s → Begins (drop at s) cs e rest
     → numberOf (readAnswer s at) ≡ 0
-unfolding numberOf
 begins-read s at {cs} {e} {rest} h b =
     rw (read-line s at h, begins-line b, good-read at (joined 9 cs) e rest (rw (begins-split b) (begins-good b)))
 

@@ -2,15 +2,13 @@
 use Prim.Native.Nat.{ℕ, _+_, _<_}
 use mathlib.Core.Path.{_≡_, refl, _∙_}
 use mathlib.Core.Logic.{inl}
-use mathlib.Core.List.{List, [], _∷_}
+use mathlib.Core.List.{List, [], _∷_, append-nil}
 use native.Mathlib.Omega.{arith}
 use lib.ListN.{length, replicate, getD-replicate}
 use Rattle.text.specs.Answer.{Answer, says, numberOf, valuesOf}
-use Rattle.text.specs.Utf8.{isUtf8, there, charsOf, charsFrom}
-use Rattle.text.specs.Demands.{Parted}
-use Rattle.text.proofs.Demands.{parted}
+use Rattle.text.proofs.Demands.{byte-text}
 use Rattle.pieces.specs.Pieces.{joined}
-use Rattle.pieces.proofs.PieceLaws.{free-nil, free-cons}
+use Rattle.pieces.proofs.PieceLaws.{free-nil, free-cons, joined-more}
 use Rattle.line.specs.Line.{nothing, endingBytes, readAnswer}
 use Rattle.line.specs.Demands.{Column, by-nothing, Begins, Reader, Refuses, Exact, Stands, One}
 use Rattle.line.proofs.Exact.{begins-read}
@@ -25,28 +23,27 @@ input : List ℕ
 input = joined 9 ones
 
 one-column : Column (49 ∷ [])
-unfolding isUtf8 there charsOf charsFrom Parted
 one-column =
     record {
       some = omega arith;
-      utf8 = parted [] [] 49 (omega arith) .1 (refl, refl);
+      utf8 = byte-text 49 (omega arith);
       no-tab = free-cons (λ z. omega arith) free-nil;
       no-feed = free-cons (λ z. omega arith) free-nil;
     }
 
 ones-begin : Begins input ones nothing []
-unfolding ones input joined endingBytes
+unfolding ones input endingBytes
 ones-begin =
     record {
       count = inl refl;
       each = λ i l. rw (getD-replicate {A = List ℕ} 8 i (49 ∷ []) [] l) one-column;
-      whole = refl;
+      whole = append-nil (joined 9 ones);
       ended = by-nothing;
     }
 
 input-some : 0 < length input
-unfolding ones input joined
-input-some = omega arith
+unfolding ones input
+input-some = rw joined-more (omega arith)
 
 -- ---- refusing all
 
@@ -63,12 +60,12 @@ bumped (says n []) = says n []
 bumped (says n (next ∷ places)) = says n ((next + 1) ∷ places)
 
 bumped-number : (a : Answer) → numberOf (bumped a) ≡ numberOf a
-unfolding numberOf bumped
+unfolding bumped
 bumped-number (says n []) = refl
 bumped-number (says n (next ∷ places)) = refl
 
 bumped-values : (a : Answer) {next : ℕ} {places : List ℕ} → valuesOf a ≡ next ∷ places → valuesOf (bumped a) ≡ (next + 1) ∷ places
-unfolding valuesOf bumped
+unfolding bumped
 bumped-values (says n vs) e = rw e
 
 -- an answer and the same so changed don't both stand, for each says where its only columns end

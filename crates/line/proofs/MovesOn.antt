@@ -11,10 +11,10 @@ use lib.Seq.{getD-append-seam, getD-drop, drop-append-add, drop-drop, append-sno
 use lib.Dec.{ltb}
 use borrow.Author.Tests.{ltb-true, ltb-false}
 use Rattle.text.specs.Pick.{pick}
-use Rattle.text.specs.Answer.{says, numberOf, valuesOf}
+use Rattle.text.specs.Answer.{says}
 use Rattle.pieces.specs.Pieces.{split, joined}
-use Rattle.pieces.specs.Demands.{Free, Cut}
-use Rattle.pieces.proofs.PieceLaws.{split-nil, split-cut, one-text, more-text, more-rest}
+use Rattle.pieces.specs.Demands.{Free}
+use Rattle.pieces.proofs.PieceLaws.{first-free, split-nil, one-text, more-text, more-rest}
 use Rattle.line.specs.Line.{
   Ending,
   nothing,
@@ -184,10 +184,6 @@ module _ {s : List ℕ} {at end past : ℕ} (never : (k : ℕ) → k < end → E
 -- ---- the columns
 
 module _ (t : List ℕ) {c : List ℕ} where
-  -- the first is free of tabs
-  first-free : {cs : List (List ℕ)} → split 9 t ≡ c ∷ cs → Free 9 c
-  first-free {cs} h = let q : Cut 9 t (c ∷ cs) = rw h at (split-cut 9 t) in q .each 0 (omega arith)
-
   -- a tab follows the first of several, and then the others
   module _ {b : List ℕ} {cs : List (List ℕ)} (h : split 9 t ≡ c ∷ b ∷ cs) where
     several : (r : List ℕ) → t ++ r ≡ c ++ 9 ∷ (joined 9 (b ∷ cs) ++ r)
@@ -215,10 +211,10 @@ module _ {s : List ℕ} {at end past : ℕ} {e : Ending} (x : Closed s at end pa
       → Leads s at (verdict k from cs e past)
   unfolding verdict isEmpty
   columns-lead [] k from t r u h d p l = absurd (split-nil 9 t h)
-  columns-lead (c ∷ []) k from t r u h d p l = last-leads (rw (p, one-text 9 h) (clear s u c r (rw (one-text 9 h) at d) (first-free t h))) x k c
+  columns-lead (c ∷ []) k from t r u h d p l = last-leads (rw (p, one-text 9 h) (clear s u c r (rw (one-text 9 h) at d) (first-free 9 t h))) x k c
   columns-lead ([] ∷ b ∷ cs) k from t r u h d p l = refused-leads (empty-leads u (d ∙ several t h r) (omega (arith, several-length t h)) l)
   columns-lead ((a ∷ c) ∷ b ∷ cs) k from t r u h d p l =
-      columns-lead (b ∷ cs) (k + 1) (from + length (a ∷ c) + 1) (joined 9 (b ∷ cs)) r (turn s u (a ∷ c) _ (d ∙ several t h r) (first-free t h) (omega arith))
+      columns-lead (b ∷ cs) (k + 1) (from + length (a ∷ c) + 1) (joined 9 (b ∷ cs)) r (turn s u (a ∷ c) _ (d ∙ several t h r) (first-free 9 t h) (omega arith))
       (more-rest 9 t h) (behind-rest s from (a ∷ c) 9 _ (d ∙ several t h r)) (omega (arith, several-length t h)) l
 
 -- ---- the answer
@@ -239,7 +235,6 @@ module _ {s : List ℕ} {at : ℕ} (h : at < length s) where
 
   -- so an answer that goes on as its number says is as asked
   goes-moved : {n next : ℕ} {others : List ℕ} → GoesOn s at n next → Moved s at (says n (next ∷ others))
-  unfolding numberOf valuesOf
   goes-moved {next = next} {others = others} g =
       let f = further-within g in
       record { next = next; others = others; values = refl; goes = g; further = λ a b. f .0; within = λ a. f .1 }
@@ -309,13 +304,11 @@ module _ {s : List ℕ} {at : ℕ} (h : at < length s) where
 
 module _ (s : List ℕ) (at : ℕ) where
   end-moves : at ≡ length s → Moved s at (readAnswer s at)
-  unfolding numberOf valuesOf
   end-moves e =
       rw (read-end s at e)
       (record { next = at; others = []; values = refl; goes = stays-1 e; further = λ a. absurd (a refl); within = λ a. omega arith })
 
   beyond-moves : length s < at → Moved s at (readAnswer s at)
-  unfolding numberOf valuesOf
   beyond-moves h =
       rw (read-beyond s at h)
       (record { next = at; others = []; values = refl; goes = stays-6 h; further = λ a b. absurd (b refl); within = λ a. absurd (a refl) })

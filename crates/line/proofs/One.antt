@@ -11,12 +11,12 @@ use lib.Seq.{take-append-seam, drop-append-add, drop-drop, drop-at}
 use lib.Dec.{ltb, eqb}
 use borrow.Author.Tests.{ltb-false, eqb-false, eq-eqb, ne-eqb}
 use Rattle.text.specs.Pick.{pick}
-use Rattle.text.specs.Answer.{says, numberOf, valuesOf}
+use Rattle.text.specs.Answer.{says, numberOf}
 use Rattle.pieces.specs.Pieces.{split, joined}
-use Rattle.pieces.proofs.PieceLaws.{split-joined}
+use Rattle.pieces.proofs.PieceLaws.{split-joined, joined-one, joined-more}
 use Rattle.line.specs.Line.{Ending, Line, line, lineOf, columnPlaces, leadingPlaces, fieldPlaces, lineAnswer, readAnswer}
 use Rattle.line.specs.Demands.{Begins, fieldOf, Refuses, CutsOut, Stands, One}
-use Rattle.line.proofs.ColumnLaws.{joined-one, joined-more, line-whole}
+use Rattle.line.proofs.ColumnLaws.{line-whole}
 use Rattle.line.proofs.Exact.{Good, good-read, read-good, begins-line, begins-split, good-begins}
 use Rattle.line.proofs.LineLaws.{read-line}
 
@@ -129,7 +129,7 @@ begins-only {t = t} {e = e} {rest = rest} q {cs} {f} {r} b =
 
 -- the answer is 0 only from a place in the input
 zero-within : (s : List ℕ) (at : ℕ) → numberOf (readAnswer s at) ≡ 0 → at < length s
-unfolding readAnswer numberOf
+unfolding readAnswer
 zero-within s at z = by (ltb (length s) at) (eqb at (length s)) refl refl z
   where
     by : (b c : Bool) → ltb (length s) at ≡ b → eqb at (length s) ≡ c
@@ -139,7 +139,7 @@ zero-within s at z = by (ltb (length s) at) (eqb at (length s)) refl refl z
     by false false h k z = let l = ltb-false (length s) at h in let n = eqb-false at (length s) k in omega arith
 
 pub one : One readAnswer
-unfolding One valuesOf
+unfolding One
 one s at z = by (lineOf (drop at s)) refl
   where
     within : at < length s

@@ -7,11 +7,11 @@ use lib.ListN.{length, drop, length-drop, drop-of-length-le}
 use borrow.Author.Tests.{eq-eqb, ne-eqb}
 use Rattle.text.specs.declared.range.Range.{Range}
 use Rattle.text.proofs.Lists.{cut-length}
-use Rattle.pieces.specs.Pieces.{firstOf, split, stepAnswer}
+use Rattle.pieces.specs.Pieces.{split, stepAnswer}
 use Rattle.pieces.specs.Paper.{stepPaper}
 use Rattle.pieces.specs.declared.step.Step.{Step}
 use Rattle.pieces.specs.declared.step.Step.the-variants as S
-use Rattle.pieces.proofs.PieceLaws.{free-nil, split-whole, split-some, split-nil, split-joined}
+use Rattle.pieces.proofs.PieceLaws.{first-is, free-nil, split-whole, split-some, split-nil, split-joined}
 use Rattle.pieces.proofs.StepLaws.{step-tells, last-length, next-within, next-pieces}
 use Rattle.line.specs.Line.{columnPlaces, leadingPlaces, fieldPlaces}
 use Rattle.line.specs.Paper.{recordPlaces}
@@ -21,36 +21,33 @@ use Rattle.line.specs.Inner.{Placed, Standing, columnsFrom, Next, Enough
 
 module _ (t : List ℕ) (start : ℕ) {x : Step} (e : stepPaper x ≡ stepAnswer 9 t start) where
   pub column-more : {r : Range} {next : ℕ} → x ≡ S.More r next → Placed t start r
-  unfolding firstOf
   column-more {r} {next} q =
       let f = step-tells 9 t start (S.More r next) (rw q at e) in
       let w : r .start + r .len ≤ length t = omega arith in
       record {
         starts = f .start;
-        size = rw (f .pieces) (sym (cut-length r t w));
+        size = rw (f .pieces, first-is) (sym (cut-length r t w));
         fits = omega arith;
         columns = rw (f .start);
       }
 
   pub column-final : {r : Range} → x ≡ S.Last r → Placed t start r
-  unfolding firstOf
   column-final {r} q =
       let f = step-tells 9 t start (S.Last r) (rw q at e) in
       let w : r .start + r .len ≤ length t = omega arith in
       record {
         starts = f .start;
-        size = rw (f .pieces) (sym (cut-length r t w));
+        size = rw (f .pieces, first-is) (sym (cut-length r t w));
         fits = omega arith;
         columns = rw (f .start);
       }
 
   pub column-none : start ≤ length t → x ≡ S.Nothing → Placed t start (record { start = start; len = 0 })
-  unfolding firstOf
   column-none h q =
       let z = step-tells 9 t start S.Nothing (rw q at e) in
       record {
         starts = refl;
-        size = rw (drop-of-length-le t {i = start} (omega arith), split-whole [] free-nil);
+        size = rw (drop-of-length-le t {i = start} (omega arith), split-whole [] free-nil, first-is);
         fits = omega arith;
         columns = refl;
       }
@@ -87,8 +84,7 @@ two b s h = by (split b s) refl h
 module _ (t : List ℕ) (r : Range) (p : Standing t r) where
   -- its length is that of the first piece
   first-length : {c : List ℕ} {cs : List (List ℕ)} → split 9 (drop (r .start) t) ≡ c ∷ cs → r .len ≡ length c
-  unfolding firstOf
-  first-length e = rw e at (p .size)
+  first-length e = rw (e, first-is) at (p .size)
 
   module _ (h : 2 ≤ columnsFrom t r) where
     pub next-start : r .start + r .len + 1 ≤ length t

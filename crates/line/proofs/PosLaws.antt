@@ -10,7 +10,6 @@ use lib.ListN.{length}
 use borrow.Author.Tests.{eqb-true}
 use Rattle.text.specs.Answer.{says}
 use Rattle.decimal.specs.Decimal.{valueOf, decimalAnswer}
-use Rattle.decimal.specs.Demands.{ReadsBack, NoneShorter}
 use Rattle.decimal.specs.Shortest.{shortest}
 use Rattle.decimal.specs.Paper.{numberPaper}
 use Rattle.decimal.specs.declared.read.Number.{Number}
@@ -41,11 +40,9 @@ byte-not b t h = by (isByte b t) refl
 -- ---- the texts worth 0
 
 zero-value : valueOf (48 ∷ []) ≡ some 0
-unfolding ReadsBack
 zero-value = rw (shortest-one 0 (omega arith)) at (reads-back 0 (omega arith))
 
 zero-text : (t : List ℕ) → valueOf t ≡ some 0 → length t ≡ 1 → t ≡ 48 ∷ []
-unfolding NoneShorter
 zero-text [] e l = absurd (omega arith)
 zero-text (b ∷ []) e l = by (ℕ-discrete b 48)
   where

@@ -8,7 +8,7 @@ use lib.ListN.{length, getD}
 use lib.Dec.{eqb}
 use borrow.Author.Tests.{eqb-true, eqb-false, eq-eqb, ne-eqb}
 use Rattle.text.specs.Pick.{pick}
-use Rattle.pieces.specs.Pieces.{longer, split, pieces, joined, oneIf, countOf}
+use Rattle.pieces.specs.Pieces.{firstOf, longer, split, pieces, joined, oneIf, countOf}
 use Rattle.pieces.specs.Demands.{Free, Cut}
 
 -- ---- a piece free of the separator
@@ -99,6 +99,28 @@ split-free b t = split-cut b t .each
 -- joined, the pieces are the text
 pub split-joined : (b : ℕ) (t : List ℕ) → joined b (split b t) ≡ t
 split-joined b t = split-cut b t .whole
+
+-- the first piece is free of it
+pub first-free : (b : ℕ) (t : List ℕ) {p : List ℕ} {ps : List (List ℕ)} → split b t ≡ p ∷ ps → Free b p
+first-free b t h = rw h at (split-free b t 0 (split-some b t))
+
+pub first-is : (p : List ℕ) (ps : List (List ℕ)) → firstOf (p ∷ ps) ≡ p
+unfolding firstOf
+first-is p ps = refl
+
+-- ---- pieces joined
+
+pub joined-none : (b : ℕ) → joined b [] ≡ []
+unfolding joined
+joined-none b = refl
+
+pub joined-one : (b : ℕ) (p : List ℕ) → joined b (p ∷ []) ≡ p
+unfolding joined
+joined-one b p = refl
+
+pub joined-more : (b : ℕ) (p q : List ℕ) (ps : List (List ℕ)) → joined b (p ∷ q ∷ ps) ≡ p ++ b ∷ joined b (q ∷ ps)
+unfolding joined
+joined-more b p q ps = refl
 
 -- ---- what `split` gives of given pieces
 

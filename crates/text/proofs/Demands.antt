@@ -89,6 +89,11 @@ pub is-text : (t : List ℕ) → Text t → isUtf8 t ≡ true
 unfolding isUtf8 there
 is-text t k = rw (cuts .only t (k .chars) (k .are))
 
+-- a byte below 80 hex is a text
+pub byte-text : (b : ℕ) → b < 0x80 → isUtf8 (b ∷ []) ≡ true
+unfolding allChars flatten
+byte-text b h = is-text (b ∷ []) (record { chars = (b ∷ []) ∷ []; are = record { each = rw (alone-char b h); whole = refl } })
+
 flatten-append : (xs ys : List (List ℕ)) → flatten (xs ++ ys) ≡ flatten xs ++ flatten ys
 unfolding flatten
 flatten-append [] ys = refl
@@ -161,7 +166,6 @@ parted-at (e ∷ es) a b c h k =
     first-side e es a b c h (p .0) (p .1) (k .whole) (λ o x. parted-at es o b c h x)
 
 pub parted : Parted isUtf8
-unfolding Parted
 parted a c b h = (
   λ e. (let s = text-is (a ++ b ∷ c) e in let p = parted-at (s .chars) a b c h (s .are) in (is-text a (p .left), is-text c (p .right))),
   λ e. is-text (a ++ b ∷ c) (part-join a c b h (text-is a (e .0)) (text-is c (e .1))),

@@ -6,8 +6,8 @@ use mathlib.Core.List.{List}
 pub data Answer : Type 0 where
   says : ℕ → List ℕ → Answer
 
-unfoldable pub numberOf : Answer → ℕ
+abbrev pub numberOf : Answer → ℕ
 numberOf (says n vs) = n
 
-unfoldable pub valuesOf : Answer → List ℕ
+abbrev pub valuesOf : Answer → List ℕ
 valuesOf (says n vs) = vs

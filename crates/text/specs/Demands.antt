@@ -18,5 +18,5 @@ pub record Cuts (chars : List ℕ → Option (List (List ℕ))) : Type 0 where
   pub only : (t : List ℕ) (cs : List (List ℕ)) → Characters t cs → chars t ≡ some cs
 
 -- a text is UTF-8 exactly when the texts before and after one of its bytes below 80 hex are
-unfoldable pub Parted : (List ℕ → Bool) → Type 0
+abbrev pub Parted : (List ℕ → Bool) → Type 0
 Parted check = (a c : List ℕ) (b : ℕ) → b < 0x80 → (check (a ++ b ∷ c) ≡ true) ↔ ((check a ≡ true) × (check c ≡ true))
