@@ -1,7 +1,7 @@
 -- What is asked of any splitter and of any step over pieces, as functions on lists (docs/STATEMENTS.md). Assumes nothing.
-use Prim.Native.Nat.{ℕ, _<_}
+use Prim.Native.Nat.{ℕ, _+_, _<_, _≤_}
 use mathlib.Core.Path.{_≡_}
-use mathlib.Core.List.{List, [], _∷_}
+use mathlib.Core.List.{List, [], _∷_, flatten}
 use lib.ListN.{length, getD, take, drop}
 use Rattle.text.specs.Answer.{Answer, says}
 use Rattle.pieces.specs.Pieces.{joined}
@@ -30,3 +30,12 @@ pub data Walk (step : ℕ → List ℕ → ℕ → Answer) (separator : ℕ) (t 
 -- from the start of a text that is not empty the steps visit the splitter's pieces, in order
 unfoldable pub Visits : (ℕ → List ℕ → ℕ → Answer) → (ℕ → List ℕ → List (List ℕ)) → Type 0
 Visits step splitter = (separator : ℕ) (t : List ℕ) → 0 < length t → Walk step separator t 0 (splitter separator t)
+
+-- asked by its number n: 10 where the list has not so many; else the place past the n pieces before it and their separators, which cuts piece n out of the text
+pub record Numbered (ps : List (List ℕ)) (t : List ℕ) (n : ℕ) (a : Answer) : Type 0 where
+  pub past : length ps ≤ n → a ≡ says 10 []
+  pub place : n < length ps → a ≡ says 0 ((n + length (flatten (take n ps))) ∷ length (getD ps n []) ∷ [])
+  pub cuts : n < length ps → take (length (getD ps n [])) (drop (n + length (flatten (take n ps))) t) ≡ getD ps n []
+
+abbrev pub Numbers : (ℕ → List ℕ → ℕ → Answer) → (ℕ → List ℕ → List (List ℕ)) → Type 0
+Numbers nth list = (separator : ℕ) (t : List ℕ) (n : ℕ) → Numbered (list separator t) t n (nth separator t n)

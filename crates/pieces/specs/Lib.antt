@@ -1,4 +1,5 @@
 pub mod Paper
 pub mod Pieces
+pub mod Nth
 pub mod Entries
 pub mod Demands

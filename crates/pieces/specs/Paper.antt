@@ -3,6 +3,8 @@ use mathlib.Core.List.{[], _∷_}
 use Rattle.text.specs.Answer.{Answer, says}
 use Rattle.pieces.specs.declared.step.Step.{Step}
 use Rattle.pieces.specs.declared.step.Step.the-variants as S
+use Rattle.pieces.specs.declared.nth.Nth.{Nth}
+use Rattle.pieces.specs.declared.nth.Nth.the-variants as T
 use Rattle.pieces.specs.declared.entries.Ends.{Ends}
 use Rattle.pieces.specs.declared.entries.Ends.the-variants as N
 use Rattle.pieces.specs.declared.entries.Entry.{Entry}
@@ -14,6 +16,10 @@ stepPaper (S.More r next) = says 0 (r .start ∷ r .len ∷ next ∷ [])
 stepPaper (S.Last r) = says 0 (r .start ∷ r .len ∷ [])
 stepPaper S.Nothing = says 10 []
 stepPaper S.Beyond = says 6 []
+
+unfoldable pub nthPaper : Nth → Answer
+nthPaper (T.At r) = says 0 (r .start ∷ r .len ∷ [])
+nthPaper T.Nothing = says 10 []
 
 unfoldable pub endsPaper : Ends → Answer
 endsPaper N.Good = says 0 []

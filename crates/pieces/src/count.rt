@@ -1,6 +1,7 @@
-// Counting a byte.
+// Counting a byte, and the pieces between separators.
 ghost use mathlib.Core.Path.{_≡_};
-ghost use Rattle.pieces.specs.Pieces.{countOf, oneIf};
+ghost use lib.ListN.{length};
+ghost use Rattle.pieces.specs.Pieces.{countOf, oneIf, pieces};
 
 // How often the byte `b` stands in `s`.
 pub fn count_byte(s: &[u8], b: u8) -> usize
@@ -20,4 +21,14 @@ fn one_if(a: u8, b: u8) -> usize
     ensures { λ r. ⌜ r ≡ oneIf a b ⌝ }
 {
     if a == b { 1 } else { 0 }
+}
+
+// How many pieces a text has: none where it is empty, else its separators plus one.
+pub fn count_pieces(s: &[u8], separator: u8) -> usize
+    ensures { λ r. ⌜ r ≡ length (pieces separator (now (s .entry))) ⌝ }
+{
+    if s.len() == 0 {
+        return 0;
+    }
+    count_byte(s, separator) + 1
 }

@@ -2,5 +2,6 @@
 // is as characters.
 pub mod copy;
 pub mod range;
+pub mod same;
 pub mod space;
 pub mod utf8;

@@ -1,0 +1,6 @@
+pub mod Info
+pub mod Find
+pub mod Value
+pub mod Paper
+pub mod Inner
+pub mod Demands

@@ -1,0 +1,4 @@
+pub mod Samples
+pub mod Keys
+pub mod Paper
+pub mod Demands

@@ -1,0 +1,3 @@
+// The sample columns of a line, their subfields, and the keys of FORMAT.
+pub mod columns;
+pub mod keys;

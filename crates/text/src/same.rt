@@ -1,0 +1,20 @@
+// Equal texts.
+ghost use mathlib.Core.Path.{_≡_};
+ghost use Rattle.text.specs.Same.{same};
+
+// Whether two texts are the same bytes.
+pub fn same_bytes(s: &[u8], t: &[u8]) -> bool
+    ensures { λ r. ⌜ r ≡ same (now (s .entry)) (now (t .entry)) ⌝ }
+{
+    if s.len() != t.len() {
+        return false;
+    }
+    let mut i = 0;
+    while i < s.len() {
+        if s[i] != t[i] {
+            return false;
+        }
+        i += 1;
+    }
+    true
+}
