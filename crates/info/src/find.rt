@@ -33,7 +33,8 @@ pub fn value<'a, 'b>(column: &'a [u8], key: &'b [u8]) -> &'a [u8]
     ensures { λ r. ⌜ Shows (column .entry) (now (key .entry)) r ⌝ }
 {
     if let Step::Found(entry, _) = find(column, key) {
-        if let Value::At(range) = entry.value {
+        let value = entry.value;
+        if let Value::At(range) = value {
             let start = range.start;
             let end = start + range.len;
             return &column[start..end];

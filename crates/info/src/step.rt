@@ -79,7 +79,8 @@ fn dropped(entry: Entry, end: usize) -> Step
     requires { ⌜ entry .key .start + 1 ≤ end ⌝ }
     ensures { λ r. ⌜ stepPaper r ≡ droppedAnswer entry end ⌝ }
 {
-    if let Value::Absent = entry.value {
+    let value = entry.value;
+    if let Value::Absent = value {
         return Step::AfterKey(end);
     }
     if entry.key.len == 0 {
