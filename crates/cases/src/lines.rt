@@ -6,7 +6,7 @@ use crate::output::Said;
 use crate::output::put_number;
 use crate::output::put_said;
 use crate::output::then_bytes;
-use crate::output::then_number;
+use crate::output::then_range;
 use crate::parts::part;
 use crate::words::Decoded;
 use crate::words::Placed;
@@ -118,17 +118,10 @@ fn then_places(record: Record, out: &mut Buffer, at: Place) -> Place {
     let mut next = at;
     let mut k = 0;
     while k < NAMES {
-        next = then_range(place_of(record, name(k)), out, next);
+        next = then_range(out, next, place_of(record, name(k)));
         k += 1;
     }
     next
-}
-
-fn then_range(range: Range, out: &mut Buffer, at: Place) -> Place {
-    let start = range.start;
-    let len = range.len;
-    let next = then_number(out, at, start as u64);
-    then_number(out, next, len as u64)
 }
 
 const NAMES: usize = 10;
@@ -193,7 +186,7 @@ fn put_text(found: fields::Text, out: &mut Buffer, at: Place) -> Place {
     match found {
         fields::Text::At(range) => {
             let next = put_number(out, at, 0);
-            then_range(range, out, next)
+            then_range(out, next, range)
         }
         fields::Text::Absent => {
             let next = put_number(out, at, 0);

@@ -1,10 +1,12 @@
 // Reads cases from standard input, one a line, and prints one answer line for each.
+mod infos;
 mod input;
 mod joining;
 mod leaves;
 mod lines;
 mod output;
 mod parts;
+mod sampling;
 mod verbs;
 mod words;
 

@@ -1,5 +1,6 @@
 // Answers, gathered in a lent buffer that is written out when it is full.
 use libc::STDOUT_FILENO;
+use text::range::Range;
 ghost use Prim.Native.Nat.{_<_};
 
 const FULL: usize = 65536;
@@ -68,7 +69,7 @@ fn put_pair(out: &mut Buffer, at: Place, b: u8) -> Place {
 }
 
 // Two hex digits for each byte, `-` for none.
-fn put_hex(out: &mut Buffer, at: Place, s: &[u8]) -> Place {
+pub fn put_hex(out: &mut Buffer, at: Place, s: &[u8]) -> Place {
     if s.len() == 0 {
         return put_byte(out, at, b'-');
     }
@@ -85,6 +86,20 @@ fn put_hex(out: &mut Buffer, at: Place, s: &[u8]) -> Place {
 pub fn then_number(out: &mut Buffer, at: Place, n: u64) -> Place {
     let next = put_byte(out, at, b' ');
     put_number(out, next, n)
+}
+
+// A space, and then a range's start and its length.
+pub fn then_range(out: &mut Buffer, at: Place, range: Range) -> Place {
+    let start = range.start;
+    let len = range.len;
+    let next = then_number(out, at, start as u64);
+    then_number(out, next, len as u64)
+}
+
+// What stands between two answers of one case.
+pub fn put_comma(out: &mut Buffer, at: Place) -> Place {
+    let next = put_byte(out, at, b',');
+    put_byte(out, next, b' ')
 }
 
 // A space, and then the bytes as they are.

@@ -1,5 +1,6 @@
 // The answer line of a case. Each area is a module that answers the verbs it knows; they are asked
 // in turn.
+use crate::infos;
 use crate::joining;
 use crate::leaves;
 use crate::lines;
@@ -7,6 +8,7 @@ use crate::output::Answer;
 use crate::output::Buffer;
 use crate::output::Place;
 use crate::output::put_byte;
+use crate::sampling;
 use crate::words::Text;
 use pieces::count::count_byte;
 
@@ -29,7 +31,15 @@ fn ask(case: &[u8], text: &mut Text, out: &mut Buffer, at: Place) -> Answer {
     if let Answer::Given(_) = given {
         return given;
     }
-    joining::answer(case, arguments, text, out, at)
+    let given = joining::answer(case, arguments, text, out, at);
+    if let Answer::Given(_) = given {
+        return given;
+    }
+    let given = infos::answer(case, arguments, text, out, at);
+    if let Answer::Given(_) = given {
+        return given;
+    }
+    sampling::answer(case, arguments, text, out, at)
 }
 
 // The answer line of what is no case.

@@ -4,6 +4,7 @@ use decimal::read::Number;
 use decimal::read::read_decimal;
 use pieces::step::Step;
 use pieces::step::piece_at;
+use text::same::same_bytes;
 ghost use Prim.Native.Nat.{_≤_, _<_};
 
 // The most bytes of output that a case may lend.
@@ -49,25 +50,11 @@ pub fn word(case: &[u8], k: usize) -> &[u8] {
     part(case, start, mark_from(case, b' ', start))
 }
 
-pub fn is(s: &[u8], t: &[u8]) -> bool {
-    if s.len() != t.len() {
-        return false;
-    }
-    let mut i = 0;
-    while i < s.len() {
-        if s[i] != t[i] {
-            return false;
-        }
-        i += 1;
-    }
-    true
-}
-
 // Which of the first n words of `names` s is, or n.
 pub fn index_in(names: &[u8], n: usize, s: &[u8]) -> usize {
     let mut k = 0;
     while k < n {
-        if is(s, word(names, k)) {
+        if same_bytes(s, word(names, k)) {
             return k;
         }
         k += 1;
@@ -117,7 +104,7 @@ pub fn numbers(case: &[u8], k: usize, row: &mut Row) -> Counted {
 }
 
 fn numbers_of(s: &[u8], row: &mut Row) -> Counted {
-    if is(s, b"-") {
+    if same_bytes(s, b"-") {
         return Counted::Of(0);
     }
     split_numbers(s, row)
@@ -185,7 +172,7 @@ fn decode_word(s: &[u8], text: &mut Text, from: usize) -> Decoded {
     if s.len() == 0 {
         return Decoded::Bad;
     }
-    if is(s, b"-") {
+    if same_bytes(s, b"-") {
         return Decoded::Upto(from);
     }
     decode_pairs(s, text, from)
@@ -209,6 +196,23 @@ fn decode_pairs(s: &[u8], text: &mut Text, from: usize) -> Decoded {
         i += 2;
     }
     Decoded::Upto(end)
+}
+
+// The places past the bytes of two HEX.
+pub enum Pairs {
+    Upto(usize, usize),
+    Bad,
+}
+
+// Words 1 and 2 of a case, each a HEX, put into text one after the other.
+pub fn decode_two(case: &[u8], text: &mut Text) -> Pairs {
+    let Decoded::Upto(middle) = decode(case, 1, text, 0) else {
+        return Pairs::Bad;
+    };
+    let Decoded::Upto(end) = decode(case, 2, text, middle) else {
+        return Pairs::Bad;
+    };
+    Pairs::Upto(middle, end)
 }
 
 // The place past the bytes of a HEX, and the number of the word after it.
