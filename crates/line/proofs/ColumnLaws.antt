@@ -14,25 +14,9 @@ use Rattle.text.specs.Utf8.{isUtf8}
 use Rattle.text.proofs.Demands.{parted}
 use Rattle.pieces.specs.Pieces.{split, joined}
 use Rattle.pieces.specs.Demands.{Free}
-use Rattle.pieces.proofs.PieceLaws.{first-free, joined-none, joined-one, joined-more, free-nil, free-cons, free-head, free-tail, split-some, split-nil, split-joined, split-whole, split-append, one-text, more-text}
+use Rattle.pieces.proofs.PieceLaws.{first-free, joined-none, joined-one, joined-more, free-nil, free-cons, free-tail, free-append, free-left, free-right, split-some, split-nil, split-joined, split-whole, split-append, one-text, more-text}
 use Rattle.line.specs.Line.{Ending, nothing, feed, return-feed, endingBytes, line, endsInReturn, fed, lineIn, lineOf, Verdict, fine, refused, required, isEmpty, lastVerdict, verdict, allUtf8}
 use Rattle.line.specs.Demands.{Ended, by-nothing, by-feed, by-return-feed, ByColumns}
-
--- ---- texts free of a byte
-
--- two texts that are free of it are so together
-pub free-append : {b : ℕ} (p : List ℕ) {q : List ℕ} → Free b p → Free b q → Free b (p ++ q)
-free-append [] f g = g
-free-append (a ∷ p) f g = free-cons (free-head f) (free-append p (free-tail f) g)
-
--- and each of them where they are so together
-pub free-left : {b : ℕ} (p q : List ℕ) → Free b (p ++ q) → Free b p
-free-left [] q f = free-nil
-free-left (a ∷ p) q f = free-cons (free-head f) (free-left p q (free-tail f))
-
-pub free-right : {b : ℕ} (p q : List ℕ) → Free b (p ++ q) → Free b q
-free-right [] q f = f
-free-right (a ∷ p) q f = free-right p q (free-tail f)
 
 -- ---- pieces joined
 

@@ -1,6 +1,6 @@
--- Counting a byte: those passed and those to come are those of the whole. Assumes nothing.
+-- Counting a byte: those passed and those to come are those of the whole; there is one piece more than separators. Assumes nothing.
 use Prim.Native.Nat.{ℕ, _+_, _<_, _≤_, zero-le}
-use mathlib.Core.Path.{_≡_, refl}
+use mathlib.Core.Path.{_≡_, refl, sym}
 use mathlib.Core.List.{List, [], _∷_}
 use mathlib.Core.Bool.{Bool, true, false}
 use native.Mathlib.Omega.{arith}
@@ -10,7 +10,8 @@ use lib.Dec.{eqb}
 use borrow.Author.Tests.{eq-eqb, ne-eqb}
 use Rattle.text.specs.Pick.{pick}
 use Rattle.text.proofs.Lists.{here}
-use Rattle.pieces.specs.Pieces.{oneIf, countOf}
+use Rattle.pieces.specs.Pieces.{oneIf, countOf, pieces}
+use Rattle.pieces.proofs.PieceLaws.{split-count, pieces-none, pieces-some}
 
 pub one-yes : (a b : ℕ) → a ≡ b → 1 ≡ oneIf a b
 unfolding oneIf
@@ -61,4 +62,18 @@ module _ {b : ℕ} {s : List ℕ} {n i : ℕ} (g : Counting b s n i) where
   unfolding countOf
   count-past h = omega (arith, rw (drop-of-length-le s h) at (g .same))
 
-pub ruleset laws = (one-yes, one-no, count-first, count-turn, count-past)
+-- ---- counting pieces
+
+-- no more bytes are counted than there are
+pub count-most : (b : ℕ) (s : List ℕ) → countOf b s ≤ length s
+unfolding countOf
+count-most b [] = omega arith
+count-most b (a ∷ s) = let l = one-small a b refl in let r = count-most b s in omega arith
+
+pub count-empty : (b : ℕ) (s : List ℕ) → length s ≡ 0 → 0 ≡ length (pieces b s)
+count-empty b s h = rw (pieces-none b s h)
+
+pub count-some : (b : ℕ) (s : List ℕ) {k : ℕ} → (length s ≡ 0 → ⊥) → k ≡ countOf b s → k + 1 ≡ length (pieces b s)
+count-some b s n e = rw (e, pieces-some b s (omega arith)) (sym (split-count b s))
+
+pub ruleset laws = (one-yes, one-no, count-first, count-turn, count-past, count-empty, count-some)

@@ -2,19 +2,28 @@
 use Prim.Native.Nat.{ℕ}
 use mathlib.Core.Path.{_≡_, sym, _∙_}
 use mathlib.Core.List.{List}
-use Rattle.pieces.specs.Pieces.{countOf, stepAnswer}
+use lib.ListN.{length}
+use Rattle.pieces.specs.Pieces.{pieces, countOf, stepAnswer}
+use Rattle.pieces.specs.Nth.{nthAnswer}
 use Rattle.pieces.specs.Entries.{endsAnswer, entryAnswer}
-use Rattle.pieces.specs.Paper.{stepPaper, endsPaper, entryPaper}
+use Rattle.pieces.specs.Paper.{stepPaper, nthPaper, endsPaper, entryPaper}
 use Rattle.pieces.specs.declared.step.Step.{Step}
+use Rattle.pieces.specs.declared.nth.Nth.{Nth}
 use Rattle.pieces.specs.declared.entries.Ends.{Ends}
 use Rattle.pieces.specs.declared.entries.Entry.{Entry}
-use Rattle.pieces.proofs.PaperLaws.{step-paper-injective, ends-paper-injective, entry-paper-injective}
+use Rattle.pieces.proofs.PaperLaws.{step-paper-injective, nth-paper-injective, ends-paper-injective, entry-paper-injective}
 
 pub count-determined : (b : ℕ) (t : List ℕ) (r r′ : ℕ) → r ≡ countOf b t → r′ ≡ countOf b t → r ≡ r′
 count-determined b t r r′ e f = e ∙ sym f
 
+pub count-pieces-determined : (b : ℕ) (t : List ℕ) (r r′ : ℕ) → r ≡ length (pieces b t) → r′ ≡ length (pieces b t) → r ≡ r′
+count-pieces-determined b t r r′ e f = e ∙ sym f
+
 pub step-determined : (b : ℕ) (t : List ℕ) (at : ℕ) (r r′ : Step) → stepPaper r ≡ stepAnswer b t at → stepPaper r′ ≡ stepAnswer b t at → r ≡ r′
 step-determined b t at r r′ e f = step-paper-injective r r′ (e ∙ sym f)
+
+pub nth-determined : (b : ℕ) (t : List ℕ) (n : ℕ) (r r′ : Nth) → nthPaper r ≡ nthAnswer b t n → nthPaper r′ ≡ nthAnswer b t n → r ≡ r′
+nth-determined b t n r r′ e f = nth-paper-injective r r′ (e ∙ sym f)
 
 pub ends-determined : (t ends : List ℕ) (r r′ : Ends) → endsPaper r ≡ endsAnswer t ends → endsPaper r′ ≡ endsAnswer t ends → r ≡ r′
 ends-determined t ends r r′ e f = ends-paper-injective r r′ (e ∙ sym f)

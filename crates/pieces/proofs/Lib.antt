@@ -1,7 +1,9 @@
 pub mod PaperLaws
-pub mod CountLaws
 pub mod PieceLaws
+pub mod CountLaws
 pub mod StepLaws
+pub mod NthLaws
+pub mod NumberLaws
 pub mod EntryLaws
 pub mod Demands
 pub mod Determined

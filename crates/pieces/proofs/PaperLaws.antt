@@ -5,9 +5,11 @@ use mathlib.Mathlib.Logic.Function.Defs.{LeftInverse·injective}
 use lib.Dec.{eqb}
 use Rattle.text.specs.Pick.{pick}
 use Rattle.text.specs.Answer.{Answer, says}
-use Rattle.pieces.specs.Paper.{stepPaper, endsPaper, entryPaper}
+use Rattle.pieces.specs.Paper.{stepPaper, nthPaper, endsPaper, entryPaper}
 use Rattle.pieces.specs.declared.step.Step.{Step}
 use Rattle.pieces.specs.declared.step.Step.the-variants as S
+use Rattle.pieces.specs.declared.nth.Nth.{Nth}
+use Rattle.pieces.specs.declared.nth.Nth.the-variants as T
 use Rattle.pieces.specs.declared.entries.Ends.{Ends}
 use Rattle.pieces.specs.declared.entries.Ends.the-variants as N
 use Rattle.pieces.specs.declared.entries.Entry.{Entry}
@@ -28,6 +30,19 @@ step-back S.Beyond = refl
 
 pub step-paper-injective : (x y : Step) → stepPaper x ≡ stepPaper y → x ≡ y
 step-paper-injective = LeftInverse·injective stepOf stepPaper step-back
+
+nthOf : Answer → Nth
+nthOf (says n []) = T.Nothing
+nthOf (says n (a ∷ [])) = T.Nothing
+nthOf (says n (a ∷ b ∷ l)) = T.At (record { start = a; len = b })
+
+nth-back : (x : Nth) → nthOf (nthPaper x) ≡ x
+unfolding nthOf nthPaper
+nth-back (T.At r) = refl
+nth-back T.Nothing = refl
+
+pub nth-paper-injective : (x y : Nth) → nthPaper x ≡ nthPaper y → x ≡ y
+nth-paper-injective = LeftInverse·injective nthOf nthPaper nth-back
 
 endsOf : Answer → Ends
 endsOf (says n l) = pick (eqb n 0) N.Good N.Wrong

@@ -32,6 +32,20 @@ free-head f = f .free 0 (omega arith)
 pub free-tail : {b a : ℕ} {p : List ℕ} → Free b (a ∷ p) → Free b p
 free-tail f = record { free = λ k h. f .free (suc k) (suc-le-suc h) }
 
+-- two texts that are free of it are so together
+pub free-append : {b : ℕ} (p : List ℕ) {q : List ℕ} → Free b p → Free b q → Free b (p ++ q)
+free-append [] f g = g
+free-append (a ∷ p) f g = free-cons (free-head f) (free-append p (free-tail f) g)
+
+-- and each of them where they are so together
+pub free-left : {b : ℕ} (p q : List ℕ) → Free b (p ++ q) → Free b p
+free-left [] q f = free-nil
+free-left (a ∷ p) q f = free-cons (free-head f) (free-left p q (free-tail f))
+
+pub free-right : {b : ℕ} (p q : List ℕ) → Free b (p ++ q) → Free b q
+free-right [] q f = f
+free-right (a ∷ p) q f = free-right p q (free-tail f)
+
 -- ---- the list that `split` gives
 
 -- a separator ends an empty piece

@@ -5,6 +5,8 @@ use mathlib.Core.List.{List, [], _∷_}
 use mathlib.Core.Bool.{Bool, true, false}
 use native.Mathlib.Omega.{arith}
 use native.Mathlib.Nat.{add-assoc}
+use types.Run.{OneOf, miss}
+use denote.Enum.Declared.{tagOf}
 use lib.ListN.{length, getD, take, drop, drop-of-length-le, length-append, length-drop}
 use lib.Seq.{take-append-seam, take-length, drop-append-add, drop-drop}
 use lib.Dec.{leb}
@@ -17,6 +19,7 @@ use Rattle.pieces.specs.Pieces.{firstOf, longer, split, pieceAnswer, inn
 use Rattle.pieces.specs.Paper.{stepPaper}
 use Rattle.pieces.specs.declared.step.Step.{Step}
 use Rattle.pieces.specs.declared.step.Step.the-variants as S
+use Rattle.pieces.proofs.step.Step.{the-type}
 use Rattle.pieces.proofs.PaperLaws.{step-paper-injective}
 use Rattle.pieces.proofs.PieceLaws.{split-mark, split-byte, split-nil, one-text, more-text, more-rest}
 
@@ -94,6 +97,12 @@ module _ (b : ℕ) (t : List ℕ) (at : ℕ) {p : List ℕ} where
   unfolding pieceAnswer
   step-more e = let w = next-within b t at e in first b t at (omega arith) (omega arith) ∙ rw e
 
+-- nothing, where the text is empty
+pub step-none : (b : ℕ) (t : List ℕ) (at : ℕ) → at ≤ length t → length t ≡ 0 → stepAnswer b t at ≡ says 10 []
+unfolding innerAnswer
+step-none b [] at h n = inner b [] at h
+step-none b (a ∷ s) at h n = absurd (omega arith)
+
 -- ---- each way through the step
 
 pub finds-beyond : (b : ℕ) (t : List ℕ) (at : ℕ) → length t < at → stepPaper S.Beyond ≡ stepAnswer b t at
@@ -101,9 +110,8 @@ unfolding stepPaper stepAnswer
 finds-beyond b t at h = rw (lt-leb _ _ h)
 
 pub finds-nothing : (b : ℕ) (t : List ℕ) (at : ℕ) → at ≤ length t → length t ≡ 0 → stepPaper S.Nothing ≡ stepAnswer b t at
-unfolding stepPaper innerAnswer
-finds-nothing b [] at h n = sym (inner b [] at h)
-finds-nothing b (a ∷ s) at h n = absurd (omega arith)
+unfolding stepPaper
+finds-nothing b t at h n = sym (step-none b t at h n)
 
 module _ (b : ℕ) (t : List ℕ) (at : ℕ) {end : ℕ} (h : at ≤ length t) (n : length t ≡ 0 → ⊥)
     (e : end ≡ at + length (firstOf (split b (drop at t)))) where
@@ -140,6 +148,13 @@ pub record Final (b : ℕ) (t : List ℕ) (at : ℕ) (r : Range) : Type 0 where
   pub end : at + r .len ≡ length t
   pub some : 0 < length t
   pub pieces : split b (drop at t) ≡ cut r t ∷ []
+
+-- each lies in the text
+pub further-fits : {b at next : ℕ} {t : List ℕ} {r : Range} → Further b t at r next → r .start + r .len ≤ length t
+further-fits f = let u = f .start in let v = f .past in let w = f .within in omega arith
+
+pub final-fits : {b at : ℕ} {t : List ℕ} {r : Range} → Final b t at r → r .start + r .len ≤ length t
+final-fits f = let u = f .start in let v = f .end in omega arith
 
 -- what each answer of a step tells
 abbrev pub StepTells : ℕ → List ℕ → ℕ → Step → Type 0
@@ -185,5 +200,13 @@ step-tells b t at x e = placed (leb at (length t)) refl
     placed : (c : Bool) → leb at (length t) ≡ c → StepTells b t at x
     placed true h = within (leb-true _ _ h) (length t) refl
     placed false h = let l = leb-false _ _ h in is S.Beyond (finds-beyond b t at l) l
+
+-- neither a piece nor the last one, at a place of the text: it is empty
+pub rest-tells : (b : ℕ) (t : List ℕ) (at : ℕ) (x : Step) → stepPaper x ≡ stepAnswer b t at → at ≤ length t → OneOf (2 ∷ 3 ∷ []) (tagOf the-type x)
+    → length t ≡ 0
+rest-tells b t at (S.More r next) e w h = absurd (miss (2 ∷ 3 ∷ []) 0 tt h)
+rest-tells b t at (S.Last r) e w h = absurd (miss (2 ∷ 3 ∷ []) 1 tt h)
+rest-tells b t at S.Nothing e w h = step-tells b t at S.Nothing e
+rest-tells b t at S.Beyond e w h = absurd (let f = step-tells b t at S.Beyond e in omega arith)
 
 pub ruleset laws = (seek-first, seek-found, seek-turn, seek-past, finds-beyond, finds-nothing, finds-last, finds-more)

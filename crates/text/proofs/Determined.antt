@@ -1,8 +1,10 @@
 -- Any two outcomes that a contract of this crate allows are equal: `paper` is injective. Assumes nothing.
 use mathlib.Core.Path.{_≡_, refl, sym, _∙_}
+use mathlib.Core.Bool.{Bool}
 use mathlib.Core.List.{List}
 use Prim.Native.Nat.{ℕ}
 use Rattle.text.specs.Paper.{writtenPaper, utf8Paper, spacePaper}
+use Rattle.text.specs.Same.{same}
 use Rattle.text.specs.Over.{Writes}
 use Rattle.text.specs.Utf8.{utf8Answer}
 use Rattle.text.specs.Space.{spaceAnswer}
@@ -50,3 +52,7 @@ utf8-determined s r r′ e e′ = utf8-paper-injective r r′ (e ∙ sym e′)
 -- `find_space`
 pub space-determined : (s : List ℕ) (r r′ : Space) → spacePaper r ≡ spaceAnswer s → spacePaper r′ ≡ spaceAnswer s → r ≡ r′
 space-determined s r r′ e e′ = space-paper-injective r r′ (e ∙ sym e′)
+
+-- `same_bytes`
+pub same-determined : (s t : List ℕ) (r r′ : Bool) → r ≡ same s t → r′ ≡ same s t → r ≡ r′
+same-determined s t r r′ e e′ = e ∙ sym e′

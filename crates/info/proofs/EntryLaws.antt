@@ -1,0 +1,209 @@
+-- An entry is spelled as it was cut, and cut as it is spelled; so what stands at a place tells the step's answer, by cases of the definition. Assumes nothing.
+use Prim.Native.Nat.{ℕ, _+_, _<_, _≤_}
+use mathlib.Core.Path.{_≡_, refl, sym, ap, _∙_}
+use mathlib.Core.Bool.{Bool, true, false}
+use mathlib.Core.List.{List, [], _∷_, _++_, append-nil, append-assoc}
+use native.Mathlib.Omega.{arith}
+use native.Mathlib.Nat.{add-assoc}
+use lib.ListN.{length, take, drop, length-append, length-drop}
+use lib.Seq.{take-append-seam, drop-append-add, drop-drop}
+use lib.Dec.{ltb, eqb}
+use borrow.Author.Tests.{lt-ltb, le-ltb, ltb-true, ltb-false, eq-eqb, ne-eqb, eqb-true, eqb-false}
+use Rattle.text.specs.Pick.{pick}
+use Rattle.text.specs.Answer.{Answer, says}
+use Rattle.pieces.specs.Pieces.{split, joined}
+use Rattle.pieces.specs.Demands.{Free}
+use Rattle.pieces.proofs.PieceLaws.{free-nil, free-cons, free-tail, free-append, free-left, free-right, first-free, split-nil, split-joined, split-whole, split-append, one-text, more-text}
+use Rattle.info.specs.Info.{Pair, alone, paired, keyOf, pairIn, pairOf, isEmpty, placesOf, entryAnswer, danglingAnswer, endedAnswer, firstAnswer, stepAnswer}
+use Rattle.info.specs.Demands.{spelled, valueFree, Good}
+
+-- ---- an entry and its text
+
+-- the text of an entry is what it was cut from
+pub spelled-pair : (e : List ℕ) → spelled (pairOf e) ≡ e
+unfolding spelled pairOf pairIn
+spelled-pair e = by (split 61 e) refl
+  where
+    by : (ps : List (List ℕ)) → split 61 e ≡ ps → spelled (pairIn ps) ≡ e
+    by [] q = absurd (split-nil 61 e q)
+    by (k ∷ []) q = sym (one-text 61 q)
+    by (k ∷ v ∷ vs) q = sym (more-text 61 e q)
+
+-- and an entry is cut from its text, where its key holds no `=`
+pub pair-spelled : (p : Pair) → Free 61 (keyOf p) → pairOf (spelled p) ≡ p
+unfolding spelled pairOf pairIn
+pair-spelled (alone k) f = rw (split-whole k f)
+pair-spelled (paired k v) f = rw (split-append k v f) (by (split 61 v) refl)
+  where
+    by : (ps : List (List ℕ)) → split 61 v ≡ ps → pairIn (k ∷ ps) ≡ paired k v
+    by [] q = absurd (split-nil 61 v q)
+    by (w ∷ ws) q = ap (paired k) (rw q at (split-joined 61 v))
+
+key-free : (e : List ℕ) → Free 61 (keyOf (pairOf e))
+unfolding pairOf pairIn
+key-free e = by (split 61 e) refl
+  where
+    by : (ps : List (List ℕ)) → split 61 e ≡ ps → Free 61 (keyOf (pairIn ps))
+    by [] q = absurd (split-nil 61 e q)
+    by (k ∷ []) q = first-free 61 e q
+    by (k ∷ v ∷ vs) q = first-free 61 e q
+
+-- a text free of `;` whose key is not empty is a good entry
+pub pair-good : (e : List ℕ) → Free 59 e → 0 < length (keyOf (pairOf e)) → Good (pairOf e)
+unfolding spelled valueFree
+pair-good e f n = by (pairOf e) (rw (spelled-pair e) f) (key-free e) n
+  where
+    by : (p : Pair) → Free 59 (spelled p) → Free 61 (keyOf p) → 0 < length (keyOf p) → Good p
+    by (alone k) s q n = record { some = n; no-equals = q; no-semicolon = s; value = tt }
+    by (paired k v) s q n = record { some = n; no-equals = q; no-semicolon = free-left k _ s; value = free-tail (free-right k _ s) }
+
+-- and the text of a good entry is free of `;`
+pub spelled-free : (p : Pair) → Good p → Free 59 (spelled p)
+unfolding spelled valueFree
+spelled-free (alone k) g = g .no-semicolon
+spelled-free (paired k v) g = free-append k (g .no-semicolon) (free-cons (λ z. omega arith) (g .value))
+
+pub spelled-some : (p : Pair) → Good p → 0 < length (spelled p)
+unfolding spelled
+spelled-some (alone k) g = g .some
+spelled-some (paired k v) g = let n = g .some in simp length-append (omega arith)
+
+-- a byte that is neither `=` nor `;` is a good entry
+pub byte-good : (b : ℕ) → (b ≡ 61 → ⊥) → (b ≡ 59 → ⊥) → Good (alone (b ∷ []))
+unfolding valueFree
+byte-good b e s = record { some = omega arith; no-equals = free-cons e free-nil; no-semicolon = free-cons s free-nil; value = tt }
+
+-- ---- an entry that stands at a place, before a rest
+
+module _ (t : List ℕ) (at : ℕ) (r : List ℕ) where
+  pub key-taken : (p : Pair) → drop at t ≡ spelled p ++ r → take (length (keyOf p)) (drop at t) ≡ keyOf p
+  unfolding spelled
+  key-taken (alone k) e = rw e (take-append-seam k r)
+  key-taken (paired k v) e = rw (e, append-assoc) (take-append-seam k _)
+
+  pub value-taken : (k v : List ℕ) → drop at t ≡ spelled (paired k v) ++ r → take (length v) (drop (at + length k + 1) t) ≡ v
+  unfolding spelled
+  value-taken k v e = rw (add-assoc, ← drop-drop (length k + 1) at t, e, append-assoc, drop-append-add k _ 1) (take-append-seam v r)
+
+  pub stands-length : (p : Pair) → Good p → drop at t ≡ spelled p ++ r → at + length (spelled p) + length r ≡ length t
+  stands-length p g e =
+      let n = spelled-some p g in
+      let l = length-drop at t in
+      omega (arith, simp length-append at (ap length e))
+
+-- what stands behind its `;`
+pub after-entry : (t : List ℕ) (at : ℕ) (p : Pair) (s : List ℕ) → drop at t ≡ spelled p ++ 59 ∷ s → drop (at + length (spelled p) + 1) t ≡ s
+after-entry t at p s e = rw (add-assoc, ← drop-drop (length (spelled p) + 1) at t, e) (drop-append-add (spelled p) (59 ∷ s) 1)
+
+-- ---- the answer of a step
+
+module _ (t : List ℕ) (at : ℕ) where
+  pub step-beyond : length t < at → stepAnswer t at ≡ says 6 (at ∷ [])
+  unfolding stepAnswer
+  step-beyond h = rw (lt-ltb _ _ h)
+
+  pub step-end : at ≡ length t → stepAnswer t at ≡ says 10 (at ∷ [])
+  unfolding stepAnswer
+  step-end e = rw (le-ltb (length t) at (omega arith), eq-eqb _ _ e)
+
+  pub step-inside : at < length t → stepAnswer t at ≡ firstAnswer at (split 59 (drop at t))
+  unfolding stepAnswer
+  step-inside h = rw (le-ltb (length t) at (omega arith), ne-eqb at (length t) (λ e. omega arith))
+
+kept : (at : ℕ) (p : Pair) (next : ℕ) → 0 < length (keyOf p) → entryAnswer at p next ≡ says 0 (next ∷ placesOf at p)
+unfolding entryAnswer isEmpty
+kept at p next n = by (keyOf p) n
+  where
+    by : (k : List ℕ) → 0 < length k → pick (isEmpty k) (says 8 ((at + 1) ∷ [])) (says 0 (next ∷ placesOf at p)) ≡ says 0 (next ∷ placesOf at p)
+    by [] h = absurd (omega arith)
+    by (b ∷ k) h = refl
+
+module _ (t : List ℕ) (at : ℕ) (p : Pair) (g : Good p) where
+  -- a good entry that the column's end ends
+  pub step-last : drop at t ≡ spelled p ++ [] → stepAnswer t at ≡ says 0 (length t ∷ placesOf at p)
+  unfolding firstAnswer
+  step-last e =
+      let n = spelled-some p g in
+      let l = stands-length t at [] p g e in
+      let m : at + length (spelled p) ≡ length t = omega arith in
+      step-inside t at (omega arith)
+      ∙ rw (e, append-nil, split-whole (spelled p) (spelled-free p g), pair-spelled p (g .no-equals), m) (kept at p (length t) (g .some))
+
+  -- one that a `;` ends, before a text
+  pub step-more : (s : List ℕ) → 0 < length s → drop at t ≡ spelled p ++ 59 ∷ s
+      → stepAnswer t at ≡ says 0 ((at + length (spelled p) + 1) ∷ placesOf at p)
+  unfolding firstAnswer endedAnswer
+  step-more s h e =
+      let n = spelled-some p g in
+      let l = stands-length t at (59 ∷ s) p g e in
+      step-inside t at (omega arith)
+      ∙ rw (e, split-append (spelled p) s (spelled-free p g)) (by (split 59 s) refl)
+    where
+      next : ℕ
+      next = at + length (spelled p) + 1
+
+      ended : (r : List ℕ) → 0 < length r → endedAnswer at p next r ≡ says 0 (next ∷ placesOf at p)
+      ended [] h = absurd (omega arith)
+      ended (b ∷ r) h = kept at p next (g .some)
+
+      by : (ps : List (List ℕ)) → split 59 s ≡ ps → firstAnswer at (spelled p ∷ ps) ≡ says 0 (next ∷ placesOf at p)
+      by [] q = absurd (split-nil 59 s q)
+      by (f ∷ fs) q = rw (pair-spelled p (g .no-equals)) (ended (joined 59 (f ∷ fs)) (rw (← q, split-joined 59 s) h))
+
+-- ---- what stands at a place
+
+-- and the answer of the step there
+pub data Stands (t : List ℕ) (at : ℕ) : Answer → Type 0 where
+  outside : length t < at → Stands t at (says 6 (at ∷ []))
+  nothing-left : at ≡ length t → Stands t at (says 10 (at ∷ []))
+  last-entry : (p : Pair) → Good p → drop at t ≡ spelled p ++ [] → Stands t at (says 0 (length t ∷ placesOf at p))
+  one-entry : (p : Pair) → Good p → (s : List ℕ) → 0 < length s → drop at t ≡ spelled p ++ 59 ∷ s
+      → Stands t at (says 0 ((at + length (spelled p) + 1) ∷ placesOf at p))
+  last-key : at < length t → Stands t at (says 7 (length t ∷ []))
+  keyless : at < length t → Stands t at (says 8 ((at + 1) ∷ []))
+  last-value : at < length t → Stands t at (says 9 (length t ∷ []))
+
+pub step-stands : (t : List ℕ) (at : ℕ) → Stands t at (stepAnswer t at)
+unfolding firstAnswer entryAnswer endedAnswer danglingAnswer isEmpty
+step-stands t at = placed (ltb (length t) at) refl
+  where
+    keyed : (k : List ℕ) {x y : Answer} → Stands t at x → (0 < length k → Stands t at y) → Stands t at (pick (isEmpty k) x y)
+    keyed [] x y = x
+    keyed (b ∷ k) x y = y (omega arith)
+
+    dangling : at < length t → (p : Pair) → Stands t at (danglingAnswer at p (length t))
+    dangling h (alone k) = last-key h
+    dangling h (paired k v) = keyed k (keyless h) (λ n. last-value h)
+
+    named : {e : List ℕ} (p : Pair) → Good p → spelled p ≡ e → (s : List ℕ) → 0 < length s → drop at t ≡ e ++ 59 ∷ s
+        → Stands t at (says 0 ((at + length e + 1) ∷ placesOf at p))
+    named p g q s h d = rw (← q) (one-entry p g s h (rw q d))
+
+    followed : at < length t → (e : List ℕ) → Free 59 e → (s : List ℕ) → drop at t ≡ e ++ 59 ∷ s → Stands t at (endedAnswer at (pairOf e) (at + length e + 1) s)
+    followed h e f [] q =
+        let l = length-drop at t in
+        let m : at + length e + 1 ≡ length t = omega (arith, simp length-append at (ap length q)) in
+        rw m (dangling h (pairOf e))
+    followed h e f (b ∷ s) q =
+        keyed (keyOf (pairOf e)) (keyless h)
+        (λ n. named (pairOf e) (pair-good e f n) (spelled-pair e) (b ∷ s) (omega arith) q)
+
+    cut : at < length t → (ps : List (List ℕ)) → split 59 (drop at t) ≡ ps → Stands t at (firstAnswer at ps)
+    cut h [] q = absurd (split-nil 59 _ q)
+    cut h (e ∷ []) q =
+        let l = length-drop at t in
+        let m : at + length e ≡ length t = omega (arith, ap length (one-text 59 q)) in
+        keyed (keyOf (pairOf e)) (keyless h)
+        (λ n. rw m (last-entry (pairOf e) (pair-good e (first-free 59 _ q) n) (rw (spelled-pair e, append-nil) (one-text 59 q))))
+    cut h (e ∷ f ∷ fs) q = followed h e (first-free 59 _ q) (joined 59 (f ∷ fs)) (more-text 59 _ q)
+
+    inside : at ≤ length t → (c : Bool) → eqb at (length t) ≡ c → Stands t at (stepAnswer t at)
+    inside h true e = let l = eqb-true at (length t) e in rw (step-end t at l) (nothing-left l)
+    inside h false e =
+        let l = eqb-false at (length t) e in
+        let m : at < length t = omega arith in
+        rw (step-inside t at m) (cut m (split 59 (drop at t)) refl)
+
+    placed : (c : Bool) → ltb (length t) at ≡ c → Stands t at (stepAnswer t at)
+    placed true h = let l = ltb-true _ _ h in rw (step-beyond t at l) (outside l)
+    placed false h = inside (ltb-false _ _ h) (eqb at (length t)) refl

@@ -1,0 +1,149 @@
+-- Steppers and counts that the demands refuse, each on one small column. Assumes nothing.
+use Prim.Native.Nat.{ℕ, zero, suc, _+_, _<_, _≤_}
+use mathlib.Core.Path.{_≡_, refl, _∙_}
+use mathlib.Core.List.{List, [], _∷_}
+use native.Mathlib.Omega.{arith}
+use lib.ListN.{length, getD, take, drop}
+use Rattle.text.specs.Answer.{Answer, says, numberOf}
+use Rattle.pieces.proofs.PieceLaws.{joined-one, joined-more}
+use Rattle.info.specs.Info.{Pair, alone, placesOf, stepAnswer}
+use Rattle.info.specs.Demands.{Stepper, spelled, Good, WellFormed, Scan, end, bare, full, Scans, GoesOn, entry, beyond, after-key, no-key, after-value, ended, Moved, MovesOn, Counts}
+use Rattle.info.proofs.EntryLaws.{byte-good, step-last}
+use Rattle.info.proofs.Counts.{keyless-count}
+
+-- ---- two columns
+
+-- `a` and `b`
+a-good : Good (alone (97 ∷ []))
+a-good = byte-good 97 (λ z. omega arith) (λ z. omega arith)
+
+b-good : Good (alone (98 ∷ []))
+b-good = byte-good 98 (λ z. omega arith) (λ z. omega arith)
+
+a-formed : WellFormed (97 ∷ []) (alone (97 ∷ []) ∷ [])
+unfolding spelled
+a-formed = record { each = by; whole = joined-one 59 (97 ∷ []) }
+  where
+    by : (i : ℕ) → i < 1 → Good (getD (alone (97 ∷ []) ∷ []) i (alone []))
+    by zero l = a-good
+    by (suc i) l = absurd (omega arith)
+
+-- `a;b`
+a-b-formed : WellFormed (97 ∷ 59 ∷ 98 ∷ []) (alone (97 ∷ []) ∷ alone (98 ∷ []) ∷ [])
+unfolding spelled
+a-b-formed = record { each = by; whole = joined-more 59 (97 ∷ []) (98 ∷ []) [] ∙ rw joined-one }
+  where
+    by : (i : ℕ) → i < 2 → Good (getD (alone (97 ∷ []) ∷ alone (98 ∷ []) ∷ []) i (alone []))
+    by zero l = a-good
+    by (suc zero) l = b-good
+    by (suc (suc i)) l = absurd (omega arith)
+
+-- ---- a step before a key alone
+
+-- its answer, the key that it cuts out, and the steps from the next place on
+record Bare (step : Stepper) (t : List ℕ) (at : ℕ) (key : List ℕ) (es : List Pair) : Type 0 where
+  next : ℕ
+  start : ℕ
+  len : ℕ
+  says-so : step t at ≡ says 0 (next ∷ start ∷ len ∷ [])
+  cuts : take len (drop start t) ≡ key
+  rest : Scan step t next es
+
+scan-bare : (step : Stepper) (t : List ℕ) {at : ℕ} {key : List ℕ} {es fs : List Pair} → Scan step t at fs → fs ≡ alone key ∷ es → Bare step t at key es
+scan-bare step t (end s) e = absurd (let z : _≡_ {A = ℕ} 0 1 = cc in omega arith)
+scan-bare step t {key = key} {es = es} (bare {next = n} {k = k} {m = m} {es = gs} s w) e =
+    let r : gs ≡ es = cc in
+    let c : take m (drop k t) ≡ key = cc in
+    record { next = n; start = k; len = m; says-so = s; cuts = c; rest = (rw r at w) }
+scan-bare step t (full s w) e = absurd (let z : _≡_ {A = ℕ} 0 1 = cc in omega arith)
+
+scan-end : (step : Stepper) (t : List ℕ) {at : ℕ} {fs : List Pair} → Scan step t at fs → fs ≡ [] → step t at ≡ says 10 (at ∷ [])
+scan-end step t (end s) e = s
+scan-end step t (bare s w) e = absurd (let z : _≡_ {A = ℕ} 0 1 = cc in omega arith)
+scan-end step t (full s w) e = absurd (let z : _≡_ {A = ℕ} 0 1 = cc in omega arith)
+
+-- ---- answering the first step only
+
+-- a key that it would cut at any place is the one that it cuts at the first
+not-two : (step : Stepper) (t : List ℕ) → ((at : ℕ) → 0 < at → step t at ≡ says 10 (at ∷ [])) → {key other : List ℕ} {es fs : List Pair}
+    → Bare step t 0 key es → (n : ℕ) → Bare step t n other fs → key ≡ other
+not-two step t ends x zero y = cc
+not-two step t ends x (suc n) y =
+    let e = ends (suc n) (omega arith) in
+    absurd (let z : _≡_ {A = ℕ} 0 10 = cc in omega arith)
+
+-- a stepper that finds the end at every place but the first doesn't scan `a;b`
+pub first-step-only : (step : Stepper) → ((t : List ℕ) (at : ℕ) → 0 < at → step t at ≡ says 10 (at ∷ [])) → Scans step → ⊥
+unfolding Scans
+first-step-only step ends scans =
+    let t : List ℕ = 97 ∷ 59 ∷ 98 ∷ [] in
+    let x = scan-bare step t (scans t (alone (97 ∷ []) ∷ alone (98 ∷ []) ∷ []) .0 a-b-formed) refl in
+    let e : _≡_ {A = List ℕ} (97 ∷ []) (98 ∷ []) = not-two step t (ends t) x (x .next) (scan-bare step t (x .rest) refl) in
+    let z : _≡_ {A = ℕ} 97 98 = cc in
+    omega arith
+
+-- ---- counts
+
+-- a count that is always the same
+pub invented-count : (n : ℕ) → Counts (λ t. n) → ⊥
+invented-count n c = omega (arith, c .none, c .some (0 ∷ []) (omega arith))
+
+-- one that gives `=a` its two steps
+pub counted-by-steps : (count : List ℕ → ℕ) → count (61 ∷ 97 ∷ []) ≡ 2 → Counts count → ⊥
+counted-by-steps count e c = omega (arith, keyless-count, c .some (61 ∷ 97 ∷ []) (omega arith))
+
+-- ---- a next place that is not the entry's
+
+-- the same answer, with its next place one further
+pub bumped : Answer → Answer
+bumped (says n []) = says n []
+bumped (says n (next ∷ places)) = says n ((next + 1) ∷ places)
+
+-- the step at `a`, so changed
+a-bumped : bumped (stepAnswer (97 ∷ []) 0) ≡ says 0 (2 ∷ placesOf 0 (alone (97 ∷ [])))
+unfolding bumped spelled
+a-bumped = rw (step-last (97 ∷ []) 0 (alone (97 ∷ [])) a-good refl)
+
+a-number : numberOf (stepAnswer (97 ∷ []) 0) ≡ 0
+unfolding spelled
+a-number = rw (step-last (97 ∷ []) 0 (alone (97 ∷ [])) a-good refl)
+
+next-within : {t : List ℕ} {at n next : ℕ} → at ≤ length t → GoesOn t at n next → next ≤ length t
+next-within h (entry l m) = m
+next-within h (beyond l) = h
+next-within h (after-key l) = omega arith
+next-within h (no-key l) = omega arith
+next-within h (after-value l) = omega arith
+next-within h (ended e) = h
+
+-- a stepper that so changes the entries' answers, whatever it does with others, doesn't move on
+pub invented-next : (step : Stepper) → ((t : List ℕ) (at : ℕ) → numberOf (stepAnswer t at) ≡ 0 → step t at ≡ bumped (stepAnswer t at)) → MovesOn step → ⊥
+unfolding MovesOn
+invented-next step invents moves = by (step t 0) (invents t 0 a-number ∙ a-bumped) (moves t 0)
+  where
+    t : List ℕ
+    t = 97 ∷ []
+
+    by : (a : Answer) → a ≡ says 0 (2 ∷ placesOf 0 (alone (97 ∷ []))) → Moved t 0 a → ⊥
+    by a e m =
+        let n : m .next ≡ 2 = cc in
+        let l = next-within (omega arith) (m .goes) in
+        omega arith
+
+-- nor does it scan, where it answers 6 beyond the column
+pub invented-next-scan : (step : Stepper) → ((t : List ℕ) (at : ℕ) → numberOf (stepAnswer t at) ≡ 0 → step t at ≡ bumped (stepAnswer t at))
+    → ((t : List ℕ) (at : ℕ) → length t < at → numberOf (step t at) ≡ 6) → Scans step → ⊥
+unfolding Scans placesOf
+invented-next-scan step invents outside scans =
+    let t : List ℕ = 97 ∷ [] in
+    let x = scan-bare step t (scans t (alone (97 ∷ []) ∷ []) .0 a-formed) refl in
+    let e = invents t 0 a-number ∙ a-bumped in
+    let n : x .next ≡ 2 = cc in
+    by t (x .next) (omega arith) (x .rest)
+  where
+    by : (t : List ℕ) (at : ℕ) → length t < at → Scan step t at [] → ⊥
+    by t at h w =
+        let s = scan-end step t w refl in
+        let o = outside t at h in
+        let z : _≡_ {A = ℕ} 6 10 = cc in
+        omega arith

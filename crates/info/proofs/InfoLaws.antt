@@ -1,0 +1,257 @@
+-- A step of the INFO scan: an entry is cut at its first `=`, and each way through a step is a law of the pieces between `;`. Assumes nothing.
+use Prim.Native.Nat.{ℕ, _+_, _-_, _<_, _≤_}
+use mathlib.Core.Path.{_≡_, refl, sym, ap, _∙_}
+use mathlib.Core.Bool.{true, false}
+use mathlib.Core.List.{List, [], _∷_}
+use types.Run.{OneOf, miss}
+use denote.Enum.Declared.{tagOf}
+use native.Mathlib.Omega.{arith}
+use lib.ListN.{length, take, drop, drop-of-length-le, length-drop}
+use lib.Dec.{eqb}
+use borrow.Author.Tests.{eq-eqb, ne-eqb, lt-ltb, le-ltb}
+use Rattle.text.specs.Range.{cut}
+use Rattle.text.specs.declared.range.Range.{Range}
+use Rattle.text.proofs.Lists.{here, cut-is, cut-length}
+use Rattle.pieces.specs.Pieces.{split, joined, stepAnswer as pieceAnswer}
+use Rattle.pieces.specs.Paper.{stepPaper as piecePaper}
+use Rattle.pieces.specs.declared.step.Step.{Step as Piece}
+use Rattle.pieces.specs.declared.step.Step.the-variants as P
+use Rattle.pieces.proofs.step.Step.{the-type}
+use Rattle.pieces.proofs.PaperLaws.{step-paper-injective}
+use Rattle.pieces.proofs.PieceLaws.{free-nil, split-whole, split-nil, split-joined, one-text, more-text}
+use Rattle.pieces.proofs.StepLaws.{StepTells, step-tells, finds-beyond}
+use Rattle.info.specs.Info.{Pair, alone, paired, keyOf, pairIn, pairOf, isEmpty, placesOf, entryAnswer, danglingAnswer, endedAnswer, firstAnswer, stepAnswer}
+use Rattle.info.specs.Paper.{valuePlaces, entryPlaces, stepPaper}
+use Rattle.info.specs.Demands.{spelled}
+use Rattle.info.specs.Inner.{keyed, keptAnswer, droppedBy, droppedAnswer}
+use Rattle.info.specs.declared.step.Value.{Value}
+use Rattle.info.specs.declared.step.Value.the-variants as W
+use Rattle.info.specs.declared.step.Entry.{Entry}
+use Rattle.info.specs.declared.step.Step.{Step}
+use Rattle.info.specs.declared.step.Step.the-variants as S
+
+-- ---- the pair that a text is
+
+-- one piece: the whole is the key
+pub pair-alone : (e : List ℕ) {k : List ℕ} → split 61 e ≡ k ∷ [] → pairOf e ≡ alone e
+unfolding pairOf pairIn
+pair-alone e q = rw q (ap alone (sym (one-text 61 q)))
+
+-- a first piece, and the rest behind the `=`
+pub pair-paired : (e rest : List ℕ) {k : List ℕ} → split 61 e ≡ k ∷ split 61 rest → pairOf e ≡ paired k rest
+unfolding pairOf pairIn
+pair-paired e rest {k} q = by (split 61 rest) refl
+  where
+    by : (ps : List (List ℕ)) → split 61 rest ≡ ps → pairOf e ≡ paired k rest
+    by [] z = absurd (split-nil 61 rest z)
+    by (v ∷ vs) z = rw (q, z) (ap (paired k) (ap (joined 61) (sym z) ∙ split-joined 61 rest))
+
+-- spelled, it is the text again
+pub pair-spelled : (e : List ℕ) → spelled (pairOf e) ≡ e
+unfolding pairOf pairIn spelled
+pair-spelled e = by (split 61 e) refl
+  where
+    by : (ps : List (List ℕ)) → split 61 e ≡ ps → spelled (pairIn ps) ≡ e
+    by [] q = absurd (split-nil 61 e q)
+    by (k ∷ []) q = sym (one-text 61 q)
+    by (k ∷ v ∷ vs) q = sym (more-text 61 e q)
+
+-- ---- the entry in a range
+
+-- the part of a text that is lent from a place on
+pub lent-cut : (r : Range) (t : List ℕ) → take (r .start + r .len - r .start) (drop (r .start) t) ≡ cut r t
+lent-cut r t = let n : r .start + r .len - r .start ≡ r .len = omega arith in rw n (sym (cut-is (r .start) (r .len) t))
+
+module _ (t : List ℕ) (range : Range) (h : range .start + range .len ≤ length t) (x : Piece)
+    (e : piecePaper x ≡ pieceAnswer 61 (take (range .start + range .len - range .start) (drop (range .start) t)) 0) where
+  lent-tells : (y : Piece) → x ≡ y → StepTells 61 (cut range t) 0 y
+  lent-tells y q = step-tells 61 (cut range t) 0 y (rw (q, lent-cut range t) at e)
+
+  pub value-within : {key : Range} {next : ℕ} → x ≡ P.More key next → next ≤ range .len
+  value-within {key} {next} q =
+      let f = lent-tells (P.More key next) q in
+      let l = cut-length range t h in
+      omega arith
+
+  pub entry-paired : {key : Range} {next : ℕ} → x ≡ P.More key next
+      → entryPlaces (record { key = record { start = range .start; len = key .len }; value = W.At (record { start = range .start + next; len = range .len - next }) })
+      ≡ placesOf (range .start) (pairOf (cut range t))
+  unfolding entryPlaces valuePlaces placesOf
+  entry-paired {key} {next} q =
+      let f = lent-tells (P.More key next) q in
+      let l = cut-length range t h in
+      let k : length (cut key (cut range t)) ≡ key .len = cut-length key (cut range t) (omega arith) in
+      let v : length (drop next (cut range t)) ≡ range .len - next = length-drop next (cut range t) ∙ ap (λ (n : ℕ). n - next) l in
+      let p : range .start + next ≡ range .start + key .len + 1 = omega arith in
+      rw (pair-paired (cut range t) (drop next (cut range t)) (f .pieces), k, v, p)
+
+  entry-by : (y : Piece) → x ≡ y → OneOf (1 ∷ 2 ∷ 3 ∷ []) (tagOf the-type y) → pairOf (cut range t) ≡ alone (cut range t)
+  entry-by (P.More key next) q o = absurd (miss (1 ∷ 2 ∷ 3 ∷ []) 0 tt o)
+  entry-by (P.Last r) q o = pair-alone (cut range t) (lent-tells (P.Last r) q .pieces)
+  entry-by P.Nothing q o = let z = lent-tells P.Nothing q in empty (cut range t) z
+    where
+      empty : (s : List ℕ) → length s ≡ 0 → pairOf s ≡ alone s
+      empty [] z = pair-alone [] (split-whole [] free-nil)
+      empty (b ∷ s) z = absurd (omega arith)
+  entry-by P.Beyond q o = let z = lent-tells P.Beyond q in absurd (omega arith)
+
+  -- no `=`: each answer but `More`
+  pub entry-alone : OneOf (1 ∷ 2 ∷ 3 ∷ []) (tagOf the-type x) → entryPlaces (record { key = range; value = W.Absent }) ≡ placesOf (range .start) (pairOf (cut range t))
+  unfolding entryPlaces valuePlaces placesOf
+  entry-alone o = rw (entry-by x refl o, cut-length range t h)
+
+-- ---- an entry judged
+
+pub keeps-empty : (e : Entry) (next : ℕ) → e .key .len ≡ 0 → stepPaper (S.NoKey (e .key .start + 1)) ≡ keptAnswer e next
+unfolding stepPaper keptAnswer keyed
+keeps-empty e next h = rw (eq-eqb _ 0 h)
+
+pub keeps : (e : Entry) (next : ℕ) → (e .key .len ≡ 0 → ⊥) → stepPaper (S.Found e next) ≡ keptAnswer e next
+unfolding stepPaper keptAnswer keyed
+keeps e next h = rw (ne-eqb _ 0 h)
+
+pub drops-absent : (e : Entry) (end : ℕ) → e .value ≡ W.Absent → stepPaper (S.AfterKey end) ≡ droppedAnswer e end
+unfolding stepPaper droppedAnswer droppedBy
+drops-absent e end v = rw v
+
+module _ (e : Entry) (end : ℕ) {r : Range} (v : e .value ≡ W.At r) where
+  pub drops-empty : e .key .len ≡ 0 → stepPaper (S.NoKey (e .key .start + 1)) ≡ droppedAnswer e end
+  unfolding stepPaper droppedAnswer droppedBy keyed
+  drops-empty h = rw (v, eq-eqb _ 0 h)
+
+  pub drops-value : (e .key .len ≡ 0 → ⊥) → stepPaper (S.AfterValue end) ≡ droppedAnswer e end
+  unfolding stepPaper droppedAnswer droppedBy keyed
+  drops-value h = rw (v, ne-eqb _ 0 h)
+
+-- what an entry with the places of a pair tells
+pub record Spells (e : Entry) (at : ℕ) (p : Pair) : Type 0 where
+  pub start : e .key .start ≡ at
+  pub size : e .key .len ≡ length (keyOf p)
+  pub places : entryPlaces e ≡ placesOf at p
+
+pub spells : (e : Entry) (at : ℕ) (p : Pair) → entryPlaces e ≡ placesOf at p → Spells e at p
+unfolding entryPlaces placesOf
+spells e at (alone k) q = record { start = cc; size = cc; places = q }
+spells e at (paired k v) q = record { start = cc; size = cc; places = q }
+
+empty-size : (k : List ℕ) → eqb (length k) 0 ≡ isEmpty k
+unfolding isEmpty
+empty-size [] = refl
+empty-size (b ∷ k) = let n : length (b ∷ k) ≡ 0 → ⊥ = λ e. omega arith in ne-eqb _ 0 n
+
+pub kept-is : (e : Entry) (at : ℕ) (p : Pair) (next : ℕ) → entryPlaces e ≡ placesOf at p → keptAnswer e next ≡ entryAnswer at p next
+unfolding keptAnswer keyed entryAnswer
+kept-is e at p next q = let s = spells e at p q in rw (q, s .start, s .size, empty-size (keyOf p))
+
+pub dropped-is : (e : Entry) (at : ℕ) (p : Pair) (end : ℕ) → entryPlaces e ≡ placesOf at p → droppedAnswer e end ≡ danglingAnswer at p end
+unfolding droppedAnswer droppedBy keyed danglingAnswer entryPlaces valuePlaces placesOf
+dropped-is e at (alone k) end q = by (e .value) refl
+  where
+    by : (v : Value) → e .value ≡ v → droppedBy v e end ≡ danglingAnswer at (alone k) end
+    by W.Absent f = refl
+    by (W.At r) f = absurd (let g = rw f at q in let z : _≡_ {A = ℕ} 0 1 = cc in omega arith)
+dropped-is e at (paired k v) end q = by (e .value) refl
+  where
+    by : (w : Value) → e .value ≡ w → droppedBy w e end ≡ danglingAnswer at (paired k v) end
+    by W.Absent f = absurd (let g = rw f at q in let z : _≡_ {A = ℕ} 0 1 = cc in omega arith)
+    by (W.At r) f = let s = spells e at (paired k v) q in rw (s .start, s .size, empty-size k)
+
+-- ---- the clauses of a step
+
+pub step-beyond : (t : List ℕ) (at : ℕ) → length t < at → stepPaper (S.Beyond at) ≡ stepAnswer t at
+unfolding stepPaper stepAnswer
+step-beyond t at h = rw (lt-ltb _ _ h)
+
+pub step-end : (t : List ℕ) (at : ℕ) → at ≡ length t → stepPaper (S.Nothing at) ≡ stepAnswer t at
+unfolding stepPaper stepAnswer
+step-end t at h = rw (le-ltb (length t) at (omega arith), eq-eqb _ _ h)
+
+pub step-inside : (t : List ℕ) (at : ℕ) → at < length t → stepAnswer t at ≡ firstAnswer at (split 59 (drop at t))
+unfolding stepAnswer
+step-inside t at h =
+    let n : at ≡ length t → ⊥ = λ e. omega arith in
+    rw (le-ltb (length t) at (omega arith), ne-eqb _ _ n)
+
+pub first-last : (at : ℕ) (e : List ℕ) → firstAnswer at (e ∷ []) ≡ entryAnswer at (pairOf e) (at + length e)
+unfolding firstAnswer
+first-last at e = refl
+
+pub first-ended : (at : ℕ) (e rest : List ℕ) → firstAnswer at (e ∷ split 59 rest) ≡ endedAnswer at (pairOf e) (at + length e + 1) rest
+unfolding firstAnswer
+first-ended at e rest = by (split 59 rest) refl
+  where
+    by : (ps : List (List ℕ)) → split 59 rest ≡ ps → firstAnswer at (e ∷ ps) ≡ endedAnswer at (pairOf e) (at + length e + 1) rest
+    by [] z = absurd (split-nil 59 rest z)
+    by (f ∷ fs) z = ap (endedAnswer at (pairOf e) (at + length e + 1)) (ap (joined 59) (sym z) ∙ split-joined 59 rest)
+
+pub ended-none : (at : ℕ) (p : Pair) (next : ℕ) (t : List ℕ) → next ≡ length t → endedAnswer at p next (drop next t) ≡ danglingAnswer at p next
+unfolding endedAnswer
+ended-none at p next t h = rw (drop-of-length-le t {i = next} (omega arith))
+
+pub ended-some : (at : ℕ) (p : Pair) (next : ℕ) (t : List ℕ) → next < length t → endedAnswer at p next (drop next t) ≡ entryAnswer at p next
+unfolding endedAnswer
+ended-some at p next t h = rw (here t next h)
+
+-- ---- each way through a step
+
+module _ (t : List ℕ) (at : ℕ) (x : Piece) (e : piecePaper x ≡ pieceAnswer 59 t at) where
+  tells : (y : Piece) → x ≡ y → StepTells 59 t at y
+  tells y q = step-tells 59 t at y (rw q at e)
+
+  module _ {r : Range} {next : ℕ} (q : x ≡ P.More r next) where
+    pub more-within : r .start + r .len ≤ length t
+    more-within = let f = tells (P.More r next) q in omega arith
+
+    more-answer : stepAnswer t at ≡ endedAnswer (r .start) (pairOf (cut r t)) next (drop next t)
+    more-answer =
+        let f = tells (P.More r next) q in
+        let l = cut-length r t more-within in
+        let n : at + length (cut r t) + 1 ≡ next = omega arith in
+        step-inside t at (omega arith)
+        ∙ ap (firstAnswer at) (f .pieces)
+        ∙ first-ended at (cut r t) (drop next t)
+        ∙ ap (λ (k : ℕ). endedAnswer at (pairOf (cut r t)) k (drop next t)) n
+        ∙ ap (λ (k : ℕ). endedAnswer k (pairOf (cut r t)) next (drop next t)) (sym (f .start))
+
+    module _ (en : Entry) (p : entryPlaces en ≡ placesOf (r .start) (pairOf (cut r t))) where
+      pub more-past : en .key .start + 1 ≤ next
+      more-past = let f = tells (P.More r next) q in let s = spells en (r .start) (pairOf (cut r t)) p in omega arith
+
+      pub more-dropped : (y : Step) → next ≡ length t → stepPaper y ≡ droppedAnswer en next → stepPaper y ≡ stepAnswer t at
+      more-dropped y h d = d ∙ dropped-is en (r .start) (pairOf (cut r t)) next p ∙ sym (more-answer ∙ ended-none (r .start) (pairOf (cut r t)) next t h)
+
+      pub more-kept : (y : Step) → (next ≡ length t → ⊥) → stepPaper y ≡ keptAnswer en next → stepPaper y ≡ stepAnswer t at
+      more-kept y h d =
+          let f = tells (P.More r next) q in
+          d ∙ kept-is en (r .start) (pairOf (cut r t)) next p ∙ sym (more-answer ∙ ended-some (r .start) (pairOf (cut r t)) next t (omega arith))
+
+  module _ {r : Range} (q : x ≡ P.Last r) where
+    pub last-within : r .start + r .len ≤ length t
+    last-within = let f = tells (P.Last r) q in omega arith
+
+    module _ (n : at ≡ length t → ⊥) (en : Entry) (p : entryPlaces en ≡ placesOf (r .start) (pairOf (cut r t))) where
+      pub last-past : en .key .start + 1 ≤ length t
+      last-past = let f = tells (P.Last r) q in let s = spells en (r .start) (pairOf (cut r t)) p in omega arith
+
+      pub last-kept : (y : Step) → stepPaper y ≡ keptAnswer en (length t) → stepPaper y ≡ stepAnswer t at
+      last-kept y d =
+          let f = tells (P.Last r) q in
+          let l = cut-length r t last-within in
+          let m : at + length (cut r t) ≡ length t = omega arith in
+          d
+          ∙ kept-is en (r .start) (pairOf (cut r t)) (length t) p
+          ∙ ap (λ (k : ℕ). entryAnswer k (pairOf (cut r t)) (length t)) (f .start)
+          ∙ ap (entryAnswer at (pairOf (cut r t))) (sym m)
+          ∙ sym (step-inside t at (omega arith) ∙ ap (firstAnswer at) (f .pieces) ∙ first-last at (cut r t))
+
+  pub past-beyond : x ≡ P.Beyond → stepPaper (S.Beyond at) ≡ stepAnswer t at
+  past-beyond q = step-beyond t at (tells P.Beyond q)
+
+  -- a text without a piece is empty, and has no other place
+  pub past-nothing : (at ≡ length t → ⊥) → x ≡ P.Nothing → stepPaper (S.Nothing at) ≡ stepAnswer t at
+  past-nothing n q =
+      let z = tells P.Nothing q in
+      let w : P.Nothing ≡ P.Beyond = step-paper-injective P.Nothing P.Beyond (rw q at e ∙ sym (finds-beyond 59 t at (omega arith))) in
+      cc
+
+pub ruleset laws = (value-within, entry-paired, entry-alone, keeps-empty, keeps, drops-absent, drops-empty, drops-value, step-end, more-within, more-past, more-dropped, more-kept, last-within, last-past, last-kept, past-beyond, past-nothing)

@@ -1,0 +1,13 @@
+pub mod PaperLaws
+pub mod InfoLaws
+pub mod TellLaws
+pub mod EntryLaws
+pub mod FindLaws
+pub mod ValueLaws
+pub mod Determined
+pub mod ReaderDetermined
+pub mod MovesOn
+pub mod Scans
+pub mod First
+pub mod Counts
+pub mod Impostors

@@ -1,0 +1,73 @@
+-- The value shown: where `find` answers an entry with a value, its place, and else the empty place at the column's end. Assumes nothing.
+use Prim.Native.Nat.{ℕ, _+_, _≤_}
+use mathlib.Core.Path.{_≡_, refl, sym, ap, _∙_}
+use mathlib.Core.List.{List, [], _∷_}
+use types.Run.{OneOf, miss}
+use denote.Enum.Declared.{tagOf}
+use denote.Ref.{RefT, now}
+use native.Mathlib.Omega.{arith}
+use native.Mathlib.Nat.{add-comm}
+use lib.ListN.{length}
+use borrow.Rule.Slice.PartAt.{slPart}
+use Rattle.text.specs.declared.range.Range.{Range}
+use Rattle.info.specs.Paper.{valuePlaces, entryPlaces, stepPaper}
+use Rattle.info.specs.Find.{findAnswer}
+use Rattle.info.specs.Value.{shownOf, shown, Shows}
+use Rattle.info.specs.declared.step.Value.{Value}
+use Rattle.info.specs.declared.step.Value.the-variants as W
+use Rattle.info.specs.declared.step.Entry.{Entry}
+use Rattle.info.specs.declared.step.Step.{Step}
+use Rattle.info.specs.declared.step.Step.the-variants as S
+use Rattle.info.proofs.step.Step.{the-type}
+use Rattle.info.proofs.InfoLaws.{lent-cut}
+use Rattle.info.proofs.TellLaws.{ValueWithin, info-tells}
+use Rattle.info.proofs.FindLaws.{find-step}
+
+-- ---- the place that is shown
+
+module _ (t key : List ℕ) (x : Step) (e : stepPaper x ≡ findAnswer t key) where
+  by-find : shown t key ≡ shownOf (length t) (stepPaper x)
+  unfolding shown
+  by-find = ap (shownOf (length t)) (sym e)
+
+  module _ {en : Entry} {next : ℕ} (q : x ≡ S.Found en next) where
+    module _ {r : Range} (v : en .value ≡ W.At r) where
+      pub shown-within : r .start + r .len ≤ length t
+      shown-within =
+          let s = find-step t key in
+          let f = info-tells t (s .place) (S.Found en next) (rw q at (e ∙ s .is)) in
+          rw v at (f .value-within)
+
+      pub shown-value : shown t key ≡ r
+      unfolding shownOf stepPaper entryPlaces valuePlaces
+      shown-value = by-find ∙ rw (q, v)
+
+    pub shown-absent : en .value ≡ W.Absent → shown t key ≡ record { start = length t; len = 0 }
+    unfolding shownOf stepPaper entryPlaces valuePlaces
+    shown-absent v = by-find ∙ rw (q, v)
+
+  pub shown-none : OneOf (1 ∷ 2 ∷ 3 ∷ 4 ∷ 5 ∷ []) (tagOf the-type x) → shown t key ≡ record { start = length t; len = 0 }
+  unfolding shownOf stepPaper
+  shown-none o = by-find ∙ by x o
+    where
+      by : (y : Step) → OneOf (1 ∷ 2 ∷ 3 ∷ 4 ∷ 5 ∷ []) (tagOf the-type y) → shownOf (length t) (stepPaper y) ≡ record { start = length t; len = 0 }
+      by (S.Found en next) o = absurd (miss (1 ∷ 2 ∷ 3 ∷ 4 ∷ 5 ∷ []) 0 tt o)
+      by (S.Beyond next) o = refl
+      by (S.AfterKey next) o = refl
+      by (S.NoKey next) o = refl
+      by (S.AfterValue next) o = refl
+      by (S.Nothing next) o = refl
+
+-- ---- the part that is lent there
+
+module _ (column : RefT (List ℕ)) (key : List ℕ) (name : ℕ) where
+  pub shows : (r : Range) → shown (now column) key ≡ r → Shows column key (slPart column (r .start + column .ptr .1) (r .start) (r .start + r .len) name)
+  shows r q = record { memory = refl; place = rw q (add-comm (r .start) (column .ptr .1)); bytes = rw q (lent-cut r (now column)) }
+
+  pub shows-end : shown (now column) key ≡ record { start = length (now column); len = 0 }
+      → Shows column key (slPart column (length (now column) + column .ptr .1) (length (now column)) (length (now column)) name)
+  shows-end q =
+      let n : length (now column) + 0 ≡ length (now column) = omega arith in
+      rw n at (shows (record { start = length (now column); len = 0 }) q)
+
+pub ruleset laws = (shown-within, shown-value, shows)

@@ -1,0 +1,4 @@
+pub mod KeyLaws
+pub mod Demands
+pub mod Impostors
+pub mod Determined
