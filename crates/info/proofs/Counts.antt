@@ -26,6 +26,11 @@ unfolding infoCount
 count-pieces [] = rw (pieces-none 59 [] refl)
 count-pieces (b ∷ s) = rw (pieces-some 59 (b ∷ s) (omega arith)) (sym (split-count 59 (b ∷ s)))
 
+pub counted : (t : List ℕ) {n : ℕ} → n ≡ length (pieces 59 t) → n ≡ infoCount t
+counted t e = e ∙ sym (count-pieces t)
+
+pub ruleset laws = (counted)
+
 -- ---- `=a`
 
 abbrev keyless-column : List ℕ

@@ -1,5 +1,5 @@
 -- A search for a key: what it finds from the place it has come to is what it finds from the start. Assumes nothing.
-use Prim.Native.Nat.{ℕ, zero, suc, _+_, _-_, _<_, _≤_}
+use Prim.Native.Nat.{ℕ, zero, suc, _+_, _-_, _^_, _<_, _≤_}
 use mathlib.Core.Path.{_≡_, refl, sym, ap, _∙_}
 use mathlib.Core.Logic.{_⊎_, inl, inr}
 use mathlib.Core.Bool.{Bool, true, false, false≢true}
@@ -7,17 +7,18 @@ use mathlib.Core.List.{List, [], _∷_}
 use types.Run.{OneOf, miss}
 use denote.Enum.Declared.{tagOf}
 use native.Mathlib.Omega.{arith}
+use mir.Syntax.{w64}
+use mir.Val.{Fits}
 use lib.ListN.{length, take, drop, length-drop}
 use lib.Dec.{eqb}
 use borrow.Author.Tests.{ne-eqb, eqb-true, eqb-false}
-use Rattle.text.specs.Pick.{pick}
 use Rattle.text.specs.Answer.{Answer, says, numberOf}
 use Rattle.text.specs.Range.{cut}
 use Rattle.text.specs.Same.{same}
 use Rattle.pieces.specs.Pieces.{split, pieces}
 use Rattle.pieces.proofs.PieceLaws.{split-nil, pieces-none, pieces-some}
 use Rattle.pieces.proofs.StepLaws.{next-within, next-pieces}
-use Rattle.info.specs.Info.{Pair, alone, paired, keyOf, pairOf, isEmpty, danglingAnswer, endedAnswer, firstAnswer, stepAnswer}
+use Rattle.info.specs.Info.{Pair, alone, paired, keyOf, pairOf, isEmpty, danglingAnswer, firstAnswer, stepAnswer}
 use Rattle.info.specs.Paper.{stepPaper}
 use Rattle.info.specs.Find.{settles, findIn, findAnswer}
 use Rattle.info.specs.declared.step.Value.{Value}
@@ -26,7 +27,7 @@ use Rattle.info.specs.declared.step.Entry.{Entry}
 use Rattle.info.specs.declared.step.Step.{Step}
 use Rattle.info.specs.declared.step.Step.the-variants as S
 use Rattle.info.proofs.step.Step.{the-type}
-use Rattle.info.proofs.InfoLaws.{lent-cut, step-end, step-inside, first-ended, ended-none}
+use Rattle.info.proofs.InfoLaws.{lent-cut, step-end, step-inside, first-more, ended-none}
 use Rattle.info.proofs.TellLaws.{FoundAt, pairCut, info-tells}
 
 -- ---- clauses
@@ -108,6 +109,9 @@ module _ (t key : List ℕ) (at : ℕ) (g : Searching t key at) (x : Step) (e : 
     pub found-within : en .key .start + en .key .len ≤ length t
     found-within = found .key-within
 
+    pub found-fits : length t < 2 ^ 64 → Fits w64 (en .key .start + en .key .len)
+    found-fits m = let w = found-within in omega arith
+
     pub search-less : length t - next < length t - at
     search-less = let f = found in omega arith
 
@@ -172,30 +176,34 @@ module _ (t key : List ℕ) where
       within : at + length s + 1 ≤ length t
       within = next-within 59 t at q
 
-      answer : firstAnswer at (s ∷ r ∷ rs) ≡ endedAnswer at (pairOf s) (at + length s + 1) (drop (at + length s + 1) t)
-      answer =
-          ap (λ (z : List (List ℕ)). firstAnswer at (s ∷ z)) (sym (next-pieces 59 t at q))
-          ∙ first-ended at s (drop (at + length s + 1) t)
-
       by : (c : Bool) → eqb (at + length s + 1) (length t) ≡ c → at + length s + 1 < length t
       by true c =
-          let d = answer ∙ ended-none at (pairOf s) (at + length s + 1) t (eqb-true _ _ c) in
+          let d = first-more t at q ∙ ended-none at (pairOf s) (at + length s + 1) t (eqb-true _ _ c) in
           absurd (false≢true (sym b ∙ ap (settles key s) d ∙ settles-refused key s _ (dangling-refused at (pairOf s) (at + length s + 1))))
       by false c = let n : at + length s + 1 ≡ length t → ⊥ = eqb-false _ _ c in let w = within in omega arith
+
+  find-here : (at : ℕ) (s : List ℕ) (ss : List (List ℕ)) → at < length t → split 59 (drop at t) ≡ s ∷ ss → settles key s (firstAnswer at (s ∷ ss)) ≡ true
+      → StepOf t (findIn key (length t) at (s ∷ ss))
+  find-here at s ss h q b =
+      record {
+        place = at;
+        within = omega arith;
+        is = find-settled key (length t) at s ss b ∙ ap (firstAnswer at) (sym q) ∙ sym (step-inside t at h);
+      }
 
   find-steps : (ps : List (List ℕ)) (at : ℕ) → at < length t → split 59 (drop at t) ≡ ps → StepOf t (findIn key (length t) at ps)
   find-steps [] at h q = absurd (split-nil 59 (drop at t) q)
   find-steps (s ∷ []) at h q = by (settles key s (firstAnswer at (s ∷ []))) refl
     where
       by : (b : Bool) → settles key s (firstAnswer at (s ∷ [])) ≡ b → StepOf t (findIn key (length t) at (s ∷ []))
-      by true b = record { place = at; within = omega arith; is = find-settled key (length t) at s [] b ∙ ap (firstAnswer at) (sym q) ∙ sym (step-inside t at h) }
+      by true b = find-here at s [] h q b
       by false b = rw (find-passed key (length t) at s [] b) (find-ended (at + length s + 1))
   find-steps (s ∷ r ∷ rs) at h q = by (settles key s (firstAnswer at (s ∷ r ∷ rs))) refl (find-steps (r ∷ rs) (at + length s + 1))
     where
       by : (b : Bool) → settles key s (firstAnswer at (s ∷ r ∷ rs)) ≡ b
           → (at + length s + 1 < length t → split 59 (drop (at + length s + 1) t) ≡ r ∷ rs → StepOf t (findIn key (length t) (at + length s + 1) (r ∷ rs)))
           → StepOf t (findIn key (length t) at (s ∷ r ∷ rs))
-      by true b next = record { place = at; within = omega arith; is = find-settled key (length t) at s (r ∷ rs) b ∙ ap (firstAnswer at) (sym q) ∙ sym (step-inside t at h) }
+      by true b next = find-here at s (r ∷ rs) h q b
       by false b next = rw (find-passed key (length t) at s (r ∷ rs) b) (next (passed-inside at s r rs h q b) (next-pieces 59 t at q))
 
   -- what is found is a step's answer at some place of the column
@@ -207,4 +215,4 @@ module _ (t key : List ℕ) where
       by zero n = rw (pieces-none 59 t n) (find-ended 0)
       by (suc k) n = rw (pieces-some 59 t (omega arith)) (find-steps (split 59 t) 0 (omega arith) refl)
 
-pub ruleset laws = (search-first, search-stops, found-within, search-less, search-found, search-turn)
+pub ruleset laws = (search-first, search-stops, found-within, found-fits, search-less, search-found, search-turn)

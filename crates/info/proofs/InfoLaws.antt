@@ -1,11 +1,12 @@
 -- A step of the INFO scan: an entry is cut at its first `=`, and each way through a step is a law of the pieces between `;`. Assumes nothing.
-use Prim.Native.Nat.{ℕ, _+_, _-_, _<_, _≤_}
+use Prim.Native.Nat.{ℕ, _+_, _-_, _^_, _<_, _≤_}
 use mathlib.Core.Path.{_≡_, refl, sym, ap, _∙_}
-use mathlib.Core.Bool.{true, false}
 use mathlib.Core.List.{List, [], _∷_}
 use types.Run.{OneOf, miss}
 use denote.Enum.Declared.{tagOf}
 use native.Mathlib.Omega.{arith}
+use mir.Syntax.{w64}
+use mir.Val.{Fits}
 use lib.ListN.{length, take, drop, drop-of-length-le, length-drop}
 use lib.Dec.{eqb}
 use borrow.Author.Tests.{eq-eqb, ne-eqb, lt-ltb, le-ltb}
@@ -19,7 +20,7 @@ use Rattle.pieces.specs.declared.step.Step.the-variants as P
 use Rattle.pieces.proofs.step.Step.{the-type}
 use Rattle.pieces.proofs.PaperLaws.{step-paper-injective}
 use Rattle.pieces.proofs.PieceLaws.{free-nil, split-whole, split-nil, split-joined, one-text, more-text}
-use Rattle.pieces.proofs.StepLaws.{StepTells, step-tells, finds-beyond}
+use Rattle.pieces.proofs.StepLaws.{StepTells, step-tells, next-pieces, finds-beyond}
 use Rattle.info.specs.Info.{Pair, alone, paired, keyOf, pairIn, pairOf, isEmpty, placesOf, entryAnswer, danglingAnswer, endedAnswer, firstAnswer, stepAnswer}
 use Rattle.info.specs.Paper.{valuePlaces, entryPlaces, stepPaper}
 use Rattle.info.specs.Demands.{spelled}
@@ -72,6 +73,9 @@ module _ (t : List ℕ) (range : Range) (h : range .start + range .len ≤ lengt
       let f = lent-tells (P.More key next) q in
       let l = cut-length range t h in
       omega arith
+
+  pub value-fits : {key : Range} {next : ℕ} → x ≡ P.More key next → length t < 2 ^ 64 → Fits w64 (range .start + next)
+  value-fits q m = let w = value-within q in omega arith
 
   pub entry-paired : {key : Range} {next : ℕ} → x ≡ P.More key next
       → entryPlaces (record { key = record { start = range .start; len = key .len }; value = W.At (record { start = range .start + next; len = range .len - next }) })
@@ -184,6 +188,13 @@ first-ended at e rest = by (split 59 rest) refl
     by [] z = absurd (split-nil 59 rest z)
     by (f ∷ fs) z = ap (endedAnswer at (pairOf e) (at + length e + 1)) (ap (joined 59) (sym z) ∙ split-joined 59 rest)
 
+-- an entry that another text follows, ended by the `;` before the next place
+pub first-more : (t : List ℕ) (at : ℕ) {s r : List ℕ} {rs : List (List ℕ)} → split 59 (drop at t) ≡ s ∷ r ∷ rs
+    → firstAnswer at (s ∷ r ∷ rs) ≡ endedAnswer at (pairOf s) (at + length s + 1) (drop (at + length s + 1) t)
+first-more t at {s} q =
+    ap (λ (z : List (List ℕ)). firstAnswer at (s ∷ z)) (sym (next-pieces 59 t at q))
+    ∙ first-ended at s (drop (at + length s + 1) t)
+
 pub ended-none : (at : ℕ) (p : Pair) (next : ℕ) (t : List ℕ) → next ≡ length t → endedAnswer at p next (drop next t) ≡ danglingAnswer at p next
 unfolding endedAnswer
 ended-none at p next t h = rw (drop-of-length-le t {i = next} (omega arith))
@@ -254,4 +265,4 @@ module _ (t : List ℕ) (at : ℕ) (x : Piece) (e : piecePaper x ≡ pieceAnswer
       let w : P.Nothing ≡ P.Beyond = step-paper-injective P.Nothing P.Beyond (rw q at e ∙ sym (finds-beyond 59 t at (omega arith))) in
       cc
 
-pub ruleset laws = (value-within, entry-paired, entry-alone, keeps-empty, keeps, drops-absent, drops-empty, drops-value, step-end, more-within, more-past, more-dropped, more-kept, last-within, last-past, last-kept, past-beyond, past-nothing)
+pub ruleset laws = (value-within, value-fits, entry-paired, entry-alone, keeps-empty, keeps, drops-absent, drops-empty, drops-value, step-end, more-within, more-past, more-dropped, more-kept, last-within, last-past, last-kept, past-beyond, past-nothing)

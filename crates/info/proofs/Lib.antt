@@ -1,5 +1,6 @@
 pub mod PaperLaws
 pub mod InfoLaws
+pub mod ToldLaws
 pub mod TellLaws
 pub mod EntryLaws
 pub mod FindLaws

@@ -24,9 +24,9 @@ use Rattle.info.specs.declared.step.Entry.{Entry}
 use Rattle.info.specs.declared.step.Step.{Step}
 use Rattle.info.specs.declared.step.Step.the-variants as S
 use Rattle.info.proofs.PaperLaws.{step-paper-injective}
-use Rattle.info.proofs.InfoLaws.{pair-spelled, step-beyond, step-end, step-inside, first-last, first-ended, ended-none, ended-some}
+use Rattle.info.proofs.InfoLaws.{pair-spelled, spells, step-beyond, step-end, step-inside, first-last, first-more, ended-none, ended-some}
 
--- ---- what each answer tells
+-- ---- what an answer can tell
 
 -- a value's place ends within the text
 abbrev pub ValueWithin : List ℕ → Value → Type 0
@@ -38,6 +38,7 @@ abbrev pub pairCut : List ℕ → List ℕ → Value → Pair
 pairCut t k W.Absent = alone k
 pairCut t k (W.At r) = paired k (cut r t)
 
+-- an entry: its places lie in the text, and the next place is further on
 pub record FoundAt (t : List ℕ) (at : ℕ) (e : Entry) (next : ℕ) : Type 0 where
   pub start : e .key .start ≡ at
   pub some : 0 < e .key .len
@@ -51,22 +52,27 @@ pub record FoundAt (t : List ℕ) (at : ℕ) (e : Entry) (next : ℕ) : Type 0 w
   pub follows : (next ≡ at + length text + 1) ⊎ (next ≡ length t)
   pub pair : pairOf text ≡ pairCut t (cut (e .key) t) (e .value)
 
+-- a place beyond the text
 pub record BeyondAt (t : List ℕ) (at next : ℕ) : Type 0 where
   pub same : next ≡ at
   pub beyond : length t < at
 
+-- an entry whose `;` is the last byte
 pub record DanglesAt (t : List ℕ) (at next : ℕ) : Type 0 where
   pub inside : at < length t
   pub past : next ≡ length t
 
+-- an entry without a key
 pub record KeylessAt (t : List ℕ) (at next : ℕ) : Type 0 where
   pub inside : at < length t
   pub past : next ≡ at + 1
 
+-- the text's end
 pub record EndAt (t : List ℕ) (at next : ℕ) : Type 0 where
   pub same : next ≡ at
   pub end : at ≡ length t
 
+-- what each answer of a step tells
 abbrev pub InfoTells : List ℕ → ℕ → Step → Type 0
 InfoTells t at (S.Found e next) = FoundAt t at e next
 InfoTells t at (S.Beyond next) = BeyondAt t at next
@@ -85,16 +91,6 @@ places-at : (at : ℕ) (p : Pair) → entryPlaces (entryAt at p) ≡ placesOf at
 unfolding entryAt entryPlaces valuePlaces placesOf
 places-at at (alone k) = refl
 places-at at (paired k v) = refl
-
-start-at : (at : ℕ) (p : Pair) → entryAt at p .key .start ≡ at
-unfolding entryAt
-start-at at (alone k) = refl
-start-at at (paired k v) = refl
-
-size-at : (at : ℕ) (p : Pair) → entryAt at p .key .len ≡ length (keyOf p)
-unfolding entryAt
-size-at at (alone k) = refl
-size-at at (paired k v) = refl
 
 -- a text stands at a place
 record Stands (t : List ℕ) (at : ℕ) (s : List ℕ) : Type 0 where
@@ -170,13 +166,12 @@ module _ (t : List ℕ) (at : ℕ) (x : Step) (e : stepPaper x ≡ stepAnswer t 
         by : (k : List ℕ) → keyOf (pairOf s) ≡ k → InfoTells t at x
         by [] q = keyless (entry-empty at (pairOf s) next q ∙ sym a)
         by (b ∷ k) q =
-            let n = start-at at (pairOf s) in
-            let l = size-at at (pairOf s) in
+            let p = spells (entryAt at (pairOf s)) at (pairOf s) (places-at at (pairOf s)) in
             let c = ap length q in
             let f = key-at t at (pairOf s) stands in
             is (S.Found (entryAt at (pairOf s)) next) (entry-keyed at (pairOf s) next q ∙ sym a)
             (record {
-              start = n;
+              start = p .start;
               some = omega arith;
               key-within = omega arith;
               value-within = value-at t at (pairOf s) stands;
@@ -220,7 +215,7 @@ module _ (t : List ℕ) (at : ℕ) (x : Step) (e : stepPaper x ≡ stepAnswer t 
         after = q ∙ ap (λ (z : List (List ℕ)). s ∷ z) (sym (next-pieces 59 t at q))
 
         answer : stepAnswer t at ≡ endedAnswer at (pairOf s) (at + length s + 1) (drop (at + length s + 1) t)
-        answer = step-inside t at h ∙ ap (firstAnswer at) after ∙ first-ended at s (drop (at + length s + 1) t)
+        answer = step-inside t at h ∙ ap (firstAnswer at) q ∙ first-more t at q
 
         by : (b : Bool) → eqb (at + length s + 1) (length t) ≡ b → InfoTells t at x
         by true c =

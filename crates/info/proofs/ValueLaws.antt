@@ -1,11 +1,13 @@
 -- The value shown: where `find` answers an entry with a value, its place, and else the empty place at the column's end. Assumes nothing.
-use Prim.Native.Nat.{ℕ, _+_, _≤_}
+use Prim.Native.Nat.{ℕ, _+_, _^_, _<_, _≤_}
 use mathlib.Core.Path.{_≡_, refl, sym, ap, _∙_}
 use mathlib.Core.List.{List, [], _∷_}
 use types.Run.{OneOf, miss}
 use denote.Enum.Declared.{tagOf}
 use denote.Ref.{RefT, now}
 use native.Mathlib.Omega.{arith}
+use mir.Syntax.{w64}
+use mir.Val.{Fits}
 use native.Mathlib.Nat.{add-comm}
 use lib.ListN.{length}
 use borrow.Rule.Slice.PartAt.{slPart}
@@ -13,14 +15,13 @@ use Rattle.text.specs.declared.range.Range.{Range}
 use Rattle.info.specs.Paper.{valuePlaces, entryPlaces, stepPaper}
 use Rattle.info.specs.Find.{findAnswer}
 use Rattle.info.specs.Value.{shownOf, shown, Shows}
-use Rattle.info.specs.declared.step.Value.{Value}
 use Rattle.info.specs.declared.step.Value.the-variants as W
 use Rattle.info.specs.declared.step.Entry.{Entry}
 use Rattle.info.specs.declared.step.Step.{Step}
 use Rattle.info.specs.declared.step.Step.the-variants as S
 use Rattle.info.proofs.step.Step.{the-type}
 use Rattle.info.proofs.InfoLaws.{lent-cut}
-use Rattle.info.proofs.TellLaws.{ValueWithin, info-tells}
+use Rattle.info.proofs.TellLaws.{info-tells}
 use Rattle.info.proofs.FindLaws.{find-step}
 
 -- ---- the place that is shown
@@ -37,6 +38,9 @@ module _ (t key : List ℕ) (x : Step) (e : stepPaper x ≡ findAnswer t key) wh
           let s = find-step t key in
           let f = info-tells t (s .place) (S.Found en next) (rw q at (e ∙ s .is)) in
           rw v at (f .value-within)
+
+      pub shown-fits : length t < 2 ^ 64 → Fits w64 (r .start + r .len)
+      shown-fits m = let w = shown-within in omega arith
 
       pub shown-value : shown t key ≡ r
       unfolding shownOf stepPaper entryPlaces valuePlaces
@@ -70,4 +74,4 @@ module _ (column : RefT (List ℕ)) (key : List ℕ) (name : ℕ) where
       let n : length (now column) + 0 ≡ length (now column) = omega arith in
       rw n at (shows (record { start = length (now column); len = 0 }) q)
 
-pub ruleset laws = (shown-within, shown-value, shows)
+pub ruleset laws = (shown-within, shown-fits, shown-value, shows)

@@ -2,5 +2,6 @@ pub mod Info
 pub mod Find
 pub mod Value
 pub mod Paper
+pub mod Told
 pub mod Inner
 pub mod Demands

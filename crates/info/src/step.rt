@@ -8,6 +8,7 @@ ghost use lib.ListN.{length};
 ghost use Rattle.text.specs.Range.{cut};
 ghost use Rattle.info.specs.Info.{placesOf, pairOf, stepAnswer};
 ghost use Rattle.info.specs.Paper.{entryPlaces, stepPaper};
+ghost use Rattle.info.specs.Told.{Tells};
 ghost use Rattle.info.specs.Inner.{keptAnswer, droppedAnswer};
 
 // An entry's value, which stands after its first `=`.
@@ -35,6 +36,25 @@ pub enum Step {
     AfterValue(usize),
     // 10: the place is the column's end.
     Nothing(usize),
+}
+
+// A step's number, and the next place.
+pub struct Told {
+    pub number: u64,
+    pub next: usize,
+}
+
+pub fn tell(step: Step) -> Told
+    ensures { λ r. ⌜ Tells (stepPaper step) r ⌝ }
+{
+    match step {
+        Step::Found(_, next) => Told { number: 0, next },
+        Step::Beyond(next) => Told { number: 6, next },
+        Step::AfterKey(next) => Told { number: 7, next },
+        Step::NoKey(next) => Told { number: 8, next },
+        Step::AfterValue(next) => Told { number: 9, next },
+        Step::Nothing(next) => Told { number: 10, next },
+    }
 }
 
 // The entry whose text the range cuts out of the column.

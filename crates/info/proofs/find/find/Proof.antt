@@ -1,9 +1,8 @@
 -- `info::find::find` meets its contract: the invariant says that the search from the place on is the search from the start; each step moves on. Assumes nothing.
 use Prim.Native.Nat.{_-_}
-use native.Mathlib.Omega.{arith}
 use lib.ListN.{length}
 use borrow.Author.Needs.{needs}
-use Rattle.info.proofs.FindLaws.{Searching, found-within, laws}
+use Rattle.info.proofs.FindLaws.{Searching, laws}
 use Rattle.info.proofs.find.find.Statement.{statement}
 use Rattle.info.proofs.find.find.Tie as tie
 
@@ -26,13 +25,7 @@ returns : tie.Need-returns Inv-loop μ-loop
 returns c = search (needs, laws)
 
 add-end : tie.Need-add-end Inv-loop μ-loop
-add-end c =
-    let a = c .before .before .before .before .before .before .before .before .args in
-    let l = c .before .before .before .before .before .loop in
-    let s = c .before .before .before .before .step-at in
-    let f = c .before .before .step .given in
-    let w = found-within (a .column .now) (a .key .now) (l .at) (l .inv) (s .result) (s .ensures) (f .0 .0) (f .0 .1 .0) (f .1) in
-    omega arith
+add-end c = search (needs, laws)
 
 sub-same-bytes : tie.Need-sub-same-bytes Inv-loop μ-loop
 sub-same-bytes c = search (needs, laws)

@@ -1,7 +1,6 @@
 -- `info::find::value` meets its contract: what is found is a step's answer, so its value lies in the column; each other way the part is empty, at the end. Assumes nothing.
 use mathlib.Core.Logic.{⊎-elim}
-use native.Mathlib.Omega.{arith}
-use Rattle.info.proofs.ValueLaws.{shown-within, shown-absent, shown-none, shows-end, laws}
+use Rattle.info.proofs.ValueLaws.{shown-absent, shown-none, shows-end, laws}
 use borrow.Author.Needs.{needs}
 use Rattle.info.proofs.find.value.Statement.{statement}
 use Rattle.info.proofs.find.value.Tie as tie
@@ -16,11 +15,7 @@ enum-known-value : tie.Need-enum-known-value
 enum-known-value c = search (needs, laws)
 
 add-end : tie.Need-add-end
-add-end c =
-    let a = c .before .before .before .before .before .before .before .before .before .before .args in
-    let f = c .before .before .before .before .before .before .before .find in
-    let w = shown-within (a .column .now) (a .key .now) (f .result) (f .ensures) (c .before .before .before .before .before .entry .given .1) (c .before .before .value .given .1) in
-    omega arith
+add-end c = search (needs, laws)
 
 sub-result : tie.Need-sub-result
 sub-result c = search (needs, laws)

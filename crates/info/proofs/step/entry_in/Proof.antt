@@ -1,6 +1,5 @@
 -- `info::step::entry_in` meets its contract: a step over the pieces at `=` from the entry's start gives its key, and what is left is its value. Assumes nothing.
-use native.Mathlib.Omega.{arith}
-use Rattle.info.proofs.InfoLaws.{value-within, laws}
+use Rattle.info.proofs.InfoLaws.{laws}
 use borrow.Author.Needs.{needs}
 use Rattle.info.proofs.step.entry_in.Statement.{statement}
 use Rattle.info.proofs.step.entry_in.Tie as tie
@@ -24,11 +23,7 @@ enum-known-key : tie.Need-enum-known-key
 enum-known-key c = search (needs, laws)
 
 add-t14 : tie.Need-add-t14
-add-t14 c =
-    let s = c .before .before .before .before .before .before .before in
-    let p = c .before .before .before .piece-at in
-    let w = value-within (s .args .column .now) (s .args .range) (s .pre) (p .result) (p .ensures) (c .before .key .given .1) in
-    omega arith
+add-t14 c = search (needs, laws)
 
 sub-t15 : tie.Need-sub-t15
 sub-t15 c = search (needs, laws)
