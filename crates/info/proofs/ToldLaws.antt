@@ -1,11 +1,19 @@
 -- The number and the next place of each case of a step, as its paper has them. Assumes nothing.
-use Prim.Native.Nat.{ℕ}
-use mathlib.Core.Path.{_≡_, refl}
+use Prim.Native.Nat.{ℕ, _<_, _≤_}
+use mathlib.Core.Path.{_≡_, refl, ap, _∙_}
+use mathlib.Core.List.{List}
+use native.Mathlib.Omega.{arith}
+use lib.ListN.{length, getD}
+use Rattle.text.specs.Answer.{Answer, numberOf, valuesOf}
+use Rattle.info.specs.Info.{stepAnswer}
 use Rattle.info.specs.Paper.{stepPaper}
 use Rattle.info.specs.Told.{Tells}
+use Rattle.info.specs.Demands.{GoesOn, entry, beyond, after-key, no-key, after-value, ended, MovesOn}
 use Rattle.info.specs.declared.step.Entry.{Entry}
 use Rattle.info.specs.declared.step.Step.{Step}
 use Rattle.info.specs.declared.step.Step.the-variants as S
+use Rattle.info.specs.declared.step.Told.{Told}
+use Rattle.info.proofs.MovesOn.{moves-on}
 
 module _ (x : Step) {next : ℕ} where
   pub told-found : {e : Entry} → x ≡ S.Found e next → Tells (stepPaper x) (record { number = 0; next = next })
@@ -31,5 +39,30 @@ module _ (x : Step) {next : ℕ} where
   pub told-nothing : x ≡ S.Nothing next → Tells (stepPaper x) (record { number = 10; next = next })
   unfolding stepPaper
   told-nothing q = rw q (record { number = refl; next = refl })
+
+-- ---- a step that is told by another number than 10 moves on, from a place in the column
+
+goes : {t : List ℕ} {at n next : ℕ} → GoesOn t at n next → at ≤ length t → (n ≡ 10 → ⊥) → (at < next) × (next ≤ length t)
+goes (entry f w) h d = (f, w)
+goes (beyond f) h d = absurd (omega arith)
+goes (after-key f) h d = (f, omega arith)
+goes (no-key f) h d = (omega arith, omega arith)
+goes (after-value f) h d = (f, omega arith)
+goes (ended f) h d = absurd (d refl)
+
+module _ (t : List ℕ) (at : ℕ) (x : Step) (e : stepPaper x ≡ stepAnswer t at) (r : Told) (g : Tells (stepPaper x) r) (h : at ≤ length t) (d : r .number ≡ 10 → ⊥) where
+  told-goes : (at < r .next) × (r .next ≤ length t)
+  unfolding MovesOn
+  told-goes =
+      let m = moves-on t at in
+      let n : r .number ≡ numberOf (stepAnswer t at) = g .number ∙ ap numberOf e in
+      let w : r .next ≡ m .next = g .next ∙ ap (λ (a : Answer). getD (valuesOf a) 0 0) e ∙ ap (λ (vs : List ℕ). getD vs 0 0) (m .values) in
+      rw w (goes (m .goes) h (λ z. d (n ∙ z)))
+
+  pub told-on : at < r .next
+  told-on = told-goes .0
+
+  pub told-within : r .next ≤ length t
+  told-within = told-goes .1
 
 pub ruleset laws = (told-found, told-beyond, told-after-key, told-no-key, told-after-value, told-nothing)
