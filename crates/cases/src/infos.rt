@@ -95,12 +95,24 @@ fn answer_key(case: &[u8], verb: usize, text: &mut Text, out: &mut Buffer, at: P
     let Pairs::Upto(middle, end) = decode_two(case, text) else {
         return Answer::NoCase;
     };
-    let column = part(text, 0, middle);
-    let key = part(text, middle, end);
+    Answer::Given(put_found(text, middle, end, verb, out, at))
+}
+
+// The column stands before `middle`, the key from there to `end`.
+fn put_found(
+    s: &[u8],
+    middle: usize,
+    end: usize,
+    verb: usize,
+    out: &mut Buffer,
+    at: Place,
+) -> Place {
+    let column = part(s, 0, middle);
+    let key = part(s, middle, end);
     if verb == 3 {
-        return Answer::Given(put_step(find(column, key), out, at));
+        return put_step(find(column, key), out, at);
     }
-    Answer::Given(put_hex(out, at, value(column, key)))
+    put_hex(out, at, value(column, key))
 }
 
 fn put_step(step: Step, out: &mut Buffer, at: Place) -> Place {

@@ -14,13 +14,13 @@ use crate::words::ROOM;
 use crate::words::Row;
 use crate::words::Text;
 use crate::words::decode;
-use crate::words::is;
 use crate::words::number;
 use crate::words::numbers;
 use crate::words::word;
 use decimal::read::Number;
 use join::columns;
 use join::columns::Joined;
+use text::same::same_bytes;
 
 pub fn answer(
     case: &[u8],
@@ -32,7 +32,7 @@ pub fn answer(
     if arguments != 4 {
         return Answer::NoCase;
     }
-    if !is(word(case, 0), b"join") {
+    if !same_bytes(word(case, 0), b"join") {
         return Answer::NoCase;
     }
     let mut ends = [0usize; 1024];

@@ -98,8 +98,12 @@ fn answer_key(case: &[u8], text: &mut Text, out: &mut Buffer, at: Place) -> Answ
     let Pairs::Upto(middle, end) = decode_two(case, text) else {
         return Answer::NoCase;
     };
-    let index = key_index(part(text, 0, middle), part(text, middle, end));
-    Answer::Given(put_said(out, at, said(index)))
+    Answer::Given(put_said(out, at, said(index_of(text, middle, end))))
+}
+
+// FORMAT stands before `middle`, the key from there to `end`.
+fn index_of(s: &[u8], middle: usize, end: usize) -> Key {
+    key_index(part(s, 0, middle), part(s, middle, end))
 }
 
 fn said(key: Key) -> Said {

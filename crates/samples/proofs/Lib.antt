@@ -1,3 +1,4 @@
+pub mod SampleLaws
 pub mod KeyLaws
 pub mod Demands
 pub mod Impostors

@@ -16,8 +16,8 @@ loop-holds c = search needs
 word-requires : tie.Need-word-requires Inv-loop μ-loop
 word-requires c κs = search needs
 
-is-requires : tie.Need-is-requires Inv-loop μ-loop
-is-requires c κs = search needs
+same-bytes-requires : tie.Need-same-bytes-requires Inv-loop μ-loop
+same-bytes-requires c κs = search needs
 
 returns : tie.Need-returns Inv-loop μ-loop
 returns c = search needs
@@ -42,7 +42,7 @@ index-in-spec =
     μ-loop
     loop-holds
     word-requires
-    is-requires
+    same-bytes-requires
     returns
     add-k
     loop-less
