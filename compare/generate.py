@@ -139,11 +139,11 @@ def random_text(dice, characters):
     return b"".join(encoded(random_point(dice)) for _ in range(characters))
 
 
-def damaged(dice, text):
+def damaged(dice, text, alphabet=range(256)):
     """The text with one byte changed, taken out or put in."""
     at = dice.roll(len(text))
     kind = dice.roll(3)
-    put = bytes([dice.roll(256)]) if kind else b""
+    put = bytes([dice.pick(alphabet)]) if kind else b""
     return text[:at] + put + text[at + (kind != 2) :]
 
 
@@ -281,6 +281,7 @@ def prints(large, dice):
 # ---- line and field
 
 FIELDS = ("chrom", "pos", "id", "ref", "alt", "qual", "filter", "info", "format", "samples")
+INFO_INDEX, FORMAT_INDEX, SAMPLES_INDEX = 7, 8, 9
 COLUMNS = (b"c", b"12", b"id", b"A", b"GT", b"3.5", b"q1", b"N=1;D", b"GT:DP", b"0|1:7", b".", b"/1")
 ENDINGS = (b"\n", b"\r\n", b"")
 # About the limits of the types that a place may pass through.
@@ -629,6 +630,235 @@ def joins(large, dice):
     yield from random_joins(large, dice)
 
 
+# ---- info, find, value, scan and count
+
+INFO_COLUMNS = (
+    # values that are empty, absent or a dot, and values with `=`
+    b"a=b=c;b==;c=;d=a=1;e==a=", b"a=;b", b"a=.;.=a;.", b".", b"..", b".;.", b".=.", b"a=0,1;b=%3B;c",
+    # a key more than once, and keys that are parts of each other
+    b"a=1;a=2;a;b=3;b", b"a;a=1", b"a=;a=1", b"aa=1;a=2;aaa=3;aa", b"A=1;a=2;ab=3;ba",
+    # a refusal before an entry
+    b";a=1;b", b"=;a=1", b"=1;a=2;b", b"==;a=1", b"b;;a=1;b=2", b"b=1;;a=2", b"b=1;=2;a=3", b";;a", b";=;a", b"=a;a",
+    # a refusal after an entry
+    b"a=1;", b"a;", b"a=1;;b", b"a=1;=2;b=3", b"b=1;a;", b"b;a=1;", b"a;b=1;;", b"a=;", b"a==;", b"a;=", b"a;=;",
+    # bytes next to `;` and `=` and one bit away, spaces and control bytes, other characters, no UTF-8
+    b"a:b<c=d>e;f", b"a\xbbb\xbdc=d\xbb\xbd;e", b"a{b}c=y;z", b"a b= c;\td=\r\n;\x00=\x00;e", b"\n", b"\x00",
+    "\u00e9=\u8a9e;\U000233b4;\u00e9".encode(), b"\xff=\xfe;\xff", b"\xc3=\xa9;\xa9=\xc3;\xc3", b"\xc3;\xa9=1;",
+    b"=\xff;\xff",
+)
+
+
+def keys_about(column):
+    """Keys that a column has, has almost, or would have if it were cut otherwise."""
+    found = {b"", b"=", b";", b".", b"a", b"aa", b"a=", column}
+    for entry in column.split(b";"):
+        key = entry.partition(b"=")[0]
+        found |= {entry, key, key[:-1], key + b"a"}
+    return sorted(found)
+
+
+def short_columns(large):
+    """All short columns: steps from every place to one past the end, and lookups with keys that may be there or not."""
+    for column in short_texts(b"a=;", 7):
+        for at in range(len(column) + 2):
+            yield ask("info", column, at)
+    for column in short_texts(b"a=;", 7 if large else 6):
+        yield ask("scan", column)
+        yield ask("count", column)
+        for key in (b"a", b"aa", b"", b"="):
+            yield ask("find", column, key)
+            yield ask("value", column, key)
+    for column in short_texts(b"ab=;", 6) if large else ():
+        yield ask("scan", column)
+        for key in (b"a", b"b", b"ab", b"a=", b";"):
+            yield ask("find", column, key)
+            yield ask("value", column, key)
+
+
+def chosen_columns():
+    """Every place and every key of interest; a column of every byte too, from about its separators."""
+    found = [record.split(b"\t")[INFO_INDEX] for record in examples()]
+    for column in (*found, *INFO_COLUMNS):
+        yield ask("count", column)
+        yield ask("scan", column)
+        for at in range(len(column) + 2):
+            yield ask("info", column, at)
+        for key in keys_about(column):
+            yield ask("find", column, key)
+            yield ask("value", column, key)
+    for column, at in itertools.product((b"", b"a", b"a;", b"a=b;c"), FAR):
+        yield ask("info", column, at)
+    every = bytes(range(256))
+    yield ask("count", every)
+    yield ask("scan", every)
+    yield ask("find", every[1:], every[1 : ord(";")])
+    yield ask("value", every + every[:0:-1], b"<")
+    for at in (0, 1, ord(";"), ord("<"), ord("="), ord(">"), 255, 256, 257):
+        yield ask("info", every, at)
+
+
+def entries_of(count):
+    """So many entries, each with a key of its own, every third without a value."""
+    return b";".join(b"k%d" % number + b"=%d" % (number * number) * (number % 3 > 0) for number in range(count))
+
+
+def long_columns():
+    """Many entries; a long key, a long value; columns that are almost all separators."""
+    many = entries_of(100)
+    yield ask("count", many)
+    yield ask("scan", many)
+    for key in (b"k0", b"k1", b"k50", b"k98", b"k99", b"k9", b"k100", b"k"):
+        yield ask("find", many, key)
+        yield ask("value", many, key)
+    for end, key in itertools.product((b";", b"=;;z=1"), (b"k1", b"k99", b"z")):
+        yield ask("find", many + end, key)
+    name, text = filler(120), filler(130)
+    for column in (name, name + b"=" + text, b"=" * 256, b";" * 256, b"a" + b"=" * 256, b"a;" * 128):
+        for end in (b"", b"=", b";", b";z"):
+            yield ask("info", column + end, 0)
+            yield ask("info", column + end, len(column))
+            yield ask("find", column + end, b"z")
+    yield ask("count", b";" * 300)
+    yield ask("scan", b";" * 300)
+    yield ask("scan", b"=" * 300 + b"a")
+    for wanted in (name, name[:-1], name + b"a"):
+        yield ask("find", b"a;" + name + b"=1;b", wanted)
+        yield ask("value", b"a;" + name + b"=" + text, wanted)
+
+
+def random_entry(dice):
+    key = "".join(dice.pick("aab.\u00e9") for _ in range(1 + dice.roll(2)))
+    value = "".join(dice.pick("a1=,. \u8a9e") for _ in range(dice.roll(4)))
+    return (key + "=" * (dice.roll(3) > 0 or value != "") + value).encode()
+
+
+def random_columns(large, dice):
+    """Good columns and damaged ones, with any byte or with a separator, asked from some place and for some key."""
+    for _ in range(15_000 if large else 80):
+        good = b";".join(random_entry(dice) for _ in range(1 + dice.roll(6)))
+        for column in (good, damaged(dice, good), damaged(dice, good, b";=")):
+            key = dice.pick((b"a", b"b", b"aa", b"ab", b".", "\u00e9".encode()))
+            yield ask("info", column, dice.roll(len(column) + 1))
+            yield ask("scan", column)
+            yield ask("find", column, key)
+            yield ask("value", column, key)
+            if large:
+                yield ask("count", column)
+
+
+def infos(large, dice):
+    yield from short_columns(large)
+    yield from chosen_columns()
+    yield from long_columns()
+    yield from random_columns(large, dice)
+
+
+# ---- samples, walk, sample, key and subfield
+
+# With `{` for the separator: bytes next to tab and colon and one bit away, control bytes, other characters, no UTF-8.
+PIECES = (
+    b".", b"..", b"\x08{\x0a{\x0b{\x89", b"9{;{\xba{z", b"\r{\n{\r\n{\x00{ ", "\u00e9{\u8a9e{\U000233b4".encode(),
+    b"\xff{\xc3{\xa9", b"\xc3{\xa9{", b"{{\xff{{",
+)
+FORMATS = (
+    b"", b"GT", b"GT:DP", b"DP:GT", b"DP:GQ:GT:HQ", b"GT:GT", b"DP:GT:GT:DP", b":GT", b"GT:", b"DP::GT", b"::GT::",
+    b"gt:GT", b"Gt", b"GTX:XGT:GT", b"G:T:GT", b"G:T", b"GT,DP", b"GT;DP:GT", b"GT\t:GT", b" GT:GT", b"GT\x00:GT", b".",
+    b".:GT", b"GT:.",
+)
+SUBFIELDS = (b"0|1:35:4", b"0/1", b".", b"./.:.:.", b":35:4", b"0|1::4", b"0|1:35:", b"0|1:.,.:4:51,51", b"0|1 35\t4:1")
+
+
+def separated(pieces, separator):
+    """The pieces with a separator for each `{`."""
+    return pieces.replace(b"{", separator)
+
+
+def numbers_about(text, separator):
+    """The number of each piece, of two past the last, and the largest."""
+    return (*range(text.count(separator) + 3), LARGEST)
+
+
+def sample_texts(large):
+    yield from short_texts(b"a\t", 9 if large else 5)
+    yield from short_texts(b"a\t:\n", 5 if large else 2)
+    for record in examples():
+        yield record.split(b"\t", SAMPLES_INDEX)[SAMPLES_INDEX]
+    for pieces in PIECES:
+        yield separated(pieces, b"\t")
+
+
+def many_samples(large):
+    """1 to 300 samples: filled, empty, and some of each. In the small size the last are asked by number too."""
+    for count in range(1, 301) if large else (1, 2, 3, 10, 64, 255, 256, 257, 299, 300):
+        filled = b"\t".join(b"%d" % (number % 7) for number in range(count))
+        some = b"\t".join(b"1" * (number % 3) for number in range(count))
+        for text in (filled, b"\t" * (count - 1), some):
+            yield ask("samples", text)
+            yield ask("walk", text)
+            for number in (0, count // 2, count - 1, count, 2**32, LARGEST) if large or count == 300 else ():
+                yield ask("sample", text, number)
+
+
+def format_keys(large):
+    """FORMAT texts and the keys asked of them."""
+    for text in short_texts(b"a:", 7 if large else 5):
+        for key in (b"", b"a", b"aa", b":", b"a:", b":a"):
+            yield text, key
+    for text in (*FORMATS, *(record.split(b"\t")[FORMAT_INDEX] for record in examples())):
+        for key in (b"GT", b"DP", b"HQ", b"G", b"gt", b"GTX", b"GT:", b"GT:DP", b"", b".", text):
+            yield text, key
+    for text in (separated(pieces, b":") for pieces in PIECES):
+        for key in sorted({b"", *text.split(b":"), text, text[:1], text + b"a"}):
+            yield text, key
+    many = [b"K%d" % number for number in range(30)]
+    for key in (b"K0", b"K1", b"K2", b"K28", b"K29", b"K30", b"K", b"GT"):
+        yield b":".join(many), key
+        yield b":".join((*many, *many)), key
+        yield b":".join((*many, b"GT")), key
+    yield b":".join(b"%d" % number for number in range(300)), b"299"
+
+
+def subfields(large):
+    texts = [*short_texts(b"a:", 7 if large else 5), *SUBFIELDS, *(separated(pieces, b":") for pieces in PIECES)]
+    for record in examples():
+        texts += record.split(b"\t")[SAMPLES_INDEX:]
+    for text in texts:
+        for number in numbers_about(text, b":"):
+            yield text, number
+    for text, number in itertools.product((b"", b":", b"a:b"), FAR):
+        yield text, number
+    for number in (0, 150, 299, 300, LARGEST):
+        yield b":" * 299, number
+        yield b":".join(b"%d" % other for other in range(300)), number
+
+
+def random_samples(large, dice):
+    for _ in range(5_000 if large else 60):
+        text = bytes(dice.pick(b"a0|/.,:::\t\t\t\xc3\xa9") for _ in range(dice.roll(14)))
+        yield ask("samples", text)
+        yield ask("walk", text)
+        yield ask("sample", text, dice.roll(6))
+        yield ask("subfield", text, dice.roll(6))
+        names = [dice.pick((b"GT", b"DP", b"G", b"", b"HQ", b"GTX")) for _ in range(dice.roll(7))]
+        yield ask("key", b":".join(names), dice.pick((b"GT", b"G", b"")))
+
+
+def samples(large, dice):
+    for text in sample_texts(large):
+        yield ask("samples", text)
+        yield ask("walk", text)
+        for number in numbers_about(text, b"\t"):
+            yield ask("sample", text, number)
+    for text, number in itertools.product((b"", b"\t", b"a\tb"), FAR):
+        yield ask("sample", text, number)
+    yield from many_samples(large)
+    for text, key in format_keys(large):
+        yield ask("key", text, key)
+    for text, number in subfields(large):
+        yield ask("subfield", text, number)
+    yield from random_samples(large, dice)
+
+
 # ---- the form of a case
 
 NO_CASES = (
@@ -703,6 +933,34 @@ NO_RECORD_CASES = (
 )
 
 
+# The same of info, find, value, scan, count, samples, walk, sample, key and subfield.
+NO_INFO_CASES = (
+    # an unknown verb, an argument too few or too many, spaces
+    b"inf 61 0", b"infos 61 0", b"Info 61 0", b"info", b"info 61", b"info 0", b"info 61 0 0", b"info  61 0",
+    b"info 61  0", b"info 61 0 ", b" info 61 0", b"info 61 ", b"info 61 0\r", b"info\t61 0", b"fin 61 61",
+    b"finds 61 61", b"find", b"find 61", b"find 61 61 61", b"find 61 61 0", b"find 61  61", b"find 61 ", b"find  61",
+    b"values 61 61", b"valu 61 61", b"value", b"value 61", b"value 61 61 61", b"value 61 ", b"sca 61", b"scans 61",
+    b"scan", b"scan ", b"scan 61 0", b"scan - -", b"counts 61", b"coun 61", b"count", b"count ", b"count 61 61",
+    b"sampl 61 0", b"samples", b"samples 61 0", b"samples 61 ", b"sample", b"sample 61", b"sample 0", b"sample 61 0 0",
+    b"sample 61  0", b"walks 61", b"wal 61", b"walk", b"walk 61 0", b"walk ", b"ke 61 61", b"keys 61 61", b"key",
+    b"key 61", b"key 61 61 61", b"key 61 ", b"subfields 61 0", b"subfiel 61 0", b"subfield", b"subfield 61",
+    b"subfield 61 0 0", b"subfield  0",
+    # hex that is odd, upper case or none
+    b"info 6 0", b"info 6A 0", b"info 613 0", b"info -- 0", b"info 0x61 0", b"info a=b 0", b"find 6 61", b"find 61 6",
+    b"find 6A 61", b"find 61 6A", b"find 61 --", b"find -- 61", b"find 61 a", b"value 616 61", b"value 61 616",
+    b"value 61 6G", b"scan 6", b"scan 6A", b"scan 61-", b"count 3b3", b"count 3B", b"count 0", b"samples 0",
+    b"samples 9", b"samples 0A", b"walk 6", b"walk 6A", b"walk 61,62", b"sample 6 0", b"sample 6A 0", b"key 6 61",
+    b"key 61 6", b"key 6A 61", b"key GT GT", b"subfield 3 0", b"subfield 3A 0", b"subfield 0 0",
+    # a number that is empty, has a sign or a leading zero, passes its type, or is none
+    b"info 61 00", b"info 61 01", b"info 61 +0", b"info 61 -0", b"info 61 -", b"info 61 -1", b"info 61 a",
+    b"info 61 0a", b"info 61 0,0", b"info 61 18446744073709551616", b"info 61 18446744073709551625",
+    b"info 61 99999999999999999999", b"info 61 \xb2", b"sample 61 00", b"sample 61 +0", b"sample 61 -", b"sample 61 -1",
+    b"sample 61 a", b"sample 61 18446744073709551616", b"sample 61 36893488147419103232", b"subfield 61 00",
+    b"subfield 61 01", b"subfield 61 +0", b"subfield 61 -", b"subfield 61 0x0", b"subfield 61 18446744073709551616",
+    b"subfield 61 99999999999999999999",
+)
+
+
 def spoilt(lines, large):
     """Good lines with one byte put in, in every place, that makes each of them none."""
     for line, byte in itertools.product(lines, b"\x00\t\r \x7f\x80\xffxG" if large else b"\x00 x"):
@@ -756,13 +1014,57 @@ def long_record_lines(large):
         yield none(ask("join", 4_096, 0, b"a" * 32_000, tuple(range(1, 1_025)))[0])
 
 
+def long_info_lines(large):
+    """The same of the verbs on INFO and samples."""
+    column = filler(16_000) + b"=" + filler(16_000) + b";"
+    wanted = column + b"a" * (32_761 - len(column)) + b";z="
+    yield ask("find", wanted, b"z")
+    if large:
+        yield ask("info", wanted, 0)
+        yield none(ask("find", wanted, b"zz")[0])
+        yield none(ask("find", wanted + b"1", b"z")[0])
+        yield ask("find", wanted[:-2] + b"y=", b"z")
+        yield ask("find", b"z=1;" + wanted[:-6], b"z")
+        yield ask("find", b"z=", b"z" * 32_763)
+        yield ask("info", wanted[:-2], 32_001)
+        yield ask("info", b"a" * 32_764, 0)
+        yield ask("info", b"a" * 32_763 + b"=", 0)
+        yield ask("info", b"a" * 32_763 + b";", 0)
+        yield ask("info", b"=" * 32_762, 32_761)
+        yield none(ask("info", b"=" * 32_763, 32_762)[0])
+        yield ask("value", b"z=" + b"1" * 32_761, b"z")
+        yield ask("value", wanted[:-3] + b";z", b"z")
+        yield ask("scan", b";" * 32_765)
+        yield ask("scan", b"=" * 32_764 + b"a")
+        yield ask("scan", b"a;" * 16_382)
+        yield ask("scan", b"a=;" * 10_921 + b"aa")
+        yield ask("scan", entries_of(2_000))
+        yield none(ask("scan", b";" * 32_766)[0])
+        yield ask("count", b";" * 32_765)
+        yield ask("count", b"a" * 32_765)
+        yield ask("samples", b"\t" * 32_764)
+        yield ask("walk", b"\t" * 32_765)
+        yield ask("walk", b"a\tb" * 10_000)
+        yield ask("sample", b"\t" * 32_761, 32_761)
+        yield ask("sample", b"\t" * 32_761, 32_762)
+        yield ask("sample", b"a" * 32_763, 0)
+        yield ask("key", b":" * 32_763 + b"z", b"z")
+        yield ask("key", b":" * 32_763 + b"y", b"z")
+        yield ask("key", b"a" * 16_000 + b":" + b"a" * 383 + b":a", b"a" * 383)
+        yield ask("key", b"b:" + b"a" * 16_381, b"a" * 16_381)
+        yield ask("subfield", b":" * 32_760, 32_760)
+        yield ask("subfield", b":" * 32_760, 32_761)
+
+
 def form(large):
     """Lines that are none and long lines, each before a case with an answer of its own: a shift shows at once."""
     good = (b"utf8 41", b"print 5 70", b"space -", b"decimal 2b37") if large else (b"utf8 41", b"print 5 70")
     more = (b"field id 61 0", b"join 9 0 6162 1,2", *((b"line 6109 0", b"place 61 0 1", b"pos 31") if large else ()))
+    steps = (b"info 61 0", b"key 61 61", *((b"scan 61", b"value 613d 61", b"sample 61 0") if large else ()))
     lines = (
         *map(none, (*NO_CASES, *spoilt(good, large))), *long_lines(large),
         *map(none, (*NO_RECORD_CASES, *spoilt(more, large))), *long_record_lines(large),
+        *map(none, (*NO_INFO_CASES, *spoilt(steps, large))), *long_info_lines(large),
     )
     for index, case in enumerate(lines):
         yield case
@@ -776,6 +1078,7 @@ def cases(size):
     areas = (
         texts(large, Dice(1)), decimals(large, Dice(2)), prints(large, Dice(3)), lines(large, Dice(4)),
         fields(large, Dice(5)), places(large), positions(large, Dice(6)), joins(large, Dice(7)),
+        infos(large, Dice(8)), samples(large, Dice(9)),
     )
     yield from dict.fromkeys(itertools.chain(*areas))
     yield from form(large)

@@ -14,7 +14,7 @@ LARGEST = 18_446_744_073_709_551_615
 LARGEST_ROOM = 4_096
 MOST_ENDS = 1_024
 
-DONE, AT_END, EMPTY, LINE_ENDS, CUT, NOT_UTF8, BEYOND = range(7)
+DONE, AT_END, EMPTY, LINE_ENDS, CUT, NOT_UTF8, BEYOND, KEY_ENDS, NO_KEY, VALUE_ENDS, NONE_SUCH = range(11)
 BAD_NUMBER, BAD_ENDS, TOO_SHORT, BAD_COLUMN, BAD_COUNT, BAD_POS = 12, 16, 17, 18, 19, 21
 
 FIELDS = (b"chrom", b"pos", b"id", b"ref", b"alt", b"qual", b"filter", b"info", b"format", b"samples")
@@ -203,6 +203,60 @@ def joined(text, ends):
     return b"\t".join(columns) + b"\n"
 
 
+def part(text, place):
+    start, length = place
+    return text[start : start + length]
+
+
+def info_step(text, at):
+    """The answer of a step over INFO, the next place and, where it is 0, the places of the key and of the value.
+
+    The entry is taken to its semicolon or the end of the text first, then cut at its first `=`. A value that is absent
+    has the place None.
+    """
+    if at > len(text):
+        return BEYOND, at, None, None
+    if at == len(text):
+        return NONE_SUCH, at, None, None
+    entry, semicolon, rest = text[at:].partition(b";")
+    key, equals, value = entry.partition(b"=")
+    last_byte = semicolon and not rest
+    if last_byte and not equals:
+        return KEY_ENDS, len(text), None, None
+    if not key:
+        return NO_KEY, at + 1, None, None
+    if last_byte:
+        return VALUE_ENDS, len(text), None, None
+    shown_value = (at + len(key) + 1, len(value)) if equals else None
+    return DONE, at + len(entry) + len(semicolon), (at, len(key)), shown_value
+
+
+def info_steps(text):
+    """Every step from the start of the text, up to and with the one that answers 10."""
+    answered, past = None, 0
+    while answered != NONE_SUCH:
+        step = info_step(text, past)
+        answered, past, _, _ = step
+        yield step
+
+
+def info_lookup(text, wanted):
+    """The first step that is a refusal or whose key is equal to the one wanted."""
+    for step in info_steps(text):
+        answered, _, key, _ = step
+        if answered != DONE or part(text, key) == wanted:
+            return step
+
+
+def piece_places(text, separator):
+    """The place of each piece; the empty text holds none."""
+    found, start = [], 0
+    for piece in text.split(separator) if text else ():
+        found.append((start, len(piece)))
+        start += len(piece) + 1
+    return found
+
+
 # ---- answers
 
 
@@ -284,6 +338,61 @@ def join(length, at, text, ends):
     return laid_out(length, at, joined(text, ends))
 
 
+def step_words(step):
+    answered, past, key, value = step
+    if answered != DONE:
+        return words(answered, past)
+    return words(answered, past, *key, *(value or ("absent",)))
+
+
+def info(text, at):
+    return step_words(info_step(text, at))
+
+
+def find(text, wanted):
+    return step_words(info_lookup(text, wanted))
+
+
+def value_of(text, wanted):
+    _, _, _, value = info_lookup(text, wanted)
+    return shown(part(text, value) if value else b"")
+
+
+def scan(text):
+    return ", ".join(map(step_words, info_steps(text)))
+
+
+def count(text):
+    return words(text.count(b";") + 1 if text else 0)
+
+
+def samples(text):
+    return words(len(piece_places(text, b"\t")))
+
+
+def walk(text):
+    places = piece_places(text, b"\t")
+    return ", ".join(words(*one) for one in places) or words(NONE_SUCH)
+
+
+def numbered(places, index):
+    """The place of the piece of that number."""
+    return words(DONE, *places[index]) if index < len(places) else words(NONE_SUCH)
+
+
+def sample(text, index):
+    return numbered(piece_places(text, b"\t"), index)
+
+
+def key_index(text, wanted):
+    keys = [part(text, one) for one in piece_places(text, b":")]
+    return words(DONE, keys.index(wanted)) if wanted in keys else words(NONE_SUCH)
+
+
+def subfield(text, index):
+    return numbered(piece_places(text, b":"), index)
+
+
 # Each verb: what answers it, and the readers of its arguments.
 VERBS = {
     b"utf8": (utf8, (hexed,)),
@@ -295,6 +404,16 @@ VERBS = {
     b"place": (place, (hexed, number, number)),
     b"pos": (pos, (hexed,)),
     b"join": (join, (room, number, hexed, list_ends)),
+    b"info": (info, (hexed, number)),
+    b"find": (find, (hexed, hexed)),
+    b"value": (value_of, (hexed, hexed)),
+    b"scan": (scan, (hexed,)),
+    b"count": (count, (hexed,)),
+    b"samples": (samples, (hexed,)),
+    b"walk": (walk, (hexed,)),
+    b"sample": (sample, (hexed, number)),
+    b"key": (key_index, (hexed, hexed)),
+    b"subfield": (subfield, (hexed, number)),
 }
 
 
