@@ -14,10 +14,24 @@ use Rattle.text.specs.Answer.{Answer, says}
 use Rattle.pieces.specs.Pieces.{split, joined}
 use Rattle.pieces.specs.Demands.{Free}
 use Rattle.pieces.proofs.PieceLaws.{free-nil, free-cons, free-tail, free-append, free-left, free-right, first-free, split-nil, split-joined, split-whole, split-append, one-text, more-text}
-use Rattle.info.specs.Info.{Pair, alone, paired, keyOf, pairIn, pairOf, isEmpty, placesOf, entryAnswer, danglingAnswer, endedAnswer, firstAnswer, stepAnswer}
+use Rattle.info.specs.Info.{Pair, alone, paired, keyOf, pairIn, pairOf, placesOf, entryAnswer, danglingAnswer, endedAnswer, firstAnswer, stepAnswer}
 use Rattle.info.specs.Demands.{spelled, valueFree, Good}
 
 -- ---- an entry and its text
+
+-- one piece: the whole is the key
+pub pair-alone : (e : List ℕ) {k : List ℕ} → split 61 e ≡ k ∷ [] → pairOf e ≡ alone e
+unfolding pairOf pairIn
+pair-alone e q = rw q (ap alone (sym (one-text 61 q)))
+
+-- a first piece, and the rest behind the `=`
+pub pair-paired : (e rest : List ℕ) {k : List ℕ} → split 61 e ≡ k ∷ split 61 rest → pairOf e ≡ paired k rest
+unfolding pairOf pairIn
+pair-paired e rest {k} q = by (split 61 rest) refl
+  where
+    by : (ps : List (List ℕ)) → split 61 rest ≡ ps → pairOf e ≡ paired k rest
+    by [] z = absurd (split-nil 61 rest z)
+    by (v ∷ vs) z = rw (q, z) (ap (paired k) (ap (joined 61) (sym z) ∙ split-joined 61 rest))
 
 -- the text of an entry is what it was cut from
 pub spelled-pair : (e : List ℕ) → spelled (pairOf e) ≡ e
@@ -31,13 +45,9 @@ spelled-pair e = by (split 61 e) refl
 
 -- and an entry is cut from its text, where its key holds no `=`
 pub pair-spelled : (p : Pair) → Free 61 (keyOf p) → pairOf (spelled p) ≡ p
-unfolding spelled pairOf pairIn
-pair-spelled (alone k) f = rw (split-whole k f)
-pair-spelled (paired k v) f = rw (split-append k v f) (by (split 61 v) refl)
-  where
-    by : (ps : List (List ℕ)) → split 61 v ≡ ps → pairIn (k ∷ ps) ≡ paired k v
-    by [] q = absurd (split-nil 61 v q)
-    by (w ∷ ws) q = ap (paired k) (rw q at (split-joined 61 v))
+unfolding spelled
+pair-spelled (alone k) f = pair-alone k (split-whole k f)
+pair-spelled (paired k v) f = pair-paired (k ++ 61 ∷ v) v (split-append k v f)
 
 key-free : (e : List ℕ) → Free 61 (keyOf (pairOf e))
 unfolding pairOf pairIn
@@ -110,45 +120,51 @@ module _ (t : List ℕ) (at : ℕ) where
   unfolding stepAnswer
   step-inside h = rw (le-ltb (length t) at (omega arith), ne-eqb at (length t) (λ e. omega arith))
 
-kept : (at : ℕ) (p : Pair) (next : ℕ) → 0 < length (keyOf p) → entryAnswer at p next ≡ says 0 (next ∷ placesOf at p)
-unfolding entryAnswer isEmpty
-kept at p next n = by (keyOf p) n
+pub first-last : (at : ℕ) (e : List ℕ) → firstAnswer at (e ∷ []) ≡ entryAnswer at (pairOf e) (at + length e)
+unfolding firstAnswer
+first-last at e = refl
+
+pub first-ended : (at : ℕ) (e rest : List ℕ) → firstAnswer at (e ∷ split 59 rest) ≡ endedAnswer at (pairOf e) (at + length e + 1) rest
+unfolding firstAnswer
+first-ended at e rest = by (split 59 rest) refl
   where
-    by : (k : List ℕ) → 0 < length k → pick (isEmpty k) (says 8 ((at + 1) ∷ [])) (says 0 (next ∷ placesOf at p)) ≡ says 0 (next ∷ placesOf at p)
-    by [] h = absurd (omega arith)
-    by (b ∷ k) h = refl
+    by : (ps : List (List ℕ)) → split 59 rest ≡ ps → firstAnswer at (e ∷ ps) ≡ endedAnswer at (pairOf e) (at + length e + 1) rest
+    by [] z = absurd (split-nil 59 rest z)
+    by (f ∷ fs) z = ap (endedAnswer at (pairOf e) (at + length e + 1)) (ap (joined 59) (sym z) ∙ split-joined 59 rest)
+
+module _ (at : ℕ) (p : Pair) (next : ℕ) where
+  pub ended-none : (s : List ℕ) → length s ≡ 0 → endedAnswer at p next s ≡ danglingAnswer at p next
+  unfolding endedAnswer
+  ended-none [] h = refl
+  ended-none (b ∷ s) h = absurd (omega arith)
+
+  pub ended-some : (s : List ℕ) → 0 < length s → endedAnswer at p next s ≡ entryAnswer at p next
+  unfolding endedAnswer
+  ended-some [] h = absurd (omega arith)
+  ended-some (b ∷ s) h = refl
+
+kept : (at : ℕ) (p : Pair) (next : ℕ) → 0 < length (keyOf p) → entryAnswer at p next ≡ says 0 (next ∷ placesOf at p)
+unfolding entryAnswer
+kept at p next n = rw (ne-eqb (length (keyOf p)) 0 (λ z. omega arith))
 
 module _ (t : List ℕ) (at : ℕ) (p : Pair) (g : Good p) where
   -- a good entry that the column's end ends
   pub step-last : drop at t ≡ spelled p ++ [] → stepAnswer t at ≡ says 0 (length t ∷ placesOf at p)
-  unfolding firstAnswer
   step-last e =
       let n = spelled-some p g in
       let l = stands-length t at [] p g e in
       let m : at + length (spelled p) ≡ length t = omega arith in
       step-inside t at (omega arith)
-      ∙ rw (e, append-nil, split-whole (spelled p) (spelled-free p g), pair-spelled p (g .no-equals), m) (kept at p (length t) (g .some))
+      ∙ rw (e, append-nil, split-whole (spelled p) (spelled-free p g), first-last, pair-spelled p (g .no-equals), m) (kept at p (length t) (g .some))
 
   -- one that a `;` ends, before a text
   pub step-more : (s : List ℕ) → 0 < length s → drop at t ≡ spelled p ++ 59 ∷ s
       → stepAnswer t at ≡ says 0 ((at + length (spelled p) + 1) ∷ placesOf at p)
-  unfolding firstAnswer endedAnswer
   step-more s h e =
       let n = spelled-some p g in
       let l = stands-length t at (59 ∷ s) p g e in
       step-inside t at (omega arith)
-      ∙ rw (e, split-append (spelled p) s (spelled-free p g)) (by (split 59 s) refl)
-    where
-      next : ℕ
-      next = at + length (spelled p) + 1
-
-      ended : (r : List ℕ) → 0 < length r → endedAnswer at p next r ≡ says 0 (next ∷ placesOf at p)
-      ended [] h = absurd (omega arith)
-      ended (b ∷ r) h = kept at p next (g .some)
-
-      by : (ps : List (List ℕ)) → split 59 s ≡ ps → firstAnswer at (spelled p ∷ ps) ≡ says 0 (next ∷ placesOf at p)
-      by [] q = absurd (split-nil 59 s q)
-      by (f ∷ fs) q = rw (pair-spelled p (g .no-equals)) (ended (joined 59 (f ∷ fs)) (rw (← q, split-joined 59 s) h))
+      ∙ rw (e, split-append (spelled p) s (spelled-free p g), first-ended, pair-spelled p (g .no-equals), ended-some at p _ s h) (kept at p _ (g .some))
 
 -- ---- what stands at a place
 
@@ -164,12 +180,12 @@ pub data Stands (t : List ℕ) (at : ℕ) : Answer → Type 0 where
   last-value : at < length t → Stands t at (says 9 (length t ∷ []))
 
 pub step-stands : (t : List ℕ) (at : ℕ) → Stands t at (stepAnswer t at)
-unfolding firstAnswer entryAnswer endedAnswer danglingAnswer isEmpty
+unfolding firstAnswer entryAnswer endedAnswer danglingAnswer
 step-stands t at = placed (ltb (length t) at) refl
   where
-    keyed : (k : List ℕ) {x y : Answer} → Stands t at x → (0 < length k → Stands t at y) → Stands t at (pick (isEmpty k) x y)
+    keyed : (k : List ℕ) {x y : Answer} → Stands t at x → (0 < length k → Stands t at y) → Stands t at (pick (eqb (length k) 0) x y)
     keyed [] x y = x
-    keyed (b ∷ k) x y = y (omega arith)
+    keyed (b ∷ k) x y = rw (ne-eqb (length (b ∷ k)) 0 (λ z. omega arith)) (y (omega arith))
 
     dangling : at < length t → (p : Pair) → Stands t at (danglingAnswer at p (length t))
     dangling h (alone k) = last-key h

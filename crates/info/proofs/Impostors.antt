@@ -7,9 +7,10 @@ use lib.ListN.{length, getD, take, drop}
 use Rattle.text.specs.Answer.{Answer, says, numberOf}
 use Rattle.pieces.proofs.PieceLaws.{joined-one, joined-more}
 use Rattle.info.specs.Info.{Pair, alone, placesOf, stepAnswer}
-use Rattle.info.specs.Demands.{Stepper, spelled, Good, WellFormed, Scan, end, bare, full, Scans, GoesOn, entry, beyond, after-key, no-key, after-value, ended, Moved, MovesOn, Counts}
+use Rattle.info.specs.Demands.{Stepper, spelled, Good, WellFormed, Scan, end, bare, full, Scans, Moved, MovesOn, Counts}
 use Rattle.info.proofs.EntryLaws.{byte-good, step-last}
 use Rattle.info.proofs.Counts.{keyless-count}
+use Rattle.info.proofs.MovesOn.{Turn, stop, go, turn}
 
 -- ---- two columns
 
@@ -108,13 +109,9 @@ a-number : numberOf (stepAnswer (97 ∷ []) 0) ≡ 0
 unfolding spelled
 a-number = rw (step-last (97 ∷ []) 0 (alone (97 ∷ [])) a-good refl)
 
-next-within : {t : List ℕ} {at n next : ℕ} → at ≤ length t → GoesOn t at n next → next ≤ length t
-next-within h (entry l m) = m
-next-within h (beyond l) = h
-next-within h (after-key l) = omega arith
-next-within h (no-key l) = omega arith
-next-within h (after-value l) = omega arith
-next-within h (ended e) = h
+next-within : {t : List ℕ} {at n next : ℕ} → Turn t at n next → next ≤ length t
+next-within (stop w) = w
+next-within (go n l w) = w
 
 -- a stepper that so changes the entries' answers, whatever it does with others, doesn't move on
 pub invented-next : (step : Stepper) → ((t : List ℕ) (at : ℕ) → numberOf (stepAnswer t at) ≡ 0 → step t at ≡ bumped (stepAnswer t at)) → MovesOn step → ⊥
@@ -127,7 +124,7 @@ invented-next step invents moves = by (step t 0) (invents t 0 a-number ∙ a-bum
     by : (a : Answer) → a ≡ says 0 (2 ∷ placesOf 0 (alone (97 ∷ []))) → Moved t 0 a → ⊥
     by a e m =
         let n : m .next ≡ 2 = cc in
-        let l = next-within (omega arith) (m .goes) in
+        let l = next-within (turn (omega arith) (m .goes)) in
         omega arith
 
 -- nor does it scan, where it answers 6 beyond the column

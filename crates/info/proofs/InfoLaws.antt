@@ -7,55 +7,28 @@ use denote.Enum.Declared.{tagOf}
 use native.Mathlib.Omega.{arith}
 use mir.Syntax.{w64}
 use mir.Val.{Fits}
-use lib.ListN.{length, take, drop, drop-of-length-le, length-drop}
-use lib.Dec.{eqb}
-use borrow.Author.Tests.{eq-eqb, ne-eqb, lt-ltb, le-ltb}
+use lib.ListN.{length, take, drop, length-drop}
+use borrow.Author.Tests.{eq-eqb, ne-eqb}
 use Rattle.text.specs.Range.{cut}
 use Rattle.text.specs.declared.range.Range.{Range}
-use Rattle.text.proofs.Lists.{here, cut-is, cut-length}
-use Rattle.pieces.specs.Pieces.{split, joined, stepAnswer as pieceAnswer}
+use Rattle.text.proofs.Lists.{cut-is, cut-length}
+use Rattle.pieces.specs.Pieces.{stepAnswer as pieceAnswer}
 use Rattle.pieces.specs.Paper.{stepPaper as piecePaper}
 use Rattle.pieces.specs.declared.step.Step.{Step as Piece}
 use Rattle.pieces.specs.declared.step.Step.the-variants as P
 use Rattle.pieces.proofs.step.Step.{the-type}
 use Rattle.pieces.proofs.PaperLaws.{step-paper-injective}
-use Rattle.pieces.proofs.PieceLaws.{free-nil, split-whole, split-nil, split-joined, one-text, more-text}
-use Rattle.pieces.proofs.StepLaws.{StepTells, step-tells, next-pieces, finds-beyond}
-use Rattle.info.specs.Info.{Pair, alone, paired, keyOf, pairIn, pairOf, isEmpty, placesOf, entryAnswer, danglingAnswer, endedAnswer, firstAnswer, stepAnswer}
+use Rattle.pieces.proofs.PieceLaws.{free-nil, split-whole}
+use Rattle.pieces.proofs.StepLaws.{StepTells, step-tells, finds-beyond}
+use Rattle.info.specs.Info.{Pair, alone, paired, keyOf, pairOf, placesOf, entryAnswer, danglingAnswer, endedAnswer, firstAnswer, stepAnswer}
 use Rattle.info.specs.Paper.{valuePlaces, entryPlaces, stepPaper}
-use Rattle.info.specs.Demands.{spelled}
 use Rattle.info.specs.Inner.{keyed, keptAnswer, droppedBy, droppedAnswer}
 use Rattle.info.specs.declared.step.Value.{Value}
 use Rattle.info.specs.declared.step.Value.the-variants as W
 use Rattle.info.specs.declared.step.Entry.{Entry}
 use Rattle.info.specs.declared.step.Step.{Step}
 use Rattle.info.specs.declared.step.Step.the-variants as S
-
--- ---- the pair that a text is
-
--- one piece: the whole is the key
-pub pair-alone : (e : List ℕ) {k : List ℕ} → split 61 e ≡ k ∷ [] → pairOf e ≡ alone e
-unfolding pairOf pairIn
-pair-alone e q = rw q (ap alone (sym (one-text 61 q)))
-
--- a first piece, and the rest behind the `=`
-pub pair-paired : (e rest : List ℕ) {k : List ℕ} → split 61 e ≡ k ∷ split 61 rest → pairOf e ≡ paired k rest
-unfolding pairOf pairIn
-pair-paired e rest {k} q = by (split 61 rest) refl
-  where
-    by : (ps : List (List ℕ)) → split 61 rest ≡ ps → pairOf e ≡ paired k rest
-    by [] z = absurd (split-nil 61 rest z)
-    by (v ∷ vs) z = rw (q, z) (ap (paired k) (ap (joined 61) (sym z) ∙ split-joined 61 rest))
-
--- spelled, it is the text again
-pub pair-spelled : (e : List ℕ) → spelled (pairOf e) ≡ e
-unfolding pairOf pairIn spelled
-pair-spelled e = by (split 61 e) refl
-  where
-    by : (ps : List (List ℕ)) → split 61 e ≡ ps → spelled (pairIn ps) ≡ e
-    by [] q = absurd (split-nil 61 e q)
-    by (k ∷ []) q = sym (one-text 61 q)
-    by (k ∷ v ∷ vs) q = sym (more-text 61 e q)
+use Rattle.info.proofs.EntryLaws.{pair-alone, pair-paired, step-beyond, step-end, step-inside, first-last, first-ended, ended-none, ended-some}
 
 -- ---- the entry in a range
 
@@ -138,14 +111,9 @@ unfolding entryPlaces placesOf
 spells e at (alone k) q = record { start = cc; size = cc; places = q }
 spells e at (paired k v) q = record { start = cc; size = cc; places = q }
 
-empty-size : (k : List ℕ) → eqb (length k) 0 ≡ isEmpty k
-unfolding isEmpty
-empty-size [] = refl
-empty-size (b ∷ k) = let n : length (b ∷ k) ≡ 0 → ⊥ = λ e. omega arith in ne-eqb _ 0 n
-
 pub kept-is : (e : Entry) (at : ℕ) (p : Pair) (next : ℕ) → entryPlaces e ≡ placesOf at p → keptAnswer e next ≡ entryAnswer at p next
 unfolding keptAnswer keyed entryAnswer
-kept-is e at p next q = let s = spells e at p q in rw (q, s .start, s .size, empty-size (keyOf p))
+kept-is e at p next q = let s = spells e at p q in rw (q, s .start, s .size)
 
 pub dropped-is : (e : Entry) (at : ℕ) (p : Pair) (end : ℕ) → entryPlaces e ≡ placesOf at p → droppedAnswer e end ≡ danglingAnswer at p end
 unfolding droppedAnswer droppedBy keyed danglingAnswer entryPlaces valuePlaces placesOf
@@ -158,52 +126,13 @@ dropped-is e at (paired k v) end q = by (e .value) refl
   where
     by : (w : Value) → e .value ≡ w → droppedBy w e end ≡ danglingAnswer at (paired k v) end
     by W.Absent f = absurd (let g = rw f at q in let z : _≡_ {A = ℕ} 0 1 = cc in omega arith)
-    by (W.At r) f = let s = spells e at (paired k v) q in rw (s .start, s .size, empty-size k)
-
--- ---- the clauses of a step
-
-pub step-beyond : (t : List ℕ) (at : ℕ) → length t < at → stepPaper (S.Beyond at) ≡ stepAnswer t at
-unfolding stepPaper stepAnswer
-step-beyond t at h = rw (lt-ltb _ _ h)
-
-pub step-end : (t : List ℕ) (at : ℕ) → at ≡ length t → stepPaper (S.Nothing at) ≡ stepAnswer t at
-unfolding stepPaper stepAnswer
-step-end t at h = rw (le-ltb (length t) at (omega arith), eq-eqb _ _ h)
-
-pub step-inside : (t : List ℕ) (at : ℕ) → at < length t → stepAnswer t at ≡ firstAnswer at (split 59 (drop at t))
-unfolding stepAnswer
-step-inside t at h =
-    let n : at ≡ length t → ⊥ = λ e. omega arith in
-    rw (le-ltb (length t) at (omega arith), ne-eqb _ _ n)
-
-pub first-last : (at : ℕ) (e : List ℕ) → firstAnswer at (e ∷ []) ≡ entryAnswer at (pairOf e) (at + length e)
-unfolding firstAnswer
-first-last at e = refl
-
-pub first-ended : (at : ℕ) (e rest : List ℕ) → firstAnswer at (e ∷ split 59 rest) ≡ endedAnswer at (pairOf e) (at + length e + 1) rest
-unfolding firstAnswer
-first-ended at e rest = by (split 59 rest) refl
-  where
-    by : (ps : List (List ℕ)) → split 59 rest ≡ ps → firstAnswer at (e ∷ ps) ≡ endedAnswer at (pairOf e) (at + length e + 1) rest
-    by [] z = absurd (split-nil 59 rest z)
-    by (f ∷ fs) z = ap (endedAnswer at (pairOf e) (at + length e + 1)) (ap (joined 59) (sym z) ∙ split-joined 59 rest)
-
--- an entry that another text follows, ended by the `;` before the next place
-pub first-more : (t : List ℕ) (at : ℕ) {s r : List ℕ} {rs : List (List ℕ)} → split 59 (drop at t) ≡ s ∷ r ∷ rs
-    → firstAnswer at (s ∷ r ∷ rs) ≡ endedAnswer at (pairOf s) (at + length s + 1) (drop (at + length s + 1) t)
-first-more t at {s} q =
-    ap (λ (z : List (List ℕ)). firstAnswer at (s ∷ z)) (sym (next-pieces 59 t at q))
-    ∙ first-ended at s (drop (at + length s + 1) t)
-
-pub ended-none : (at : ℕ) (p : Pair) (next : ℕ) (t : List ℕ) → next ≡ length t → endedAnswer at p next (drop next t) ≡ danglingAnswer at p next
-unfolding endedAnswer
-ended-none at p next t h = rw (drop-of-length-le t {i = next} (omega arith))
-
-pub ended-some : (at : ℕ) (p : Pair) (next : ℕ) (t : List ℕ) → next < length t → endedAnswer at p next (drop next t) ≡ entryAnswer at p next
-unfolding endedAnswer
-ended-some at p next t h = rw (here t next h)
+    by (W.At r) f = let s = spells e at (paired k v) q in rw (s .start, s .size)
 
 -- ---- each way through a step
+
+pub finds-end : (t : List ℕ) (at : ℕ) → at ≡ length t → stepPaper (S.Nothing at) ≡ stepAnswer t at
+unfolding stepPaper
+finds-end t at h = sym (step-end t at h)
 
 module _ (t : List ℕ) (at : ℕ) (x : Piece) (e : piecePaper x ≡ pieceAnswer 59 t at) where
   tells : (y : Piece) → x ≡ y → StepTells 59 t at y
@@ -229,12 +158,12 @@ module _ (t : List ℕ) (at : ℕ) (x : Piece) (e : piecePaper x ≡ pieceAnswer
       more-past = let f = tells (P.More r next) q in let s = spells en (r .start) (pairOf (cut r t)) p in omega arith
 
       pub more-dropped : (y : Step) → next ≡ length t → stepPaper y ≡ droppedAnswer en next → stepPaper y ≡ stepAnswer t at
-      more-dropped y h d = d ∙ dropped-is en (r .start) (pairOf (cut r t)) next p ∙ sym (more-answer ∙ ended-none (r .start) (pairOf (cut r t)) next t h)
+      more-dropped y h d = d ∙ dropped-is en (r .start) (pairOf (cut r t)) next p ∙ sym (more-answer ∙ ended-none (r .start) (pairOf (cut r t)) next (drop next t) (simp length-drop (omega arith)))
 
       pub more-kept : (y : Step) → (next ≡ length t → ⊥) → stepPaper y ≡ keptAnswer en next → stepPaper y ≡ stepAnswer t at
       more-kept y h d =
           let f = tells (P.More r next) q in
-          d ∙ kept-is en (r .start) (pairOf (cut r t)) next p ∙ sym (more-answer ∙ ended-some (r .start) (pairOf (cut r t)) next t (omega arith))
+          d ∙ kept-is en (r .start) (pairOf (cut r t)) next p ∙ sym (more-answer ∙ ended-some (r .start) (pairOf (cut r t)) next (drop next t) (simp length-drop (omega arith)))
 
   module _ {r : Range} (q : x ≡ P.Last r) where
     pub last-within : r .start + r .len ≤ length t
@@ -256,7 +185,8 @@ module _ (t : List ℕ) (at : ℕ) (x : Piece) (e : piecePaper x ≡ pieceAnswer
           ∙ sym (step-inside t at (omega arith) ∙ ap (firstAnswer at) (f .pieces) ∙ first-last at (cut r t))
 
   pub past-beyond : x ≡ P.Beyond → stepPaper (S.Beyond at) ≡ stepAnswer t at
-  past-beyond q = step-beyond t at (tells P.Beyond q)
+  unfolding stepPaper
+  past-beyond q = sym (step-beyond t at (tells P.Beyond q))
 
   -- a text without a piece is empty, and has no other place
   pub past-nothing : (at ≡ length t → ⊥) → x ≡ P.Nothing → stepPaper (S.Nothing at) ≡ stepAnswer t at
@@ -265,4 +195,4 @@ module _ (t : List ℕ) (at : ℕ) (x : Piece) (e : piecePaper x ≡ pieceAnswer
       let w : P.Nothing ≡ P.Beyond = step-paper-injective P.Nothing P.Beyond (rw q at e ∙ sym (finds-beyond 59 t at (omega arith))) in
       cc
 
-pub ruleset laws = (value-within, value-fits, entry-paired, entry-alone, keeps-empty, keeps, drops-absent, drops-empty, drops-value, step-end, more-within, more-past, more-dropped, more-kept, last-within, last-past, last-kept, past-beyond, past-nothing)
+pub ruleset laws = (value-within, value-fits, entry-paired, entry-alone, keeps-empty, keeps, drops-absent, drops-empty, drops-value, finds-end, more-within, more-past, more-dropped, more-kept, last-within, last-past, last-kept, past-beyond, past-nothing)

@@ -32,18 +32,18 @@ moves-on t at = moved (step-stands t at)
 
 -- ---- the steps end
 
--- 10 at the column's end, or a step that lies further on in the column
-data Turn (t : List ℕ) (at : ℕ) : ℕ → ℕ → Type 0 where
-  stop : {next : ℕ} → Turn t at 10 next
+-- from a place of the column: 10, or a step to a place further on; each in the column
+pub data Turn (t : List ℕ) (at : ℕ) : ℕ → ℕ → Type 0 where
+  stop : {next : ℕ} → next ≤ length t → Turn t at 10 next
   go : {n next : ℕ} → (n ≡ 10 → ⊥) → at < next → next ≤ length t → Turn t at n next
 
-turn : {t : List ℕ} {at n next : ℕ} → at ≤ length t → GoesOn t at n next → Turn t at n next
+pub turn : {t : List ℕ} {at n next : ℕ} → at ≤ length t → GoesOn t at n next → Turn t at n next
 turn h (entry l m) = go {n = 0} (λ z. omega arith) l m
 turn h (beyond l) = absurd (omega arith)
 turn {t} h (after-key l) = go {n = 7} {next = length t} (λ z. omega arith) l (omega arith)
 turn {at = at} h (no-key l) = go {n = 8} {next = at + 1} (λ z. omega arith) (omega arith) (omega arith)
 turn {t} h (after-value l) = go {n = 9} {next = length t} (λ z. omega arith) l (omega arith)
-turn h (ended e) = stop
+turn h (ended e) = stop h
 
 module _ (step : Stepper) (t : List ℕ) where
   -- by one turn more
@@ -52,7 +52,7 @@ module _ (step : Stepper) (t : List ℕ) where
   one-more at (says n vs) h e m rest = by n (m .next) (e ∙ ap (says n) (m .values)) (turn h (m .goes))
     where
       by : (n next : ℕ) {places : List ℕ} → step t at ≡ says n (next ∷ places) → Turn t at n next → Finished step t at
-      by n next e stop = record { steps = 1; few = omega arith; ends = now e }
+      by n next e (stop w) = record { steps = 1; few = omega arith; ends = now e }
       by n next e (go d l w) =
           let f = rest next l w in
           let k = f .few in

@@ -2,18 +2,17 @@
 use Prim.Native.Nat.{ℕ, _<_, _≤_}
 use mathlib.Core.Path.{_≡_, refl, ap, _∙_}
 use mathlib.Core.List.{List}
-use native.Mathlib.Omega.{arith}
 use lib.ListN.{length, getD}
 use Rattle.text.specs.Answer.{Answer, numberOf, valuesOf}
 use Rattle.info.specs.Info.{stepAnswer}
 use Rattle.info.specs.Paper.{stepPaper}
 use Rattle.info.specs.Told.{Tells}
-use Rattle.info.specs.Demands.{GoesOn, entry, beyond, after-key, no-key, after-value, ended, MovesOn}
+use Rattle.info.specs.Demands.{MovesOn}
 use Rattle.info.specs.declared.step.Entry.{Entry}
 use Rattle.info.specs.declared.step.Step.{Step}
 use Rattle.info.specs.declared.step.Step.the-variants as S
 use Rattle.info.specs.declared.step.Told.{Told}
-use Rattle.info.proofs.MovesOn.{moves-on}
+use Rattle.info.proofs.MovesOn.{moves-on, Turn, stop, go, turn}
 
 module _ (x : Step) {next : ℕ} where
   pub told-found : {e : Entry} → x ≡ S.Found e next → Tells (stepPaper x) (record { number = 0; next = next })
@@ -42,13 +41,9 @@ module _ (x : Step) {next : ℕ} where
 
 -- ---- a step that is told by another number than 10 moves on, from a place in the column
 
-goes : {t : List ℕ} {at n next : ℕ} → GoesOn t at n next → at ≤ length t → (n ≡ 10 → ⊥) → (at < next) × (next ≤ length t)
-goes (entry f w) h d = (f, w)
-goes (beyond f) h d = absurd (omega arith)
-goes (after-key f) h d = (f, omega arith)
-goes (no-key f) h d = (omega arith, omega arith)
-goes (after-value f) h d = (f, omega arith)
-goes (ended f) h d = absurd (d refl)
+goes : {t : List ℕ} {at n next : ℕ} → Turn t at n next → (n ≡ 10 → ⊥) → (at < next) × (next ≤ length t)
+goes (stop w) d = absurd (d refl)
+goes (go n l w) d = (l, w)
 
 module _ (t : List ℕ) (at : ℕ) (x : Step) (e : stepPaper x ≡ stepAnswer t at) (r : Told) (g : Tells (stepPaper x) r) (h : at ≤ length t) (d : r .number ≡ 10 → ⊥) where
   told-goes : (at < r .next) × (r .next ≤ length t)
@@ -57,7 +52,7 @@ module _ (t : List ℕ) (at : ℕ) (x : Step) (e : stepPaper x ≡ stepAnswer t 
       let m = moves-on t at in
       let n : r .number ≡ numberOf (stepAnswer t at) = g .number ∙ ap numberOf e in
       let w : r .next ≡ m .next = g .next ∙ ap (λ (a : Answer). getD (valuesOf a) 0 0) e ∙ ap (λ (vs : List ℕ). getD vs 0 0) (m .values) in
-      rw w (goes (m .goes) h (λ z. d (n ∙ z)))
+      rw w (goes (turn h (m .goes)) (λ z. d (n ∙ z)))
 
   pub told-on : at < r .next
   told-on = told-goes .0

@@ -11,18 +11,34 @@ use mir.Val.{Fits}
 use native.Mathlib.Nat.{add-comm}
 use lib.ListN.{length}
 use borrow.Rule.Slice.PartAt.{slPart}
+use Rattle.text.specs.Answer.{Answer}
 use Rattle.text.specs.declared.range.Range.{Range}
+use Rattle.info.specs.Info.{stepAnswer}
 use Rattle.info.specs.Paper.{valuePlaces, entryPlaces, stepPaper}
 use Rattle.info.specs.Find.{findAnswer}
 use Rattle.info.specs.Value.{shownOf, shown, Shows}
+use Rattle.info.specs.Demands.{Leads, found, refused, none, other}
 use Rattle.info.specs.declared.step.Value.the-variants as W
 use Rattle.info.specs.declared.step.Entry.{Entry}
 use Rattle.info.specs.declared.step.Step.{Step}
 use Rattle.info.specs.declared.step.Step.the-variants as S
 use Rattle.info.proofs.step.Step.{the-type}
+use Rattle.info.proofs.EntryLaws.{step-end}
 use Rattle.info.proofs.InfoLaws.{lent-cut}
 use Rattle.info.proofs.TellLaws.{info-tells}
-use Rattle.info.proofs.FindLaws.{find-step}
+use Rattle.info.proofs.First.{first}
+
+-- ---- what is found is a step's answer, at some place
+
+record StepOf (t : List ℕ) (a : Answer) : Type 0 where
+  place : ℕ
+  is : a ≡ stepAnswer t place
+
+step-of : (t key : List ℕ) {at : ℕ} {a : Answer} → Leads stepAnswer t key at a → StepOf t a
+step-of t key (found e q) = record { place = _; is = sym e }
+step-of t key (refused e l m) = record { place = _; is = sym e }
+step-of t key (none e) = record { place = length t; is = sym (step-end t (length t) refl) }
+step-of t key (other e n w) = step-of t key w
 
 -- ---- the place that is shown
 
@@ -35,7 +51,7 @@ module _ (t key : List ℕ) (x : Step) (e : stepPaper x ≡ findAnswer t key) wh
     module _ {r : Range} (v : en .value ≡ W.At r) where
       pub shown-within : r .start + r .len ≤ length t
       shown-within =
-          let s = find-step t key in
+          let s = step-of t key (first .is t key) in
           let f = info-tells t (s .place) (S.Found en next) (rw q at (e ∙ s .is)) in
           rw v at (f .value-within)
 

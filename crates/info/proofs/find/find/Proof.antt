@@ -1,4 +1,4 @@
--- `info::find::find` meets its contract: the invariant says that the search from the place on is the search from the start; each step moves on. Assumes nothing.
+-- `info::find::find` meets its contract: the invariant says that what the steps from the place on lead to is what is found; each step moves on. Assumes nothing.
 use Prim.Native.Nat.{_-_}
 use lib.ListN.{length}
 use borrow.Author.Needs.{needs}

@@ -1,4 +1,4 @@
--- A walk: a reader is made anew of the column that the one passed holds, and of the number; the one passed is Copy and kept for the exit. Assumes nothing.
+-- `info::reader::moved` meets its contract, by a walk: a reader is made anew of the column that the one passed holds, and of the number; the one passed is Copy and kept for the exit. Assumes nothing.
 use mathlib.Core.Path.{refl}
 use Prim.Native.Nat.{ℕ, _<_, _^_}
 use mathlib.Core.List.{[], _∷_}

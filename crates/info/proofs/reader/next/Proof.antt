@@ -1,4 +1,4 @@
--- A walk: the reader, which is Copy and kept for the exit, is taken apart, and `step_at` is cited at its column and place. Assumes nothing.
+-- `info::reader::next` meets its contract, by a walk: the reader, which is Copy and kept for the exit, is taken apart, and `step_at` is cited at its column and place. Assumes nothing.
 use mathlib.Core.Path.{_≡_, refl}
 use Prim.Native.Nat.{_<_, _^_}
 use mathlib.Core.List.{[], _∷_}

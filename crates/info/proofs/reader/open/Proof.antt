@@ -1,4 +1,4 @@
--- A walk: a reader is made of the column passed, which is Copy and kept for the exit, and of 0. Assumes nothing.
+-- `info::reader::open` meets its contract, by a walk: a reader is made of the column passed, which is Copy and kept for the exit, and of 0. Assumes nothing.
 use mathlib.Core.Path.{refl}
 use Prim.Native.Nat.{ℕ}
 use mathlib.Core.List.{List, [], _∷_}

@@ -1,4 +1,4 @@
--- A walk: the readers that `open` and `moved` return are each held in a local and passed on, and `open`, `moved` and `next` are cited; the column is Copy and kept for the exit. Assumes nothing.
+-- `info::reader::step_from` meets its contract, by a walk: the readers that `open` and `moved` return are each held in a local and passed on, and `open`, `moved` and `next` are cited; the column is Copy and kept for the exit. Assumes nothing.
 use mathlib.Core.Path.{_≡_, ap, _∙_, refl}
 use Prim.Native.Nat.{ℕ, _<_, _^_}
 use mathlib.Core.List.{List, [], _∷_}
