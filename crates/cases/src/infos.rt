@@ -92,7 +92,7 @@ fn answer_info(case: &[u8], text: &mut Text, out: &mut Buffer, at: Place) -> Ans
 
 // `find` and `value`, which are given a column and a key.
 fn answer_key(case: &[u8], verb: usize, text: &mut Text, out: &mut Buffer, at: Place) -> Answer {
-    let Pairs::Upto(middle, end) = decode_two(case, text) else {
+    let Pairs::Upto(middle, end) = decode_two(case, 1, text) else {
         return Answer::NoCase;
     };
     Answer::Given(put_found(text, middle, end, verb, out, at))

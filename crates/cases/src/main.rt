@@ -1,4 +1,5 @@
 // Reads cases from standard input, one a line, and prints one answer line for each.
+mod genotypes;
 mod infos;
 mod input;
 mod joining;
@@ -7,6 +8,7 @@ mod lines;
 mod output;
 mod parts;
 mod sampling;
+mod spellings;
 mod verbs;
 mod words;
 

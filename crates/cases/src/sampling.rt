@@ -95,7 +95,7 @@ fn put_range(range: Range, out: &mut Buffer, at: Place) -> Place {
 }
 
 fn answer_key(case: &[u8], text: &mut Text, out: &mut Buffer, at: Place) -> Answer {
-    let Pairs::Upto(middle, end) = decode_two(case, text) else {
+    let Pairs::Upto(middle, end) = decode_two(case, 1, text) else {
         return Answer::NoCase;
     };
     Answer::Given(put_said(out, at, said(index_of(text, middle, end))))

@@ -1,5 +1,6 @@
 // The answer line of a case. Each area is a module that answers the verbs it knows; they are asked
 // in turn.
+use crate::genotypes;
 use crate::infos;
 use crate::joining;
 use crate::leaves;
@@ -9,6 +10,7 @@ use crate::output::Buffer;
 use crate::output::Place;
 use crate::output::put_byte;
 use crate::sampling;
+use crate::spellings;
 use crate::words::Text;
 use pieces::count::count_byte;
 
@@ -39,7 +41,15 @@ fn ask(case: &[u8], text: &mut Text, out: &mut Buffer, at: Place) -> Answer {
     if let Answer::Given(_) = given {
         return given;
     }
-    sampling::answer(case, arguments, text, out, at)
+    let given = sampling::answer(case, arguments, text, out, at);
+    if let Answer::Given(_) = given {
+        return given;
+    }
+    let given = genotypes::answer(case, arguments, text, out, at);
+    if let Answer::Given(_) = given {
+        return given;
+    }
+    spellings::answer(case, arguments, out, at)
 }
 
 // The answer line of what is no case.

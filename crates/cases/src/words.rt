@@ -46,8 +46,13 @@ fn start_of(s: &[u8], mark: u8, k: usize) -> usize {
 // Word k of a case, its verb being word 0. It is empty where two spaces meet, where the case starts
 // or ends with one, and where there are fewer words; no verb and no argument is empty.
 pub fn word(case: &[u8], k: usize) -> &[u8] {
-    let start = start_of(case, b' ', k);
-    part(case, start, mark_from(case, b' ', start))
+    between(case, b' ', k)
+}
+
+// Part k of s between marks.
+pub fn between(s: &[u8], mark: u8, k: usize) -> &[u8] {
+    let start = start_of(s, mark, k);
+    part(s, start, mark_from(s, mark, start))
 }
 
 // Which of the first n words of `names` s is, or n.
@@ -68,7 +73,7 @@ pub fn number(case: &[u8], k: usize, most: u64) -> Number {
 }
 
 // The reader takes a plus sign and leading zeros too, which a case may not have.
-fn number_of(s: &[u8], most: u64) -> Number {
+pub fn number_of(s: &[u8], most: u64) -> Number {
     if s.len() == 0 {
         return Number::Bad;
     }
@@ -204,12 +209,14 @@ pub enum Pairs {
     Bad,
 }
 
-// Words 1 and 2 of a case, each a HEX, put into text one after the other.
-pub fn decode_two(case: &[u8], text: &mut Text) -> Pairs {
-    let Decoded::Upto(middle) = decode(case, 1, text, 0) else {
+// Word k of a case and the word after it, each a HEX, put into text one after the other.
+pub fn decode_two(case: &[u8], k: usize, text: &mut Text) -> Pairs
+    requires { ⌜ k < 65536 ⌝ }
+{
+    let Decoded::Upto(middle) = decode(case, k, text, 0) else {
         return Pairs::Bad;
     };
-    let Decoded::Upto(end) = decode(case, 2, text, middle) else {
+    let Decoded::Upto(end) = decode(case, k + 1, text, middle) else {
         return Pairs::Bad;
     };
     Pairs::Upto(middle, end)

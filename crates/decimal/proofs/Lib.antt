@@ -5,3 +5,4 @@ pub mod PrintLaws
 pub mod Value
 pub mod Demands
 pub mod Determined
+pub mod Lead

@@ -1,9 +1,9 @@
 -- Laws of lists as loops and lent parts have them. Assumes nothing.
-use Prim.Native.Nat.{ℕ, suc, _+_, _-_, _<_, _≤_}
+use Prim.Native.Nat.{ℕ, zero, suc, _+_, _-_, _<_, _≤_}
 use mathlib.Core.Path.{_≡_, refl, sym, ap, _∙_, subst}
 use mathlib.Core.List.{List, [], _∷_, _++_, append-assoc, append-nil}
 use native.Mathlib.Omega.{arith}
-use native.Mathlib.Nat.{le-refl}
+use native.Mathlib.Nat.{le-refl, le-of-suc-le-suc}
 use native.Mathlib.Numerals.{add-one}
 use lib.ListN.{length, getD, take, drop, set, length-append, length-drop, length-set, take-append-drop, drop-of-length-le}
 use lib.Seq.{drop-cons, drop-set-lt, getD-set-same, take-all, drop-drop, length-take-le, take-add, take-at, drop-at, take-append-add, drop-append-add}
@@ -86,6 +86,10 @@ pub take-over : (vs l : List ℕ) (k : ℕ) → k ≡ length vs → take k (over
 unfolding over
 take-over vs l k e = take-at vs (drop (length vs) l) k (sym e)
 
+pub take-overAt : (a : ℕ) (vs l : List ℕ) (k : ℕ) → a ≤ length l → k ≡ length vs → take k (drop a (overAt a vs l)) ≡ vs
+unfolding overAt
+take-overAt a vs l k h e = rw (drop-at (take a l) (over vs (drop a l)) a (length-take-le a l h)) (take-over vs (drop a l) k e)
+
 pub over-long : (vs l : List ℕ) → length vs ≤ length (over vs l)
 unfolding over
 over-long vs l = simp length-append (omega arith)
@@ -117,3 +121,17 @@ overAt-append a us vs l h =
     ap (λ (z : List ℕ). take a l ++ z) (over-append us vs (drop a l) d)
     ∙ sym (overAt-front (take a l) (length us) vs (over us (drop a l)))
     ∙ ap (λ (n : ℕ). overAt (n + length us) vs (take a l ++ over us (drop a l))) k
+
+-- one element before what was laid over a list
+pub overAt-before : (l : List ℕ) (a : ℕ) (vs : List ℕ) (b : ℕ) → a < length l → set (overAt (a + 1) vs l) a b ≡ overAt a (b ∷ vs) l
+unfolding overAt over
+overAt-before l a vs b h = rw add-one (go l a h)
+  where
+    go : (l : List ℕ) (a : ℕ) → a < length l → set (overAt (suc a) vs l) a b ≡ overAt a (b ∷ vs) l
+    go [] a h = absurd (omega arith)
+    go (x ∷ l) zero h = refl
+    go (x ∷ l) (suc a) h = ap (λ (z : List ℕ). x ∷ z) (go l a (le-of-suc-le-suc h))
+
+-- a part that came back as it was lent
+pub rest-back : (a : ℕ) (l ys : List ℕ) → ys ≡ take (length l - a) (drop a l) → putMid a (length l - a) l ys ≡ l
+rest-back a l ys e = rest-put a [] l ys (e ∙ sym (over-nil _)) ∙ overAt-nil a l

@@ -1,0 +1,97 @@
+-- Checking against ALT: the first allele above the count, of those from a place on, is the first of all; 20 stands before 17. Assumes nothing.
+use Prim.Native.Nat.{ℕ, _+_, _-_, _≤_, _<_}
+use mathlib.Core.Path.{_≡_, refl}
+use mathlib.Core.List.{List, [], _∷_}
+use mathlib.Core.Option.{none}
+use native.Mathlib.Omega.{arith}
+use types.Run.{OneOf}
+use denote.Enum.Declared.{tagOf}
+use lib.ListN.{length}
+use borrow.Author.Tests.{lt-ltb, le-ltb}
+use Rattle.text.specs.Answer.{numberOf}
+use Rattle.lists.specs.AlternateBases.{altCount}
+use Rattle.genotype.specs.Reading.{Reading, list, bad, empty, readingOf, stepAnswer, listOf, ListMeant}
+use Rattle.genotype.specs.Answers.{wholeAnswer, fitAnswer, firstAbove, aboveAnswer, checkedAnswer}
+use Rattle.genotype.specs.Paper.{stepPaper, readPaper, abovePaper}
+use Rattle.genotype.specs.declared.allele.Allele.{Allele}
+use Rattle.genotype.specs.declared.step.Step.{Step}
+use Rattle.genotype.specs.declared.step.Step.the-variants as S
+use Rattle.genotype.specs.declared.read.Read.{Read}
+use Rattle.genotype.specs.declared.read.Read.the-variants as R
+use Rattle.genotype.specs.declared.read.Above.{Above}
+use Rattle.genotype.specs.declared.read.Above.the-variants as O
+use Rattle.genotype.proofs.step.Step as T
+use Rattle.genotype.proofs.read.Read as D
+use Rattle.genotype.proofs.StepLaws.{Further, step-means}
+use Rattle.genotype.proofs.JudgeLaws.{other-number, fit-other, judge-fits}
+use Rattle.genotype.proofs.Ahead.{leftOf, Ahead, ahead-first, left-first, ahead-turn, left-turn, left-end}
+
+-- ---- the first above
+
+-- the first above the count from index k on is the first of all
+pub record Finding (t : List ℕ) (count at k : ℕ) : Type 0 where
+  pub ahead : Ahead t at k
+  pub same : firstAbove count k (leftOf t at k) ≡ firstAbove count 0 (listOf (readingOf t))
+
+pub find-first : {t : List ℕ} {count : ℕ} → ListMeant t → Finding t count 0 0
+find-first {t} m = record { ahead = ahead-first t m; same = rw (left-first t m) }
+
+module _ (t : List ℕ) (count at k : ℕ) (x : Step) (g : Finding t count at k) (e : stepPaper x ≡ stepAnswer t at) where
+  module _ (a : Allele) (next : ℕ) (q : x ≡ S.Found a next) where
+    further : Further t at a next
+    further = step-means t at (S.Found a next) (rw q at e)
+
+    left : leftOf t at k ≡ a ∷ leftOf t next (k + 1)
+    left = left-turn (g .ahead) further
+
+    pub find-at : count < a .number → abovePaper (O.At k) ≡ firstAbove count 0 (listOf (readingOf t))
+    unfolding abovePaper firstAbove
+    find-at h = rw (left, lt-ltb _ _ h) at (g .same)
+
+    pub find-turn : a .number ≤ count → Finding t count next (k + 1)
+    unfolding firstAbove
+    find-turn h = record { ahead = ahead-turn (g .ahead) further; same = rw (left, le-ltb _ _ h) at (g .same) }
+
+    pub find-less : length t - next < length t - at
+    find-less = let f = further in omega arith
+
+  pub find-none : OneOf (1 ∷ 2 ∷ 3 ∷ []) (tagOf T.the-type x) → abovePaper O.Nothing ≡ firstAbove count 0 (listOf (readingOf t))
+  unfolding abovePaper firstAbove
+  find-none h = rw (left-end t at k x (g .ahead) e h) at (g .same)
+
+-- ---- the answer
+
+-- where the whole is no list, no allele is above
+other-above : (count : ℕ) (r : Reading) → (numberOf (wholeAnswer r) ≡ 0 → ⊥) → firstAbove count 0 (listOf r) ≡ none
+unfolding wholeAnswer firstAbove listOf
+other-above count (list as′) n = absurd (n refl)
+other-above count (bad k) n = refl
+other-above count empty n = refl
+
+-- a done answer is a list's
+whole-list : (r : Reading) (n : ℕ) → readPaper (R.Done n) ≡ wholeAnswer r → r ≡ list (listOf r)
+unfolding readPaper wholeAnswer listOf
+whole-list (list as′) n e = refl
+whole-list (bad k) n e = cc
+whole-list empty n e = cc
+
+module _ (t : List ℕ) (count room : ℕ) (x : Read) (e : readPaper x ≡ wholeAnswer (readingOf t)) where
+  pub check-other : OneOf (1 ∷ 2 ∷ 3 ∷ 4 ∷ 5 ∷ []) (tagOf D.the-type x) → readPaper x ≡ checkedAnswer count (readingOf t) room
+  unfolding checkedAnswer aboveAnswer
+  check-other h =
+      rw (other-above count (readingOf t) (λ z. other-number x h (rw e z)))
+      (judge-fits t room x x e (fit-other x room h))
+
+  module _ (alt : List ℕ) (y : Above) (c : count ≡ altCount alt) (f : abovePaper y ≡ firstAbove count 0 (listOf (readingOf t))) where
+    pub check-above : {k : ℕ} → y ≡ O.At k → readPaper (R.Above k) ≡ checkedAnswer (altCount alt) (readingOf t) room
+    unfolding checkedAnswer aboveAnswer readPaper abovePaper
+    check-above q = rw (← c, ← f, q)
+
+    pub check-fits : (z : Read) → y ≡ O.Nothing → readPaper z ≡ fitAnswer (readPaper x) room → readPaper z ≡ checkedAnswer (altCount alt) (readingOf t) room
+    unfolding checkedAnswer aboveAnswer abovePaper
+    check-fits z q h = rw (← c, ← f, q) (judge-fits t room x z e h)
+
+pub check-meant : (t : List ℕ) (x : Read) {n : ℕ} → readPaper x ≡ wholeAnswer (readingOf t) → x ≡ R.Done n → ListMeant t
+check-meant t x {n} e q = record { is = whole-list (readingOf t) n (rw q at e) }
+
+pub ruleset laws = (find-first, find-at, find-turn, find-less, find-none, check-other, check-above, check-fits, check-meant)

@@ -1,0 +1,131 @@
+-- Judging: what the pieces from a place on answer, counted from their index, is what the whole does; room comes last. Assumes nothing.
+use Prim.Native.Nat.{ℕ, _+_, _-_, _≤_, _<_, zero-le}
+use mathlib.Core.Path.{_≡_, refl, sym, _∙_}
+use mathlib.Core.List.{List, [], _∷_}
+use native.Mathlib.Omega.{arith}
+use types.Run.{OneOf, miss}
+use denote.Enum.Declared.{tagOf}
+use lib.ListN.{length, drop}
+use borrow.Author.Tests.{lt-ltb, le-ltb}
+use Rattle.text.specs.Answer.{Answer, says, numberOf}
+use Rattle.genotype.specs.Reading.{Reading, list, bad, empty, with, gathered, readingOf, partsOf, stepAnswer}
+use Rattle.genotype.specs.Answers.{wholeAnswer, fitAnswer, readAnswer}
+use Rattle.genotype.specs.Paper.{stepPaper, readPaper}
+use Rattle.genotype.specs.declared.allele.Allele.{Allele}
+use Rattle.genotype.specs.declared.step.Step.{Step}
+use Rattle.genotype.specs.declared.step.Step.the-variants as S
+use Rattle.genotype.specs.declared.read.Read.{Read}
+use Rattle.genotype.specs.declared.read.Read.the-variants as R
+use Rattle.genotype.proofs.step.Step as T
+use Rattle.genotype.proofs.read.Read as D
+use Rattle.genotype.proofs.PieceLaws.{parts-end}
+use Rattle.genotype.proofs.StepLaws.{Further, step-means}
+
+-- ---- the whole text
+
+-- a text that is not empty reads as its parts do
+pub reading-some : (t : List ℕ) → (length t ≡ 0 → ⊥) → readingOf t ≡ gathered 0 (partsOf t)
+unfolding readingOf
+reading-some [] h = absurd (h refl)
+reading-some (b ∷ s) h = refl
+
+pub reading-none : (t : List ℕ) → length t ≡ 0 → readingOf t ≡ empty
+unfolding readingOf
+reading-none [] h = refl
+reading-none (b ∷ s) h = absurd (omega arith)
+
+-- the answer of k alleles and a reading behind them
+pub wholeFrom : ℕ → Reading → Answer
+wholeFrom k (list as′) = says 0 ((k + length as′) ∷ [])
+wholeFrom k (bad j) = says 12 (j ∷ [])
+wholeFrom k empty = says 11 []
+
+whole-none : (r : Reading) → wholeFrom 0 r ≡ wholeAnswer r
+unfolding wholeFrom wholeAnswer
+whole-none (list as′) = let z : 0 + length as′ ≡ length as′ = omega arith in rw z
+whole-none (bad j) = refl
+whole-none empty = refl
+
+whole-with : (k : ℕ) (a : Allele) (r : Reading) → wholeFrom k (with a r) ≡ wholeFrom (k + 1) r
+unfolding wholeFrom with
+whole-with k a (list as′) = let z : k + length (a ∷ as′) ≡ k + 1 + length as′ = omega arith in rw z
+whole-with k a (bad j) = refl
+whole-with k a empty = refl
+
+-- neither an allele nor a bad piece, at a place of the text: it is the end
+end-tells : (t : List ℕ) (at : ℕ) (x : Step) → at ≤ length t → stepPaper x ≡ stepAnswer t at → OneOf (1 ∷ 2 ∷ []) (tagOf T.the-type x) → length t ≤ at
+end-tells t at (S.Found a next) w e h = absurd (miss (1 ∷ 2 ∷ []) 0 tt h)
+end-tells t at S.Beyond w e h = let f = step-means t at S.Beyond e in omega arith
+end-tells t at S.Nothing w e h = let f = step-means t at S.Nothing e in omega arith
+end-tells t at S.Bad w e h = absurd (miss (1 ∷ 2 ∷ []) 3 tt h)
+
+-- k alleles are passed, and at stands behind them
+pub record Judging (t : List ℕ) (at k : ℕ) : Type 0 where
+  pub within : at ≤ length t
+  pub few : k ≤ at
+  pub same : wholeFrom k (gathered k (partsOf (drop at t))) ≡ wholeAnswer (readingOf t)
+
+pub judge-empty : (t : List ℕ) → length t ≡ 0 → readPaper R.Empty ≡ wholeAnswer (readingOf t)
+unfolding readPaper wholeAnswer
+judge-empty t h = rw (reading-none t h)
+
+pub judge-first : (t : List ℕ) → (length t ≡ 0 → ⊥) → Judging t 0 0
+judge-first t h = record { within = zero-le; few = zero-le; same = rw (reading-some t h) (whole-none (gathered 0 (partsOf t))) }
+
+module _ (t : List ℕ) (at k : ℕ) (x : Step) (g : Judging t at k) (e : stepPaper x ≡ stepAnswer t at) where
+  module _ (a : Allele) (next : ℕ) (q : x ≡ S.Found a next) where
+    further : Further t at a next
+    further = step-means t at (S.Found a next) (rw q at e)
+
+    pub judge-turn : Judging t next (k + 1)
+    unfolding gathered
+    judge-turn =
+        let f = further in
+        record { within = f .within; few = omega arith; same = sym (whole-with k a _) ∙ (rw (f .parts) at (g .same)) }
+
+    pub judge-less : length t - next < length t - at
+    judge-less = let f = further in omega arith
+
+  pub judge-bad : x ≡ S.Bad → readPaper (R.Bad k) ≡ wholeAnswer (readingOf t)
+  unfolding readPaper gathered wholeFrom
+  judge-bad q = let f = step-means t at S.Bad (rw q at e) in rw (f .parts) at (g .same)
+
+  pub judge-past : OneOf (1 ∷ 2 ∷ []) (tagOf T.the-type x) → readPaper (R.Done k) ≡ wholeAnswer (readingOf t)
+  unfolding readPaper gathered wholeFrom
+  judge-past h = let z : k + 0 ≡ k = omega arith in rw (parts-end t at (end-tells t at x (g .within) e h), z) at (g .same)
+
+-- ---- room
+
+-- only an answer that is done has the number 0
+pub other-number : (x : Read) → OneOf (1 ∷ 2 ∷ 3 ∷ 4 ∷ 5 ∷ []) (tagOf D.the-type x) → numberOf (readPaper x) ≡ 0 → ⊥
+unfolding readPaper
+other-number (R.Done n) h e = miss (1 ∷ 2 ∷ 3 ∷ 4 ∷ 5 ∷ []) 0 tt h
+other-number R.Empty h e = omega arith
+other-number (R.Bad k) h e = omega arith
+other-number R.Lengths h e = omega arith
+other-number R.Short h e = omega arith
+other-number (R.Above k) h e = omega arith
+
+pub fit-short : (x : Read) {n room : ℕ} → x ≡ R.Done n → room < n → readPaper R.Short ≡ fitAnswer (readPaper x) room
+unfolding readPaper fitAnswer
+fit-short x e h = rw (e, lt-ltb _ _ h)
+
+pub fit-done : (x : Read) {n room : ℕ} → x ≡ R.Done n → n ≤ room → readPaper (R.Done n) ≡ fitAnswer (readPaper x) room
+unfolding readPaper fitAnswer
+fit-done x e h = rw (e, le-ltb _ _ h)
+
+pub fit-other : (x : Read) (room : ℕ) → OneOf (1 ∷ 2 ∷ 3 ∷ 4 ∷ 5 ∷ []) (tagOf D.the-type x) → readPaper x ≡ fitAnswer (readPaper x) room
+unfolding readPaper fitAnswer
+fit-other (R.Done n) room h = absurd (miss (1 ∷ 2 ∷ 3 ∷ 4 ∷ 5 ∷ []) 0 tt h)
+fit-other R.Empty room h = refl
+fit-other (R.Bad k) room h = refl
+fit-other R.Lengths room h = refl
+fit-other R.Short room h = refl
+fit-other (R.Above k) room h = refl
+
+pub judge-fits : (t : List ℕ) (room : ℕ) (x y : Read) → readPaper x ≡ wholeAnswer (readingOf t) → readPaper y ≡ fitAnswer (readPaper x) room
+    → readPaper y ≡ readAnswer (readingOf t) room
+unfolding readAnswer
+judge-fits t room x y e f = rw (← e) f
+
+pub ruleset laws = (judge-empty, judge-first, judge-turn, judge-less, judge-bad, judge-past, fit-short, fit-done, fit-other, judge-fits)

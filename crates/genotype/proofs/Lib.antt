@@ -1,0 +1,15 @@
+pub mod PaperLaws
+pub mod PieceLaws
+pub mod StepLaws
+pub mod JudgeLaws
+pub mod Ahead
+pub mod FillLaws
+pub mod AboveLaws
+pub mod ReadLaws
+pub mod Determined
+pub mod PhasedLaws
+pub mod CutLaws
+pub mod MeansLaws
+pub mod Exact
+pub mod Impostors
+pub mod Nearest

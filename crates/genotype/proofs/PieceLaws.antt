@@ -1,0 +1,118 @@
+-- Cutting a text before each mark, shown byte by byte: the first piece, and the pieces of the text behind it. Assumes nothing.
+use Prim.Native.Nat.{ℕ, suc, _+_, _≤_, _<_, zero-le, suc-le-suc}
+use mathlib.Core.Path.{_≡_, refl, ap, _∙_}
+use mathlib.Core.List.{List, [], _∷_, map}
+use mathlib.Core.Bool.{Bool, true, false, _||_, or-true}
+use mathlib.Core.Option.{Option}
+use native.Mathlib.Omega.{arith}
+use lib.ListN.{length, getD, take, drop, drop-of-length-le}
+use lib.Dec.{eqb}
+use lib.Seq.{drop-drop}
+use borrow.Author.Tests.{eq-eqb, ne-eqb}
+use Rattle.text.specs.Pick.{pick}
+use Rattle.text.proofs.Lists.{here}
+use Rattle.genotype.specs.Reading.{isMark, headOf, markedPieces, piecesOf, bodied, alleleIn, impliedBy, impliedOf, partsOf}
+use Rattle.genotype.specs.declared.allele.Allele.{Allele}
+
+-- ---- marks
+
+pub mark-bar : (b : ℕ) → b ≡ 124 → isMark b ≡ true
+unfolding isMark
+mark-bar b e = simp (eq-eqb _ _ e)
+
+pub mark-slash : (b : ℕ) → b ≡ 47 → isMark b ≡ true
+unfolding isMark
+mark-slash b e = simp (eq-eqb _ _ e, or-true)
+
+pub mark-none : (b : ℕ) → (b ≡ 124 → ⊥) → (b ≡ 47 → ⊥) → isMark b ≡ false
+unfolding isMark
+mark-none b e f = simp (ne-eqb _ _ e, ne-eqb _ _ f)
+
+-- ---- an allele by its first byte
+
+module _ (implied : Bool) (b : ℕ) (s : List ℕ) where
+  pub in-bar : b ≡ 124 → alleleIn implied (b ∷ s) ≡ bodied true s
+  unfolding alleleIn
+  in-bar e = rw (eq-eqb b 124 e)
+
+  pub in-slash : b ≡ 47 → alleleIn implied (b ∷ s) ≡ bodied false s
+  unfolding alleleIn
+  in-slash e = rw (ne-eqb b 124 (λ q. omega arith), eq-eqb b 47 e)
+
+  pub in-plain : (b ≡ 124 → ⊥) → (b ≡ 47 → ⊥) → alleleIn implied (b ∷ s) ≡ bodied implied (b ∷ s)
+  unfolding alleleIn
+  in-plain e f = rw (ne-eqb b 124 e, ne-eqb b 47 f)
+
+-- a piece that begins with a mark is the same whatever is implied
+marked-same : (i j : Bool) (b : ℕ) (s : List ℕ) → isMark b ≡ true → alleleIn i (b ∷ s) ≡ alleleIn j (b ∷ s)
+unfolding isMark alleleIn
+marked-same i j b s h = by (eqb b 124) (eqb b 47) h
+  where
+    by : (x y : Bool) → (x || y) ≡ true
+        → pick x (bodied true s) (pick y (bodied false s) (bodied i (b ∷ s))) ≡ pick x (bodied true s) (pick y (bodied false s) (bodied j (b ∷ s)))
+    by true y h = refl
+    by false true h = refl
+    by false false h = absurd (let z : _≡_ {A = ℕ} 0 1 = cc in omega arith)
+
+marked-all : (i j : Bool) (s : List ℕ) → map (alleleIn i) (markedPieces s) ≡ map (alleleIn j) (markedPieces s)
+unfolding markedPieces
+marked-all i j [] = refl
+marked-all i j (b ∷ s) = by (isMark b) refl (marked-all i j s)
+  where
+    by : (t : Bool) → isMark b ≡ t → map (alleleIn i) (markedPieces s) ≡ map (alleleIn j) (markedPieces s)
+        → map (alleleIn i) (pick t ((b ∷ headOf s) ∷ markedPieces s) (markedPieces s)) ≡ map (alleleIn j) (pick t ((b ∷ headOf s) ∷ markedPieces s) (markedPieces s))
+    by true m h = rw (h, marked-same i j b (headOf s) m)
+    by false m h = h
+
+-- ---- the bytes before the first mark
+
+pub head-le : (s : List ℕ) → length (headOf s) ≤ length s
+unfolding headOf
+head-le [] = zero-le
+head-le (b ∷ s) = by (isMark b) (head-le s)
+  where
+    by : (t : Bool) → length (headOf s) ≤ length s → length (pick t [] (b ∷ headOf s)) ≤ suc (length s)
+    by true h = zero-le
+    by false h = suc-le-suc h
+
+pub head-take : (s : List ℕ) → take (length (headOf s)) s ≡ headOf s
+unfolding headOf
+head-take [] = refl
+head-take (b ∷ s) = by (isMark b) (head-take s)
+  where
+    by : (t : Bool) → take (length (headOf s)) s ≡ headOf s → take (length (pick t [] (b ∷ headOf s))) (b ∷ s) ≡ pick t [] (b ∷ headOf s)
+    by true h = refl
+    by false h = ap (λ (l : List ℕ). b ∷ l) h
+
+-- ---- the first piece, and the others
+
+-- the pieces from the first mark on are those of the text from there on
+marked-pieces : (s : List ℕ) → markedPieces s ≡ piecesOf (drop (length (headOf s)) s)
+unfolding headOf markedPieces piecesOf
+marked-pieces [] = refl
+marked-pieces (b ∷ s) = by (isMark b) (marked-pieces s)
+  where
+    by : (t : Bool) → markedPieces s ≡ piecesOf (drop (length (headOf s)) s)
+        → pick t ((b ∷ headOf s) ∷ markedPieces s) (markedPieces s) ≡ piecesOf (drop (length (pick t [] (b ∷ headOf s))) (b ∷ s))
+    by true h = refl
+    by false h = h
+
+-- so the parts behind the first are those of the text behind it, whatever it implies itself
+parts-cons : (b : ℕ) (s : List ℕ) → partsOf (b ∷ s) ≡ alleleIn (impliedBy s) (b ∷ headOf s) ∷ partsOf (drop (length (headOf s)) s)
+unfolding partsOf piecesOf impliedOf
+parts-cons b s =
+    ap (λ (l : List (Option Allele)). alleleIn (impliedBy s) (b ∷ headOf s) ∷ l)
+    (marked-all (impliedBy s) (impliedOf (drop (length (headOf s)) s)) s ∙ ap (map (alleleIn (impliedOf (drop (length (headOf s)) s)))) (marked-pieces s))
+
+pub parts-none : partsOf [] ≡ []
+unfolding partsOf piecesOf
+parts-none = refl
+
+-- the same at a place of the text
+pub parts-at : (t : List ℕ) (at : ℕ) → at < length t
+    → partsOf (drop at t)
+    ≡ alleleIn (impliedBy (drop (at + 1) t)) (getD t at 0 ∷ headOf (drop (at + 1) t)) ∷ partsOf (drop (at + 1 + length (headOf (drop (at + 1) t))) t)
+parts-at t at h = rw (here t at h, ← drop-drop (length (headOf (drop (at + 1) t))) (at + 1) t) (parts-cons (getD t at 0) (drop (at + 1) t))
+
+pub parts-end : (t : List ℕ) (at : ℕ) → length t ≤ at → partsOf (drop at t) ≡ []
+parts-end t at h = rw (drop-of-length-le t {i = at} h) parts-none

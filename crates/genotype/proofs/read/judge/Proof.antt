@@ -1,0 +1,17 @@
+-- `genotype::read::judge` meets its contract: the whole text's answer, and then room. Assumes nothing.
+use borrow.Author.Needs.{needs}
+use Rattle.genotype.proofs.JudgeLaws.{laws}
+use Rattle.genotype.proofs.read.judge.Statement.{statement}
+use Rattle.genotype.proofs.read.judge.Tie as tie
+
+judge-whole-requires : tie.Need-judge-whole-requires
+judge-whole-requires c κs = search (needs, laws)
+
+fitted-requires : tie.Need-fitted-requires
+fitted-requires c κs = search (needs, laws)
+
+returns : tie.Need-returns
+returns c = search (needs, laws)
+
+pub judge-spec : {M : Type 1} → statement M
+judge-spec = tie.close (tie.spec judge-whole-requires fitted-requires returns)

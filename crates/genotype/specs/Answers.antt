@@ -1,0 +1,80 @@
+-- What the readers answer, and what they leave in the lent row (docs/RULES.md, "Genotypes"). Assumes nothing.
+use Prim.Native.Nat.{ℕ, _+_, _≤_}
+use mathlib.Core.Path.{_≡_}
+use mathlib.Core.Bool.{Bool, _&&_}
+use mathlib.Core.List.{List, [], _∷_}
+use mathlib.Core.Option.{Option, some, none}
+use lib.ListN.{length}
+use lib.Dec.{leb, ltb, eqb}
+use Rattle.text.specs.Pick.{pick}
+use Rattle.text.specs.Answer.{Answer, says, numberOf}
+use Rattle.text.specs.Over.{over}
+use Rattle.lists.specs.AlternateBases.{altCount}
+use Rattle.genotype.specs.Reading.{Reading, list, bad, empty, readingOf, listOf, numbersOf, missingOf, phasedOf}
+use Rattle.genotype.specs.Paper.{readPaper}
+use Rattle.genotype.specs.declared.allele.Allele.{Allele}
+use Rattle.genotype.specs.declared.read.Read.{Read}
+
+-- ---- judged whole
+
+-- so many alleles, 11, or 12 with the index of the first piece that is none
+unfoldable pub wholeAnswer : Reading → Answer
+wholeAnswer (list as′) = says 0 (length as′ ∷ [])
+wholeAnswer (bad k) = says 12 (k ∷ [])
+wholeAnswer empty = says 11 []
+
+-- ---- room last
+
+-- 17 where so many alleles are more than the row holds
+unfoldable pub fitAnswer : Answer → ℕ → Answer
+fitAnswer (says n []) room = says n []
+fitAnswer (says n (count ∷ vs)) room = pick (eqb n 0 && ltb room count) (says 17 []) (says n (count ∷ vs))
+
+unfoldable pub readAnswer : Reading → ℕ → Answer
+unfolding wholeAnswer
+readAnswer r room = fitAnswer (wholeAnswer r) room
+
+-- ---- checked against ALT
+
+-- the index of the first allele above the count, the first of these having index k
+unfoldable pub firstAbove : ℕ → ℕ → List Allele → Option ℕ
+firstAbove count k [] = none
+firstAbove count k (a ∷ as′) = pick (ltb count (a .number)) (some k) (firstAbove count (k + 1) as′)
+
+-- 20 after 12 and before 17
+unfoldable pub aboveAnswer : Option ℕ → Answer → Answer
+aboveAnswer (some k) a = says 20 (k ∷ [])
+aboveAnswer none a = a
+
+unfoldable pub checkedAnswer : ℕ → Reading → ℕ → Answer
+unfolding readAnswer
+checkedAnswer count r room = aboveAnswer (firstAbove count 0 (listOf r)) (readAnswer r room)
+
+-- ---- the row
+
+-- 16 first
+unfoldable pub rowAnswer : List ℕ → List ℕ → List ℕ → Answer → Answer
+rowAnswer n m p a = pick (eqb (length n) (length m) && eqb (length n) (length p)) a (says 16 [])
+
+-- only an answer that is done changes a slice
+unfoldable pub laid : Answer → List ℕ → List ℕ → List ℕ
+laid a vs l = pick (eqb (numberOf a) 0) (over vs l) l
+
+-- so many entries fit each
+pub record Room (k : ℕ) (n m p : List ℕ) : Type 0 where
+  pub numbers : k ≤ length n
+  pub missing : k ≤ length m
+  pub phased : k ≤ length p
+
+-- r is the answer a, and slices that held n, m and p are left with the list laid over them where it is done
+pub record Reads (a : Answer) (as′ : List Allele) (n m p : List ℕ) (r : Read) (n′ m′ p′ : List ℕ) : Type 0 where
+  pub answer : readPaper r ≡ a
+  pub numbers : n′ ≡ laid a (numbersOf as′) n
+  pub missing : m′ ≡ laid a (missingOf as′) m
+  pub phased : p′ ≡ laid a (phasedOf as′) p
+
+abbrev pub ReadsText : List ℕ → List ℕ → List ℕ → List ℕ → Read → List ℕ → List ℕ → List ℕ → Type 0
+ReadsText t n m p r n′ m′ p′ = Reads (rowAnswer n m p (readAnswer (readingOf t) (length n))) (listOf (readingOf t)) n m p r n′ m′ p′
+
+abbrev pub ReadsChecked : List ℕ → List ℕ → List ℕ → List ℕ → List ℕ → Read → List ℕ → List ℕ → List ℕ → Type 0
+ReadsChecked t alt n m p r n′ m′ p′ = Reads (rowAnswer n m p (checkedAnswer (altCount alt) (readingOf t) (length n))) (listOf (readingOf t)) n m p r n′ m′ p′

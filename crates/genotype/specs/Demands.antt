@@ -1,0 +1,50 @@
+-- What demand 3 asks of any genotype reader, as a function on lists (docs/RULES.md, "Genotypes"; docs/STATEMENTS.md). Assumes
+-- nothing.
+use Prim.Native.Nat.{ℕ, _≤_, _<_}
+use mathlib.Core.Path.{_≡_}
+use mathlib.Core.Logic.{_↔_}
+use mathlib.Core.List.{List, [], _∷_, _++_}
+use lib.ListN.{length, getD, drop}
+use lib.Dec.{eqb}
+use Rattle.text.specs.Pick.{pick}
+use Rattle.text.specs.Answer.{Answer, says, numberOf}
+use Rattle.genotype.specs.Reading.{readingOf, listOf}
+use Rattle.genotype.specs.Answers.{readAnswer}
+use Rattle.genotype.specs.Means.{Means}
+use Rattle.genotype.specs.declared.allele.Allele.{Allele}
+
+-- a reader is given a text and a row, and answers on paper and leaves a row
+pub record Outcome : Type 0 where
+  pub answer : Answer
+  pub row : List Allele
+
+abbrev pub Reader : Type 0
+Reader = List ℕ → List Allele → Outcome
+
+-- ours, over the definitions
+unfoldable pub reader : Reader
+reader t row =
+    record {
+      answer = readAnswer (readingOf t) (length row);
+      row = pick (eqb (numberOf (readAnswer (readingOf t) (length row))) 0) (listOf (readingOf t) ++ drop (length (listOf (readingOf t))) row) row;
+    }
+
+-- the answer 0 stands for this list and for no other, and the row holds it
+pub record Stands (t : List ℕ) (row : List Allele) (o : Outcome) : Type 0 where
+  pub list : List Allele
+  pub means : Means t list
+  pub only : (as′ : List Allele) → Means t as′ → as′ ≡ list
+  pub count : o .answer ≡ says 0 (length list ∷ [])
+  pub holds : o .row ≡ list ++ drop (length list) row
+
+-- for a row that every list meant fits: refused exactly when the text means none; otherwise one, which the row holds
+pub record ExactAt (t : List ℕ) (row : List Allele) (o : Outcome) : Type 0 where
+  pub refused : (numberOf (o .answer) ≡ 0 → ⊥) ↔ ((as′ : List Allele) → Means t as′ → ⊥)
+  pub one : numberOf (o .answer) ≡ 0 → Stands t row o
+
+unfoldable pub Exact : Reader → Type 0
+Exact read = (t : List ℕ) (row : List Allele) → ((as′ : List Allele) → Means t as′ → length as′ ≤ length row) → ExactAt t row (read t row)
+
+-- a refusal leaves the row as it was
+unfoldable pub Untouched : Reader → Type 0
+Untouched read = (t : List ℕ) (row : List Allele) → (numberOf (read t row .answer) ≡ 0 → ⊥) → read t row .row ≡ row

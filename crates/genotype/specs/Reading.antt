@@ -1,0 +1,126 @@
+-- What a genotype text reads as (docs/RULES.md, "Genotypes"): cut it, read each piece. Assumes nothing.
+use Prim.Native.Nat.{ℕ, _+_}
+use mathlib.Core.Path.{_≡_}
+use mathlib.Core.Bool.{Bool, true, false, _||_}
+use mathlib.Core.List.{List, [], _∷_, map}
+use mathlib.Core.Option.{Option, some, none}
+use lib.ListN.{length, drop}
+use lib.Dec.{ltb, eqb}
+use Rattle.text.specs.Pick.{pick}
+use Rattle.text.specs.Answer.{Answer, says}
+use Rattle.text.specs.Same.{same}
+use Rattle.decimal.specs.Decimal.{valueOf}
+use Rattle.pieces.specs.Pieces.{countOf}
+use Rattle.genotype.specs.declared.allele.Allele.{Allele}
+
+-- ---- the text, cut before each mark other than at its first byte
+
+-- `|` or `/`
+unfoldable pub isMark : ℕ → Bool
+isMark b = eqb b 124 || eqb b 47
+
+-- the bytes before the first mark
+unfoldable pub headOf : List ℕ → List ℕ
+headOf [] = []
+headOf (b ∷ s) = pick (isMark b) [] (b ∷ headOf s)
+
+-- the pieces from the first mark on
+unfoldable pub markedPieces : List ℕ → List (List ℕ)
+markedPieces [] = []
+markedPieces (b ∷ s) = pick (isMark b) ((b ∷ headOf s) ∷ markedPieces s) (markedPieces s)
+
+unfoldable pub piecesOf : List ℕ → List (List ℕ)
+piecesOf [] = []
+piecesOf (b ∷ s) = (b ∷ headOf s) ∷ markedPieces s
+
+-- ---- a piece
+
+unfoldable pub numbered : Bool → Option ℕ → Option Allele
+numbered phased (some n) = some (record { number = n; missing = false; phased = phased })
+numbered phased none = none
+
+-- without its mark: `.` is missing, else it is a decimal
+unfoldable pub bodied : Bool → List ℕ → Option Allele
+bodied phased t = pick (same t (46 ∷ [])) (some (record { number = 0; missing = true; phased = phased })) (numbered phased (valueOf t))
+
+-- `|` is phased, `/` unphased, and a piece with no mark is as implied
+unfoldable pub alleleIn : Bool → List ℕ → Option Allele
+alleleIn implied [] = none
+alleleIn implied (b ∷ s) = pick (eqb b 124) (bodied true s) (pick (eqb b 47) (bodied false s) (bodied implied (b ∷ s)))
+
+-- ---- the text
+
+-- what the text after the first byte implies: unphased where it has any `/`, else phased
+unfoldable pub impliedBy : List ℕ → Bool
+impliedBy s = eqb (countOf 47 s) 0
+
+unfoldable pub impliedOf : List ℕ → Bool
+impliedOf [] = true
+impliedOf (b ∷ s) = impliedBy s
+
+-- each piece as an allele, where it is one
+unfoldable pub partsOf : List ℕ → List (Option Allele)
+partsOf t = map (alleleIn (impliedOf t)) (piecesOf t)
+
+-- a list of alleles; or the index of the first piece that is none; or the text is empty
+pub data Reading : Type 0 where
+  list : List Allele → Reading
+  bad : ℕ → Reading
+  empty : Reading
+
+-- the piece with index k before what the others read as
+unfoldable pub with : Allele → Reading → Reading
+with a (list as′) = list (a ∷ as′)
+with a (bad k) = bad k
+with a empty = empty
+
+-- the pieces from index k on
+unfoldable pub gathered : ℕ → List (Option Allele) → Reading
+gathered k [] = list []
+gathered k (none ∷ ps) = bad k
+gathered k (some a ∷ ps) = with a (gathered (k + 1) ps)
+
+unfoldable pub readingOf : List ℕ → Reading
+readingOf [] = empty
+readingOf (b ∷ s) = gathered 0 (partsOf (b ∷ s))
+
+unfoldable pub listOf : Reading → List Allele
+listOf (list as′) = as′
+listOf (bad k) = []
+listOf empty = []
+
+-- the text reads as a list
+pub record ListMeant (t : List ℕ) : Type 0 where
+  pub is : readingOf t ≡ list (listOf (readingOf t))
+
+-- ---- a list as three lists of numbers
+
+abbrev pub mark : Bool → ℕ
+mark true = 1
+mark false = 0
+
+unfoldable pub numbersOf : List Allele → List ℕ
+numbersOf as′ = map (λ (a : Allele). a .number) as′
+
+unfoldable pub missingOf : List Allele → List ℕ
+missingOf as′ = map (λ (a : Allele). mark (a .missing)) as′
+
+unfoldable pub phasedOf : List Allele → List ℕ
+phasedOf as′ = map (λ (a : Allele). mark (a .phased)) as′
+
+-- ---- one step
+
+-- the next place, and the allele; or 12
+unfoldable pub alleleAnswer : ℕ → Option Allele → Answer
+alleleAnswer next (some a) = says 0 (next ∷ a .number ∷ mark (a .missing) ∷ mark (a .phased) ∷ [])
+alleleAnswer next none = says 12 []
+
+-- the first allele of a text that stands at the place `at`
+unfoldable pub firstAnswer : ℕ → List ℕ → Answer
+unfolding alleleAnswer
+firstAnswer at [] = says 10 []
+firstAnswer at (b ∷ s) = alleleAnswer (at + 1 + length (headOf s)) (alleleIn (impliedBy s) (b ∷ headOf s))
+
+-- 6 beyond the text, 10 at its end
+unfoldable pub stepAnswer : List ℕ → ℕ → Answer
+stepAnswer t at = pick (ltb (length t) at) (says 6 []) (firstAnswer at (drop at t))

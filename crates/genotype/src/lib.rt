@@ -1,0 +1,4 @@
+// Reading a genotype: a text of alleles, each a number or missing, with its phasing.
+pub mod allele;
+pub mod read;
+pub mod step;

@@ -1,0 +1,104 @@
+// The allele that stands at a place of a genotype text.
+use crate::allele::Allele;
+use decimal::read::Number;
+use decimal::read::read_decimal;
+use pieces::step;
+use pieces::step::piece_at;
+use text::same::same_bytes;
+ghost use mathlib.Core.Path.{_≡_};
+ghost use mathlib.Core.List.{_∷_};
+ghost use Prim.Native.Nat.{_+_, _≤_, _<_};
+ghost use lib.ListN.{length, drop};
+ghost use Rattle.genotype.specs.Reading.{headOf, impliedBy, bodied, alleleIn, stepAnswer, alleleAnswer};
+ghost use Rattle.genotype.specs.Paper.{stepPaper};
+
+// What a step from a place finds.
+pub enum Step {
+    // 0: an allele, and the place past it.
+    Found(Allele, usize),
+    // 6: the place lies beyond the text.
+    Beyond,
+    // 10: the place is the text's end.
+    Nothing,
+    // 12: what stands there is no allele.
+    Bad,
+}
+
+// The index of the first `|` or `/` at or after `from`, or the text's length.
+fn next_mark(text: &[u8], from: usize) -> usize
+    requires { ⌜ from ≤ length (now text) ⌝ }
+    ensures { λ r. ⌜ r ≡ from + length (headOf (drop from (now (text .entry)))) ⌝ }
+    ensures { λ r. ⌜ r ≤ length (now (text .entry)) ⌝ }
+{
+    let mut i = from;
+    while i < text.len() {
+        let b = text[i];
+        if b == b'|' {
+            return i;
+        }
+        if b == b'/' {
+            return i;
+        }
+        i += 1;
+    }
+    i
+}
+
+// The phasing that the marks from `from` on imply: unphased where any is `/`, not only the nearest.
+fn implied(text: &[u8], from: usize) -> bool
+    requires { ⌜ from ≤ length (now text) ⌝ }
+    ensures { λ r. ⌜ r ≡ impliedBy (drop from (now (text .entry))) ⌝ }
+{
+    match piece_at(text, b'/', from) {
+        step::Step::More(_, _) => false,
+        _ => true,
+    }
+}
+
+// A piece without its mark: `.` or a decimal.
+fn read_body(body: &[u8], phased: bool, next: usize) -> Step
+    ensures { λ r. ⌜ stepPaper r ≡ alleleAnswer next (bodied phased (now (body .entry))) ⌝ }
+{
+    if same_bytes(body, b".") {
+        return Step::Found(
+            Allele {
+                number: 0,
+                missing: true,
+                phased,
+            },
+            next,
+        );
+    }
+    match read_decimal(body) {
+        Number::Value(number) => Step::Found(
+            Allele {
+                number,
+                missing: false,
+                phased,
+            },
+            next,
+        ),
+        Number::Bad => Step::Bad,
+    }
+}
+
+// The allele that starts at the place `at`, as the first allele of the text from there on.
+pub fn step_at(text: &[u8], at: usize) -> Step
+    ensures { λ r. ⌜ stepPaper r ≡ stepAnswer (now (text .entry)) at ⌝ }
+{
+    if at > text.len() {
+        return Step::Beyond;
+    }
+    if at == text.len() {
+        return Step::Nothing;
+    }
+    let end = next_mark(text, at + 1);
+    let b = text[at];
+    if b == b'|' {
+        return read_body(&text[at + 1..end], true, end);
+    }
+    if b == b'/' {
+        return read_body(&text[at + 1..end], false, end);
+    }
+    read_body(&text[at..end], implied(text, at + 1), end)
+}

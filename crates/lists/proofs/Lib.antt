@@ -1,0 +1,2 @@
+pub mod AltLaws
+pub mod Determined

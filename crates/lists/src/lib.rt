@@ -1,0 +1,2 @@
+// The list columns: ALT.
+pub mod alternate_bases;

@@ -1,0 +1,15 @@
+pub mod SpellLaws
+pub mod TallyLaws
+pub mod PlanLaws
+pub mod PutLaws
+pub mod RowLaws
+pub mod LayLaws
+pub mod WriteLaws
+pub mod PaperLaws
+pub mod Determined
+pub mod PlainLaws
+pub mod PermittedLaws
+pub mod Shortest
+pub mod Exact
+pub mod RoundTrip
+pub mod Impostors

@@ -1,0 +1,8 @@
+pub mod Spelling
+pub mod Permitted
+pub mod Tally
+pub mod Row
+pub mod Put
+pub mod Paper
+pub mod Write
+pub mod Demands

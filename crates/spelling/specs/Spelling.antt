@@ -1,0 +1,66 @@
+-- How a list of alleles is spelled, or why it has no spelling (docs/RULES.md, "Genotypes"). Assumes nothing.
+use Prim.Native.Nat.{ℕ, _+_}
+use mathlib.Core.Bool.{Bool, true, false, not, _&&_, _||_, Bool·beq}
+use mathlib.Core.List.{List, [], _∷_, _++_}
+use mathlib.Core.Option.{Option, some, none}
+use lib.Dec.{leb, ltb, eqb}
+use Rattle.text.specs.Pick.{pick}
+use Rattle.decimal.specs.Shortest.{shortest}
+use Rattle.genotype.specs.Means.{allPhased}
+use Rattle.genotype.specs.declared.allele.Allele.{Allele}
+
+-- ---- the text
+
+-- `.`, or the number
+unfoldable pub bodyText : Allele → List ℕ
+bodyText a = pick (a .missing) (46 ∷ []) (shortest (a .number))
+
+abbrev pub markByte : Bool → ℕ
+markByte true = 124
+markByte false = 47
+
+-- with its mark, unless it is bare
+unfoldable pub alleleText : Bool → Allele → List ℕ
+alleleText true a = bodyText a
+alleleText false a = markByte (a .phased) ∷ bodyText a
+
+-- the first bare or not, each later one with its mark
+unfoldable pub listText : Bool → List Allele → List ℕ
+listText bare [] = []
+listText bare (a ∷ as′) = alleleText bare a ++ listText false as′
+
+-- ---- which lists have a spelling
+
+-- a missing allele's number is 0
+unfoldable pub isSound : Allele → Bool
+isSound a = not (a .missing) || eqb (a .number) 0
+
+-- the index of the first that is not, the first of these having index k
+unfoldable pub firstUnsound : ℕ → List Allele → Option ℕ
+firstUnsound k [] = none
+firstUnsound k (a ∷ as′) = pick (isSound a) (firstUnsound (k + 1) as′) (some k)
+
+-- a file format of 4.4 or later: major compared first, then minor
+unfoldable pub from44 : ℕ → ℕ → Bool
+from44 major minor = ltb 4 major || (eqb major 4 && leb 4 minor)
+
+-- the text; or the index of an allele that has none; or the first phasing can't be written; or the list is empty
+pub data Spelled : Type 0 where
+  text : List ℕ → Spelled
+  bad : ℕ → Spelled
+  phasing : Spelled
+  empty : Spelled
+
+-- bare where the first phasing is the implied one, else marked, from 4.4 on
+unfoldable pub shaped : Bool → Bool → List Allele → Spelled
+shaped true late as′ = text (listText true as′)
+shaped false true as′ = text (listText false as′)
+shaped false false as′ = phasing
+
+unfoldable pub judged : Option ℕ → Spelled → Spelled
+judged none s = s
+judged (some k) s = bad k
+
+unfoldable pub spell : Bool → List Allele → Spelled
+spell late [] = empty
+spell late (a ∷ as′) = judged (firstUnsound 0 (a ∷ as′)) (shaped (Bool·beq (a .phased) (allPhased as′)) late (a ∷ as′))

@@ -1,0 +1,55 @@
+-- What the writer answers, and what it leaves in the output (docs/RULES.md, "Genotypes"). Assumes nothing.
+use Prim.Native.Nat.{ℕ}
+use mathlib.Core.Path.{_≡_}
+use mathlib.Core.Bool.{Bool, _&&_}
+use mathlib.Core.List.{List, [], _∷_}
+use lib.ListN.{length, drop}
+use lib.Dec.{leb, eqb}
+use Rattle.text.specs.Pick.{pick}
+use Rattle.text.specs.Answer.{Answer, says, numberOf}
+use Rattle.text.specs.Over.{over, overAt, roomAnswer}
+use Rattle.genotype.specs.declared.allele.Allele.{Allele}
+use Rattle.spelling.specs.Spelling.{from44, Spelled, text, bad, phasing, empty, spell}
+use Rattle.spelling.specs.Row.{rowOf, Small}
+use Rattle.spelling.specs.Paper.{writePaper}
+use Rattle.spelling.specs.declared.write.Write.{Write}
+
+-- 11, 12 or 13 where there is no text, else by room
+unfoldable pub spelledAnswer : Spelled → List ℕ → Answer
+spelledAnswer (text t) l = roomAnswer t l
+spelledAnswer (bad k) l = says 12 (k ∷ [])
+spelledAnswer phasing l = says 13 []
+spelledAnswer empty l = says 11 []
+
+unfoldable pub textOf : Spelled → List ℕ
+textOf (text t) = t
+textOf (bad k) = []
+textOf phasing = []
+textOf empty = []
+
+-- ---- at the start of an output
+
+-- only an answer that is done changes it
+pub record WritesList (as′ : List Allele) (late : Bool) (l : List ℕ) (r : Write) (l′ : List ℕ) : Type 0 where
+  pub answer : writePaper r ≡ spelledAnswer (spell late as′) l
+  pub bytes : l′ ≡ pick (eqb (numberOf (spelledAnswer (spell late as′) l)) 0) (over (textOf (spell late as′)) l) l
+
+-- ---- from a place of an output
+
+-- 6 beyond it
+unfoldable pub listAnswer : List Allele → Bool → List ℕ → ℕ → Answer
+listAnswer as′ late out at = pick (leb at (length out)) (spelledAnswer (spell late as′) (drop at out)) (says 6 [])
+
+-- 6 first, then 16 where the slices' lengths differ
+unfoldable pub rowAnswer : List ℕ → List ℕ → List ℕ → Bool → List ℕ → ℕ → Answer
+rowAnswer n m p late out at =
+    pick (leb at (length out)) (pick (eqb (length n) (length m) && eqb (length n) (length p)) (spelledAnswer (spell late (rowOf n m p)) (drop at out)) (says 16 []))
+    (says 6 [])
+
+pub record WritesRow (n m p : List ℕ) (major minor : ℕ) (out : List ℕ) (at : ℕ) (r : Write) (out′ : List ℕ) : Type 0 where
+  pub answer : writePaper r ≡ rowAnswer n m p (from44 major minor) out at
+  pub bytes : out′ ≡ pick (eqb (numberOf (rowAnswer n m p (from44 major minor) out at)) 0) (overAt at (textOf (spell (from44 major minor) (rowOf n m p))) out) out
+
+-- the numbers of a list that is written have at most 64 bits: so what is written reads back with nothing asked of the caller
+pub record SmallWhereDone (n : List ℕ) (r : Write) : Type 0 where
+  pub small : numberOf (writePaper r) ≡ 0 → Small n
