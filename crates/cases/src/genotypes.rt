@@ -167,9 +167,9 @@ fn then_row(numbers: &[u64], missing: &[u8], phased: &[u8], out: &mut Buffer, at
 pub fn then_allele(number: u64, missing: u8, phased: u8, out: &mut Buffer, at: Place) -> Place {
     let next = then_number(out, at, number);
     let next = put_byte(out, next, b':');
-    let next = put_number(out, next, missing as u64);
+    let next = put_number(out, next, wide(missing));
     let next = put_byte(out, next, b':');
-    put_number(out, next, phased as u64)
+    put_number(out, next, wide(phased))
 }
 
 fn answer_unequal(case: &[u8], text: &mut Text, out: &mut Buffer, at: Place) -> Answer {
@@ -213,6 +213,10 @@ fn put_apart(
     then_marks(phased, out, next)
 }
 
+fn wide(b: u8) -> u64 {
+    b as u64
+}
+
 // A space and numbers joined by commas, or a space and `-` for none.
 fn then_numbers(numbers: &[u64], out: &mut Buffer, at: Place) -> Place {
     if numbers.len() == 0 {
@@ -232,11 +236,11 @@ fn then_marks(marks: &[u8], out: &mut Buffer, at: Place) -> Place {
     if marks.len() == 0 {
         return then_bytes(out, at, b"-");
     }
-    let mut next = then_number(out, at, marks[0] as u64);
+    let mut next = then_number(out, at, wide(marks[0]));
     let mut k = 1;
     while k < marks.len() {
         next = put_byte(out, next, b',');
-        next = put_number(out, next, marks[k] as u64);
+        next = put_number(out, next, wide(marks[k]));
         k += 1;
     }
     next

@@ -133,7 +133,7 @@ pub enum Asked {
     Bad,
 }
 
-pub fn asked(case: &[u8]) -> Asked {
+pub fn terms(case: &[u8]) -> Asked {
     let Number::Value(major) = number(case, 1, VERSION) else {
         return Asked::Bad;
     };
@@ -148,8 +148,8 @@ pub fn asked(case: &[u8]) -> Asked {
     };
     Asked::For(
         Format {
-            major: major as u32,
-            minor: minor as u32,
+            major: version(major),
+            minor: version(minor),
         },
         Room {
             size: size as usize,
@@ -158,31 +158,67 @@ pub fn asked(case: &[u8]) -> Asked {
     )
 }
 
+type Numbers = [u64; 64];
+
+type Marks = [u8; 64];
+
 // The largest number of a version.
 const VERSION: u64 = 4294967295;
 
+fn version(n: u64) -> u32 {
+    if n > VERSION { 0 } else { n as u32 }
+}
+
 // The largest mark of a slice.
 const MARK: u64 = 255;
+
+fn mark(n: u64) -> u8 {
+    if n > MARK { 0 } else { n as u8 }
+}
 
 fn answer_write(case: &[u8], arguments: usize, out: &mut Buffer, at: Place) -> Answer {
     if arguments < 5 {
         return Answer::NoCase;
     }
-    let Asked::For(format, room) = asked(case) else {
+    let Asked::For(format, room) = terms(case) else {
         return Answer::NoCase;
     };
     let mut numbers = [0u64; 64];
     let mut missing = [0u8; 64];
     let mut phased = [0u8; 64];
-    let Counted::Of(n) = list(case, arguments - 4, &mut numbers, &mut missing, &mut phased) else {
+    let rows = Rows {
+        words: arguments - 4,
+        format,
+        room,
+    };
+    answer_list(case, rows, &mut numbers, &mut missing, &mut phased, out, at)
+}
+
+// How many words list the alleles, and how they are to be written.
+struct Rows {
+    words: usize,
+    format: Format,
+    room: Room,
+}
+
+fn answer_list(
+    case: &[u8],
+    rows: Rows,
+    numbers: &mut Numbers,
+    missing: &mut Marks,
+    phased: &mut Marks,
+    out: &mut Buffer,
+    at: Place,
+) -> Answer {
+    let Counted::Of(n) = list(case, rows.words, numbers, missing, phased) else {
         return Answer::NoCase;
     };
     Answer::Given(write(
-        first_numbers(&numbers, n),
-        part(&missing, 0, n),
-        part(&phased, 0, n),
-        format,
-        room,
+        first_numbers(numbers, n),
+        part(missing, 0, n),
+        part(phased, 0, n),
+        rows.format,
+        rows.room,
         out,
         at,
     ))
@@ -194,7 +230,7 @@ pub enum Listed {
     Bad,
 }
 
-pub fn listed(s: &[u8], most: u64) -> Listed {
+pub fn allele_of(s: &[u8], most: u64) -> Listed {
     if count_byte(s, b':') != 2 {
         return Listed::Bad;
     }
@@ -214,9 +250,9 @@ pub fn listed(s: &[u8], most: u64) -> Listed {
 fn list(
     case: &[u8],
     words: usize,
-    numbers: &mut [u64; 64],
-    missing: &mut [u8; 64],
-    phased: &mut [u8; 64],
+    numbers: &mut Numbers,
+    missing: &mut Marks,
+    phased: &mut Marks,
 ) -> Counted {
     if words > 64 {
         return Counted::Bad;
@@ -226,12 +262,12 @@ fn list(
     }
     let mut k = 0;
     while k < words {
-        let Listed::Of(number, absent, joined) = listed(word(case, 5 + k), MARK) else {
+        let Listed::Of(number, absent, joined) = allele_of(word(case, 5 + k), MARK) else {
             return Counted::Bad;
         };
         numbers[k] = number;
-        missing[k] = absent as u8;
-        phased[k] = joined as u8;
+        missing[k] = mark(absent);
+        phased[k] = mark(joined);
         k += 1;
     }
     Counted::Of(words)

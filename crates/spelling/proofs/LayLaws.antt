@@ -69,7 +69,4 @@ module _ {n m p : List ℕ} {bare : Bool} {l₀ l : List ℕ} {at : ℕ} {lead :
     pub lay-bytes : l ≡ over (listText bare (rowOf n m p)) l₀
     lay-bytes = sym (overAt-nil at l) ∙ (rw lay-done at (g .same))
 
-pub lay-length-same : {n m p : List ℕ} {bare : Bool} {l₀ l : List ℕ} {at : ℕ} {lead : Bool} {k : ℕ} → Laying n m p bare l₀ l at lead k → length l ≡ length l₀
-lay-length-same g = g .len
-
-pub ruleset laws = (lay-first, lay-turn, lay-count, lay-bytes, lay-length-same)
+pub ruleset laws = (lay-first, lay-turn, lay-count, lay-bytes)

@@ -1,4 +1,5 @@
--- `spelling::write::tally_row` meets its contract: the tally so far, and the alleles still to come, give the tally of all of them. Assumes nothing.
+-- `spelling::write::tally_row` meets its contract: the tally so far, and the alleles still to come, give the tally of all of them; that a
+-- number has at most 64 bits is known of each element of the slice. Assumes nothing.
 use Prim.Native.Nat.{_-_}
 use native.Mathlib.Omega.{arith}
 use lib.ListN.{length}
