@@ -859,6 +859,284 @@ def samples(large, dice):
     yield from random_samples(large, dice)
 
 
+# ---- read, alleles, readalt, allelesalt and unequal
+
+MOST_ALLELES = 64
+# Genotypes of the VCF specification's examples and text: those of its records, and the forms that came with 4.4.
+GENOTYPES = (
+    b"0|0", b"1|0", b"1/1", b"0|1", b"0/0", b"1|2", b"2|1", b"2/2", b"0/1", b"0/2", b"0", b"1", b".", b"./.", b".|.",
+    b"./1", b"0|.", b"0/1/2", b"0|0|1", b"0/0/1/1", b"0|1|2|3", b"/0/1", b"|0|1", b"/0|1", b"|0/1", b"|0", b"/1", b"/.",
+    b"|.", b"0/1|2", b"0|1/2", b"|0/1|2", b"/0|1|2",
+)
+ALLELE_NUMBERS = (
+    0, 1, 9, 10, 255, 256, 2**31, 2**32, 2**63, TENTH, LARGEST - 1, LARGEST, LARGEST + 1, 10**20, 2**65, 10**30,
+)
+# ALT columns: empty, a dot, none to five commas, entries of other shapes, and bytes that are almost a comma.
+ALTS = (
+    b"", b".", b"A", b"A,C", b"G,GTCT,T", b"A,C,G,T", b"A,C,G,T,*", b"a,b,c,d,e,f", b",", b",,", b"<DEL>,*", b".,.",
+    b"A,", b",A", b"+-\xac\x0c", b"\xff,\xc3", "\u00e9,\u8a9e".encode(), b"A;C\tG",
+)
+
+
+def both_readers(row, text):
+    """The same text to a row of slices and to one of structs."""
+    yield ask("read", row, text)
+    yield ask("alleles", row, text)
+
+
+def allele_texts():
+    """Numbers at each limit with and without `+` and zeros before them, a dot, and what is none of these."""
+    for value in ALLELE_NUMBERS:
+        digits = b"%d" % value
+        for before in (b"", b"+", b"0", b"+0", b"0" * 30, b"-", b"++", b" "):
+            yield before + digits
+    for value in (b"0", b"1", b"."):
+        for byte in b"+-. ,:;0a\x00\t\n\r\x7f\xff":
+            yield value + bytes([byte])
+    yield from (b"", b"+", b"-", b"..", b"+.", b"a", b"*", b"-0", b"0x1", b"1e3", b"\xd9\xa1")
+    yield from (b"9" * 300, b"0" * 300 + b"1")
+
+
+def in_genotypes(body):
+    """An allele's text alone, first and last, after each mark and between good and bad ones."""
+    yield from (body, b"0|" + body, body + b"/0", b"/" + body, b"|" + body + b"|.", b".|" + body + b"/x", b"x/" + body)
+
+
+def rows_of_every_length(large):
+    """Rows from none to one more than needed; texts that are bad at one allele, for all of these rows."""
+    for count in (1, 2, 3, 4, 5, 10) if large else (1, 2, 4):
+        good = [b"%d" % number for number in range(count)]
+        for mark, row in itertools.product((b"|", b"/"), range(count + 2)):
+            for text in (mark.join(good), mark + mark.join(good)):
+                yield from both_readers(row, text)
+        for bad, row in itertools.product(range(count), (0, count - 1, count, count + 1)):
+            yield from both_readers(row, b"|".join(replaced(good, {bad: b"x"})))
+    for row in (0, 1, 2, MOST_ALLELES):
+        yield from both_readers(row, b"")
+
+
+def many_alleles(large):
+    """As many alleles as a row may hold, and more than that; each mark in the last place; a bad one about there."""
+    for count in (63, 64, 65, 100, 300) if large else (63, 64, 65, 100):
+        numbers = [b"%d" % number for number in range(count)]
+        for row in (0, 1, 62, 63, 64):
+            yield from both_readers(row, b"|".join(numbers))
+        yield from both_readers(64, b"|".join(numbers[:-1]) + b"/1")
+        yield from both_readers(64, b"/" + b"|".join(numbers))
+        yield from both_readers(64, b"/".join(numbers[:-1]) + b"|.")
+        yield from both_readers(64, b"|".join((*numbers[:-1], b"")))
+        yield from both_readers(0, b"/".join(replaced(numbers, {62: b"x"})))
+    yield from both_readers(64, b"|".join([b"%d" % LARGEST] * 64))
+
+
+def genotype_texts(large):
+    """Texts for both readers into a row that is always long enough, and one that is not always."""
+    for text in (*GENOTYPES, *short_texts(b"01.|/+", 5 if large else 4)):
+        yield from both_readers(3, text)
+        if large:
+            yield from both_readers(1, text)
+    for body in allele_texts():
+        for text in in_genotypes(body):
+            yield from both_readers(3, text)
+    for byte in range(256):
+        yield ask("read", 2, b"0" + bytes([byte]) + b"1")
+        if large:
+            yield ask("alleles", 2, b"0" + bytes([byte]) + b"1")
+            yield from both_readers(2, bytes([byte]) + b"1")
+            yield from both_readers(2, b"1|" + bytes([byte]))
+    yield from rows_of_every_length(large)
+    yield from many_alleles(large)
+
+
+def both_checked(row, text, alt):
+    yield ask("readalt", row, text, alt)
+    yield ask("allelesalt", row, text, alt)
+
+
+def with_alts(large):
+    """Numbers about the ALT count; those above it beside bad ones, and in rows too short."""
+    for alt in ALTS:
+        near = range(alt.count(b",") + 4)
+        for value in (*near, LARGEST, LARGEST + 1):
+            for text in (b"%d" % value, b"0/%d" % value, b"|+0%d|." % value):
+                yield from both_checked(2, text, alt)
+        for text in (b"", b".", b"./.", b"x", b"9|x", b"x|9", b"9|8", b"0|9|8", b"8|9|x", b"0|x|9", b"1|9"):
+            for row in (0, 1, 2, 3) if large or alt in (b"", b"A,C") else (2,):
+                yield from both_checked(row, text, alt)
+    for text in (*GENOTYPES, *short_texts(b"01.|/+", 4 if large else 2), *short_texts(b"129.|", 4 if large else 3)):
+        yield from both_checked(3, text, b"A")
+        if large:
+            yield from both_checked(1, text, b"A,C")
+    for count in (64, 65):
+        text = b"|".join(b"%d" % number for number in range(count))
+        for commas in (61, 62, 63, 64):
+            yield from both_checked(64, text, b"," * commas)
+            yield from both_checked(3, text, b"," * commas)
+
+
+def unequal_reads():
+    """Slices of every mixture of lengths, with a text of each answer; and about as long as may be."""
+    for text in (b"", b"0", b"0|1", b"x", b"0/1/2"):
+        for lengths in itertools.product(range(4), repeat=3):
+            yield ask("unequal", *lengths, text)
+    for lengths in itertools.product((63, 64), repeat=3):
+        yield ask("unequal", *lengths, b"/".join([b"."] * 64))
+    for lengths in ((0, 64, 64), (64, 0, 64), (64, 64, 0), (1, 1, 64)):
+        yield ask("unequal", *lengths, b"1")
+
+
+def random_allele(dice):
+    return dice.pick((b".", b"0", b"1", b"2", b"10", b"+1", b"007", b"%d" % LARGEST, b"%d" % dice.roll(10**9)))
+
+
+def random_genotypes(large, dice):
+    for _ in range(10_000 if large else 100):
+        first = random_allele(dice)
+        later = [dice.pick((b"|", b"|", b"/")) + random_allele(dice) for _ in range(dice.roll(6))]
+        good = dice.pick((b"", b"", b"/", b"|")) + first + b"".join(later)
+        for text in (good, damaged(dice, good), damaged(dice, good, b"|/.+0")):
+            yield from both_readers(len(later) + dice.roll(3), text)
+            yield from both_checked(len(later) + dice.roll(3), text, b"," * dice.roll(12))
+
+
+def genotypes(large, dice):
+    yield from genotype_texts(large)
+    yield from with_alts(large)
+    yield from unequal_reads()
+    yield from random_genotypes(large, dice)
+
+
+# ---- write, writealleles and writeunequal
+
+FORMAT_4_2, FORMAT_4_3, FORMAT_4_4 = (4, 2), (4, 3), (4, 4)
+FILE_FORMATS = (
+    FORMAT_4_2, FORMAT_4_3, FORMAT_4_4, (4, 5), (5, 0), (3, 9), (0, 0), (2**32 - 1, 0), (4, 10), (3, 2**32 - 1),
+    (4, 2**32 - 1),
+)
+
+
+def both_writers(file_format, room, at, alleles):
+    """The same list as slices and as structs."""
+    written = [":".join(map(str, allele)) for allele in alleles] or ["-"]
+    yield ask("write", *file_format, room, at, *written)
+    yield ask("writealleles", *file_format, room, at, *written)
+
+
+def most_needed(alleles):
+    """The room of the longest spelling."""
+    return sum(1 + len(str(value)) for value, _, _ in alleles)
+
+
+def phasings(large):
+    """Every phasing of up to four alleles (five at large), for each file format; with numbers and with missing ones."""
+    for count in range(6 if large else 5):
+        for phased in itertools.product((0, 1), repeat=count):
+            numbers = [(index + 1, 0, mark) for index, mark in enumerate(phased)]
+            mixed = [(0, 1, mark) if index % 2 else (index, 0, mark) for index, mark in enumerate(phased)]
+            for file_format in FILE_FORMATS:
+                yield from both_writers(file_format, 9, 1, numbers)
+            for file_format in FILE_FORMATS if large else (FORMAT_4_3, FORMAT_4_4):
+                yield from both_writers(file_format, 10, 0, mixed)
+
+
+def written_rooms():
+    """Rooms from none to more than needed at the start and further on, and places at the end and past it."""
+    lists = (
+        [(0, 0, 1)], [(0, 0, 0)], [(0, 1, 0), (1, 0, 1)], [(12, 0, 1), (345, 0, 0)], [(LARGEST, 0, 0), (0, 2, 1)],
+        [(1, 0, 0), (0, 1, 1), (10, 0, 1), (0, 0, 1)], [],
+    )
+    for alleles in lists:
+        need = most_needed(alleles)
+        for room in range(need + 2):
+            yield from both_writers(FORMAT_4_4, room, 0, alleles)
+            yield from both_writers(FORMAT_4_3, room + 2, 2, alleles)
+        for at in (*range(need + 4), LARGEST):
+            yield from both_writers(FORMAT_4_4, need + 2, at, alleles)
+    for at in FAR:
+        yield from both_writers(FORMAT_4_4, 0, at, [(0, 0, 1)])
+        yield from both_writers(FORMAT_4_4, 9, at, [(0, 0, 1)])
+
+
+def beside_missing():
+    """Missing marks beside numbers that are not 0: which is first, and before 13 and room but after the place."""
+    choices = ((0, 0), (1, 0), (0, 1), (1, 1), (LARGEST, 2))
+    for count in (1, 2, 3):
+        for chosen in itertools.product(choices, repeat=count):
+            alleles = [(value, missing, (index + count) % 2) for index, (value, missing) in enumerate(chosen)]
+            yield from both_writers(FORMAT_4_4, 24, 0, alleles)
+            if any(value and missing for value, missing in chosen) and count < 3:
+                for room, at in ((0, 0), (0, 1), (9, 9), (9, 10)):
+                    yield from both_writers(FORMAT_4_2, room, at, alleles)
+
+
+def other_marks():
+    """Marks that are neither 0 nor 1; as structs, those past a byte too."""
+    for missing, phased in itertools.product((0, 1, 2, 127, 128, 254, 255), repeat=2):
+        for value, file_format in ((0, FORMAT_4_4), (5, FORMAT_4_4), (0, FORMAT_4_3)):
+            yield from both_writers(file_format, 9, 0, [(value, missing, phased), (0, phased, missing)])
+    for mark, value in itertools.product((256, 512, 65_536, 2**32, 2**63, LARGEST), (0, 1)):
+        for allele in (f"{value}:{mark}:0", f"{value}:0:{mark}", f"{value}:{mark}:{mark}"):
+            yield ask("writealleles", 4, 4, 9, 0, allele)
+            yield ask("writealleles", 4, 3, 9, 0, allele, allele)
+            yield none(f"write 4 4 9 0 {allele}".encode())
+
+
+def written_numbers():
+    """Numbers about each power of ten and each limit, alone and after another."""
+    for value in numbers():
+        if value <= LARGEST:
+            yield from both_writers(FORMAT_4_4, 24, 0, [(value, 0, 1)])
+            yield from both_writers(FORMAT_4_3, 24, 1, [(0, 0, 0), (value, 0, 0)])
+
+
+def many_written():
+    """As many alleles as a case may have: short and long, filled, one byte short, marked first and not."""
+    shapes = ((1, 0, 0), (1, 0, 1), (1, 1, 0), (1, 1, 1), (LARGEST, 0, 1))
+    for count, (value, first, later) in itertools.product((63, 64), shapes):
+        alleles = [(value, 0, first), *[(value, 0, later)] * (count - 1)]
+        need = most_needed(alleles)
+        for room in (need - 2, need - 1, need):
+            yield from both_writers(FORMAT_4_4, room, 0, alleles)
+    for count in (63, 64):
+        alleles = [(0, 0, 1)] * (count - 1)
+        yield from both_writers(FORMAT_4_4, 200, 3, [*alleles, (0, 0, 0)])
+        yield from both_writers(FORMAT_4_3, 200, 3, [*alleles, (0, 0, 0)])
+        yield from both_writers(FORMAT_4_3, 200, 3, [*alleles, (1, 1, 0)])
+
+
+def unequal_writes():
+    """Slices of every mixture of lengths."""
+    for lengths in itertools.product(range(4), repeat=3):
+        for room in range(7) if len(set(lengths)) == 1 else (0, 3):
+            yield ask("writeunequal", *lengths, room)
+    for lengths in (*itertools.product((63, 64), repeat=3), (0, 64, 64), (64, 0, 64), (64, 64, 0)):
+        for room in (0, 126, 127, 128):
+            yield ask("writeunequal", *lengths, room)
+
+
+def random_lists(large, dice):
+    for _ in range(10_000 if large else 100):
+        alleles = []
+        for _ in range(1 + dice.roll(6)):
+            missing = dice.pick((0, 0, 0, 1, 255))
+            value = 0 if missing and dice.roll(8) else dice.roll(10 ** (1 + dice.roll(6)))
+            alleles.append((value, missing, dice.pick((0, 1, 1, 2))))
+        at = dice.roll(4)
+        file_format = dice.pick((*FILE_FORMATS, FORMAT_4_3, FORMAT_4_4, FORMAT_4_4))
+        yield from both_writers(file_format, at + max(0, most_needed(alleles) + dice.roll(5) - 3), at, alleles)
+
+
+def written_genotypes(large, dice):
+    yield from phasings(large)
+    yield from written_rooms()
+    yield from beside_missing()
+    yield from other_marks()
+    yield from written_numbers()
+    yield from many_written()
+    yield from unequal_writes()
+    yield from random_lists(large, dice)
+
+
 # ---- the form of a case
 
 NO_CASES = (
@@ -961,6 +1239,57 @@ NO_INFO_CASES = (
 )
 
 
+# The same of the verbs on genotypes.
+NO_GENOTYPE_CASES = (
+    # an unknown verb, an argument too few or too many, spaces
+    b"rea 2 30", b"reads 2 30", b"Read 2 30", b"read", b"read 2", b"read 30", b"read 2 30 30", b"read  2 30",
+    b"read 2  30", b"read 2 30 ", b" read 2 30", b"read 2 ", b"read 2 30\r", b"readalts 2 30 41", b"readal 2 30 41",
+    b"readalt", b"readalt 2 30", b"readalt 2 30 41 43", b"readalt 2 30 ", b"readalt 2  41", b"unequals 1 1 1 30",
+    b"unequal", b"unequal 1 1 30", b"unequal 1 1 1", b"unequal 1 1 1 1 30", b"unequal 1 1 1 30 30", b"allele 2 30",
+    b"alleless 2 30", b"alleles", b"alleles 2", b"alleles 2 30 41", b"allelesal 2 30 41", b"allelesalt",
+    b"allelesalt 2 30", b"allelesalt 2 30 41 43", b"writ 4 4 9 0 0:0:1", b"writes 4 4 9 0 0:0:1", b"write",
+    b"write 4 4 9 0", b"write 4 4 9 0 ", b"write 4 4 9 0:0:1", b"write 4 9 0 0:0:1", b"write 4.4 9 0 0:0:1",
+    b"write 4 4 9 0  0:0:1", b"write 4 4 9 0 0:0:1 ", b"write 4 4 9 0 0:0:1  0:0:1", b"write 4 4 9 0 0:0:1\r",
+    b"writeunequals 1 1 1 9", b"writeunequa 1 1 1 9", b"writeunequal", b"writeunequal 1 1 1", b"writeunequal 1 1 1 9 9",
+    b"writeunequal 1 1 1 9 -", b"writeallele 4 4 9 0 0:0:1", b"writealleless 4 4 9 0 0:0:1", b"writealleles",
+    b"writealleles 4 4 9 0", b"writealleles 4 4 9 0 ",
+    # hex that is odd, upper case or none
+    b"read 2 3", b"read 2 3A", b"read 2 0|1", b"read 2 --", b"read 2 0x30", b"readalt 2 3 41", b"readalt 2 30 4",
+    b"readalt 2 30 4A", b"readalt 2 30 A,C", b"unequal 1 1 1 3", b"unequal 1 1 1 3A", b"unequal 1 1 1 0",
+    b"alleles 2 3", b"alleles 2 3A", b"allelesalt 2 3 41", b"allelesalt 2 30 4", b"allelesalt 2 -- 41",
+    # a number that is empty, has a sign or a leading zero, passes its type, or is none
+    b"read 65 30", b"read 02 30", b"read 00 30", b"read +2 30", b"read - 30", b"read -1 30", b"read a 30",
+    b"read 2a 30", b"read 64.0 30", b"read 66 30", b"read 128 30", b"read 256 30", b"read 4294967296 30",
+    b"read 18446744073709551616 30", b"readalt 65 30 41", b"readalt 02 30 41", b"readalt - 30 41", b"alleles 65 30",
+    b"alleles 02 30", b"alleles 18446744073709551618 30", b"allelesalt 65 30 41", b"unequal 65 1 1 30",
+    b"unequal 1 65 1 30", b"unequal 1 1 65 30", b"unequal 65 65 65 30", b"unequal 01 1 1 30", b"unequal 1 01 1 30",
+    b"unequal 1 1 01 30", b"unequal - 1 1 30", b"unequal 1 - 1 30", b"unequal 1 1 - 30", b"unequal 1 1 +1 30",
+    b"write 4294967296 4 9 0 0:0:1", b"write 4 4294967296 9 0 0:0:1", b"write 04 4 9 0 0:0:1", b"write 4 04 9 0 0:0:1",
+    b"write +4 4 9 0 0:0:1", b"write - 4 9 0 0:0:1", b"write 4 - 9 0 0:0:1", b"write v4 4 9 0 0:0:1",
+    b"write 4 4 4097 0 0:0:1", b"write 4 4 09 0 0:0:1", b"write 4 4 - 0 0:0:1", b"write 4 4 9 - 0:0:1",
+    b"write 4 4 9 00 0:0:1", b"write 4 4 9 18446744073709551616 0:0:1", b"write 18446744073709551620 4 9 0 0:0:1",
+    b"writealleles 4294967296 4 9 0 0:0:1", b"writealleles 4 4294967296 9 0 0:0:1", b"writealleles 4 4 4097 0 0:0:1",
+    b"writealleles 4 4 9 01 0:0:1", b"writeunequal 01 1 1 9", b"writeunequal 1 01 1 9", b"writeunequal 1 1 01 9",
+    b"writeunequal - 1 1 9", b"writeunequal 1 1 1 4097", b"writeunequal 1 1 1 09", b"writeunequal 1 1 1 -",
+    # alleles
+    b"write 4 4 9 0 0", b"write 4 4 9 0 0:0", b"write 4 4 9 0 0:0:", b"write 4 4 9 0 :0:0", b"write 4 4 9 0 0::0",
+    b"write 4 4 9 0 ::", b"write 4 4 9 0 0:0:0:0", b"write 4 4 9 0 0:0:0:", b"write 4 4 9 0 0:0:256",
+    b"write 4 4 9 0 0:256:0", b"write 4 4 9 0 00:0:0", b"write 4 4 9 0 0:00:0", b"write 4 4 9 0 0:0:01",
+    b"write 4 4 9 0 +1:0:0", b"write 4 4 9 0 -1:0:0", b"write 4 4 9 0 -:0:0", b"write 4 4 9 0 .:1:0",
+    b"write 4 4 9 0 0:-:0", b"write 4 4 9 0 0:0:a", b"write 4 4 9 0 0,0,0", b"write 4 4 9 0 0:0:1,0:0:1",
+    b"write 4 4 9 0 18446744073709551616:0:0", b"write 4 4 9 0 0:18446744073709551616:0", b"write 4 4 9 0 - -",
+    b"write 4 4 9 0 - 0:0:1", b"write 4 4 9 0 0:0:1 -", b"write 4 4 9 0 --", b"write 4 4 9 0 0:0:1 0:0",
+    b"write 4 4 9 0 0:0:1 0:0:256", b"write 4 4 9 0 0:0:1 x", b"write 4 4 9 0 0:0:1\x00", b"writealleles 4 4 9 0 0:0",
+    b"writealleles 4 4 9 0 0:0:", b"writealleles 4 4 9 0 0:0:0:0", b"writealleles 4 4 9 0 0:0:00",
+    b"writealleles 4 4 9 0 0:+1:0", b"writealleles 4 4 9 0 0:true:0", b"writealleles 4 4 9 0 18446744073709551616:0:0",
+    b"writealleles 4 4 9 0 0:18446744073709551616:0", b"writealleles 4 4 9 0 0:0:18446744073709551616",
+    b"writealleles 4 4 9 0 - -", b"writealleles 4 4 9 0 0:0:1 -",
+    # one too many, the last of as many as may be none
+    b"write 4 4 200 0" + b" 0:0:1" * 65, b"writealleles 4 4 200 0" + b" 0:0:1" * 65,
+    b"write 4 4 200 0" + b" 0:0:1" * 63 + b" 0:0:x", b"write 4 4 200 0" + b" 0:0:1" * 1_000,
+)
+
+
 def spoilt(lines, large):
     """Good lines with one byte put in, in every place, that makes each of them none."""
     for line, byte in itertools.product(lines, b"\x00\t\r \x7f\x80\xffxG" if large else b"\x00 x"):
@@ -1056,15 +1385,29 @@ def long_info_lines(large):
         yield ask("subfield", b":" * 32_760, 32_761)
 
 
+def long_genotype_lines():
+    """The same of the verbs on genotypes, at large only."""
+    yield none(ask("read", 64, b"0" * 32_765)[0])
+    yield ask("read", 64, b"0" * 32_763 + b"1")
+    yield ask("read", 64, b"0/" + b"0" * 32_760 + b"x")
+    yield ask("read", 64, b"|1" * 16_382)
+    yield ask("alleles", 64, b"|" * 32_761)
+    yield ask("readalt", 64, b"9/32755", b"," * 32_754)
+    yield ask("allelesalt", 64, b"32750/32751", b"," * 32_749)
+    yield ask("unequal", 64, 64, 64, b"1|" * 16_379 + b"1")
+
+
 def form(large):
     """Lines that are none and long lines, each before a case with an answer of its own: a shift shows at once."""
     good = (b"utf8 41", b"print 5 70", b"space -", b"decimal 2b37") if large else (b"utf8 41", b"print 5 70")
     more = (b"field id 61 0", b"join 9 0 6162 1,2", *((b"line 6109 0", b"place 61 0 1", b"pos 31") if large else ()))
     steps = (b"info 61 0", b"key 61 61", *((b"scan 61", b"value 613d 61", b"sample 61 0") if large else ()))
+    calls = (b"read 2 30", b"write 4 4 2 0 0:0:1", *((b"readalt 2 30 41", b"unequal 1 1 1 30") if large else ()))
     lines = (
         *map(none, (*NO_CASES, *spoilt(good, large))), *long_lines(large),
         *map(none, (*NO_RECORD_CASES, *spoilt(more, large))), *long_record_lines(large),
         *map(none, (*NO_INFO_CASES, *spoilt(steps, large))), *long_info_lines(large),
+        *map(none, (*NO_GENOTYPE_CASES, *spoilt(calls, large))), *(long_genotype_lines() if large else ()),
     )
     for index, case in enumerate(lines):
         yield case
@@ -1078,7 +1421,7 @@ def cases(size):
     areas = (
         texts(large, Dice(1)), decimals(large, Dice(2)), prints(large, Dice(3)), lines(large, Dice(4)),
         fields(large, Dice(5)), places(large), positions(large, Dice(6)), joins(large, Dice(7)),
-        infos(large, Dice(8)), samples(large, Dice(9)),
+        infos(large, Dice(8)), samples(large, Dice(9)), genotypes(large, Dice(10)), written_genotypes(large, Dice(11)),
     )
     yield from dict.fromkeys(itertools.chain(*areas))
     yield from form(large)

@@ -13,9 +13,14 @@ LONGEST_LINE = 65_536
 LARGEST = 18_446_744_073_709_551_615
 LARGEST_ROOM = 4_096
 MOST_ENDS = 1_024
+MOST_ALLELES = 64
+LARGEST_VERSION = 4_294_967_295
+LARGEST_BYTE = 255
 
 DONE, AT_END, EMPTY, LINE_ENDS, CUT, NOT_UTF8, BEYOND, KEY_ENDS, NO_KEY, VALUE_ENDS, NONE_SUCH = range(11)
-BAD_NUMBER, BAD_ENDS, TOO_SHORT, BAD_COLUMN, BAD_COUNT, BAD_POS = 12, 16, 17, 18, 19, 21
+NO_ALLELES, BAD_NUMBER, NOT_IMPLIED, BAD_ENDS, TOO_SHORT, BAD_COLUMN, BAD_COUNT = 11, 12, 13, 16, 17, 18, 19
+ABOVE_ALT, BAD_POS = 20, 21
+UNEQUAL = BAD_ENDS
 
 FIELDS = (b"chrom", b"pos", b"id", b"ref", b"alt", b"qual", b"filter", b"info", b"format", b"samples")
 INFO, FORMAT, SAMPLES = 7, 8, 9
@@ -63,6 +68,41 @@ def list_ends(argument):
     if len(found) > MOST_ENDS:
         raise NoCase
     return found
+
+
+def row_length(argument):
+    """The length of a row, or of a slice."""
+    return number(argument, MOST_ALLELES)
+
+
+def version(argument):
+    """Either number of a file format."""
+    return number(argument, LARGEST_VERSION)
+
+
+def allele_list(arguments, largest_mark):
+    """Alleles, an argument of number, missing mark and phasing each; the one argument `-` for none."""
+    if arguments == [b"-"]:
+        return []
+    if not 1 <= len(arguments) <= MOST_ALLELES:
+        raise NoCase
+    return [allele(argument, largest_mark) for argument in arguments]
+
+
+def allele(argument, largest_mark):
+    parts = argument.split(b":")
+    if len(parts) != 3:
+        raise NoCase
+    value, missing, phased = parts
+    return number(value), number(missing, largest_mark), number(phased, largest_mark)
+
+
+def alleles_of_bytes(arguments):
+    return allele_list(arguments, LARGEST_BYTE)
+
+
+def alleles_of_structs(arguments):
+    return allele_list(arguments, LARGEST)
 
 
 # ---- the rules
@@ -257,6 +297,62 @@ def piece_places(text, separator):
     return found
 
 
+MARKS = (b"|", b"/")
+
+
+def genotype_pieces(text):
+    """The text cut before each `|` or `/` other than at byte 0."""
+    cuts = [at for at in range(1, len(text)) if text[at : at + 1] in MARKS]
+    return [text[start:end] for start, end in zip([0, *cuts], [*cuts, len(text)])]
+
+
+def implied(later_marks):
+    """The first phasing where its mark is absent."""
+    return b"/" if b"/" in later_marks else b"|"
+
+
+def read_genotype(text):
+    """The list that a text means, (number, missing, phased) each; or the numbers of a refusal."""
+    if not text:
+        return (NO_ALLELES,)
+    marks, bodies = [], []
+    for piece in genotype_pieces(text):
+        marked = piece[:1] in MARKS
+        marks.append(piece[:marked])
+        bodies.append(piece[marked:])
+    marks[0] = marks[0] or implied(marks[1:])
+    values = [0 if body == b"." else decimal_value(body) for body in bodies]
+    if None in values:
+        return BAD_NUMBER, values.index(None)
+    return [(value, int(body == b"."), int(mark == b"|")) for value, body, mark in zip(values, bodies, marks)]
+
+
+def checked_genotype(text, alt):
+    """The same, where no allele's number may be above the ALT count."""
+    made = read_genotype(text)
+    if isinstance(made, list):
+        above = [value > alt.count(b",") + 1 for value, _, _ in made]
+        if any(above):
+            return ABOVE_ALT, above.index(True)
+    return made
+
+
+def spelt_genotype(alleles, file_format):
+    """The shortest permitted spelling of a list; or the numbers of a refusal."""
+    if not alleles:
+        return (NO_ALLELES,)
+    bad = [missing != 0 and value != 0 for value, missing, _ in alleles]
+    if any(bad):
+        return BAD_NUMBER, bad.index(True)
+    marks = [b"|" if phased else b"/" for _, _, phased in alleles]
+    bodies = [b"." if missing else str(value).encode() for value, missing, _ in alleles]
+    if marks[0] == implied(marks[1:]):
+        marks[0] = b""
+    elif file_format < (4, 4):
+        return (NOT_IMPLIED,)
+    return b"".join(itertools.chain(*zip(marks, bodies)))
+
+
 # ---- answers
 
 
@@ -393,7 +489,65 @@ def subfield(text, index):
     return numbered(piece_places(text, b":"), index)
 
 
-# Each verb: what answers it, and the readers of its arguments.
+def laid_in_row(length, start, made):
+    """A reader's numbers and its whole row. What it made is alleles, or the numbers of a refusal."""
+    row = [start] * length
+    if isinstance(made, list):
+        if len(made) > length:
+            made = (TOO_SHORT,)
+        else:
+            row[: len(made)] = made
+            made = (DONE, len(made))
+    return made, row
+
+
+# What each place of a row starts as.
+ROW_START, STRUCTS_START = (7, 7, 7), (7, 1, 1)
+
+
+def row_words(made, row):
+    shown_row = [":".join(map(str, one)) for one in row]
+    return words(*made, *(shown_row or "-"))
+
+
+def slice_words(made, slices):
+    return words(*made, *(",".join(map(str, one)) or "-" for one in slices))
+
+
+def read(length, text):
+    return row_words(*laid_in_row(length, ROW_START, read_genotype(text)))
+
+
+def read_alt(length, text, alt):
+    return row_words(*laid_in_row(length, ROW_START, checked_genotype(text, alt)))
+
+
+def unequal(numbers, missing, phased, text):
+    if not numbers == missing == phased:
+        return slice_words((UNEQUAL,), ([7] * length for length in (numbers, missing, phased)))
+    made, row = laid_in_row(numbers, ROW_START, read_genotype(text))
+    return slice_words(made, zip(*row) if row else ((), (), ()))
+
+
+def alleles(length, text):
+    return row_words(*laid_in_row(length, STRUCTS_START, read_genotype(text)))
+
+
+def alleles_alt(length, text, alt):
+    return row_words(*laid_in_row(length, STRUCTS_START, checked_genotype(text, alt)))
+
+
+def write(major, minor, length, at, listed):
+    return laid_out(length, at, spelt_genotype(listed, (major, minor)))
+
+
+def write_unequal(numbers, missing, phased, length):
+    if not numbers == missing == phased:
+        return laid_out(length, 0, (UNEQUAL,))
+    return write(4, 4, length, 0, [(0, 0, 0)] * numbers)
+
+
+# Each verb: what answers it, and the readers of its arguments; last, where there is one, that of all further arguments.
 VERBS = {
     b"utf8": (utf8, (hexed,)),
     b"space": (space, (hexed,)),
@@ -414,6 +568,14 @@ VERBS = {
     b"sample": (sample, (hexed, number)),
     b"key": (key_index, (hexed, hexed)),
     b"subfield": (subfield, (hexed, number)),
+    b"read": (read, (row_length, hexed)),
+    b"readalt": (read_alt, (row_length, hexed, hexed)),
+    b"unequal": (unequal, (row_length, row_length, row_length, hexed)),
+    b"alleles": (alleles, (row_length, hexed)),
+    b"allelesalt": (alleles_alt, (row_length, hexed, hexed)),
+    b"write": (write, (version, version, room, number), alleles_of_bytes),
+    b"writeunequal": (write_unequal, (row_length, row_length, row_length, room)),
+    b"writealleles": (write, (version, version, room, number), alleles_of_structs),
 }
 
 
@@ -422,11 +584,13 @@ def answer(line):
     verb, *arguments = line.split(b" ")
     if len(line) > LONGEST_LINE or verb not in VERBS:
         return "?"
-    act, readers = VERBS[verb]
-    if len(arguments) != len(readers):
+    act, readers, *further = VERBS[verb]
+    first, rest = arguments[: len(readers)], arguments[len(readers) :]
+    if len(first) < len(readers) or (rest and not further):
         return "?"
     try:
-        return act(*(read(argument) for read, argument in zip(readers, arguments)))
+        values = [reader(argument) for reader, argument in zip(readers, first)]
+        return act(*values, *(reader(rest) for reader in further))
     except NoCase:
         return "?"
 
