@@ -5,6 +5,7 @@ pub mod JudgeLaws
 pub mod Ahead
 pub mod FillLaws
 pub mod AboveLaws
+pub mod RowLaws
 pub mod ReadLaws
 pub mod Determined
 pub mod PhasedLaws

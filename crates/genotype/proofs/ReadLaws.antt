@@ -1,7 +1,7 @@
 -- The readers: 16 first, then what the judge answers; only where that is done are the slices filled, and then they hold the list. Assumes nothing.
 use Prim.Native.Nat.{ℕ, _≤_}
 use mathlib.Core.Path.{_≡_, refl, sym, _∙_}
-use mathlib.Core.Bool.{Bool, true, false, and-false}
+use mathlib.Core.Bool.{Bool, true, false}
 use mathlib.Core.List.{List, [], _∷_}
 use mathlib.Core.Option.{Option, some, none}
 use native.Mathlib.Omega.{arith}
@@ -9,7 +9,7 @@ use types.Run.{OneOf}
 use denote.Enum.Declared.{tagOf}
 use lib.ListN.{length}
 use lib.Dec.{ltb}
-use borrow.Author.Tests.{eq-eqb, ne-eqb, ltb-false}
+use borrow.Author.Tests.{ne-eqb, ltb-false}
 use Rattle.text.specs.Pick.{pick}
 use Rattle.text.specs.Answer.{Answer, says, numberOf}
 use Rattle.text.specs.Over.{over}
@@ -21,6 +21,7 @@ use Rattle.genotype.specs.declared.read.Read.{Read}
 use Rattle.genotype.specs.declared.read.Read.the-variants as R
 use Rattle.genotype.proofs.read.Read as D
 use Rattle.genotype.proofs.JudgeLaws.{other-number}
+use Rattle.genotype.proofs.RowLaws.{row-even, row-uneven-nm, row-uneven-np}
 
 -- ---- what is left in a slice
 
@@ -36,17 +37,16 @@ laid-done k vs l = refl
 
 module _ (a : Answer) (as′ : List Allele) (n m p : List ℕ) where
   pub lengths-nm : (length n ≡ length m → ⊥) → Reads (rowAnswer n m p a) as′ n m p R.Lengths n m p
-  unfolding rowAnswer readPaper laid
-  lengths-nm h = rw (ne-eqb _ _ h) (record { answer = refl; numbers = refl; missing = refl; phased = refl })
+  unfolding readPaper laid
+  lengths-nm h = rw (row-uneven-nm n m p a h) (record { answer = refl; numbers = refl; missing = refl; phased = refl })
 
   pub lengths-np : (length n ≡ length p → ⊥) → Reads (rowAnswer n m p a) as′ n m p R.Lengths n m p
-  unfolding rowAnswer readPaper laid
-  lengths-np h = rw (ne-eqb _ _ h, and-false) (record { answer = refl; numbers = refl; missing = refl; phased = refl })
+  unfolding readPaper laid
+  lengths-np h = rw (row-uneven-np n m p a h) (record { answer = refl; numbers = refl; missing = refl; phased = refl })
 
   module _ (e : length n ≡ length m) (f : length n ≡ length p) (x : Read) (h : readPaper x ≡ a) where
     row : rowAnswer n m p a ≡ readPaper x
-    unfolding rowAnswer
-    row = rw (eq-eqb _ _ e, eq-eqb _ _ f) (sym h)
+    row = row-even n m p a e f ∙ sym h
 
     pub row-other : OneOf (1 ∷ 2 ∷ 3 ∷ 4 ∷ 5 ∷ []) (tagOf D.the-type x) → Reads (rowAnswer n m p a) as′ n m p x n m p
     row-other o = rw row (record { answer = refl; numbers = laid-other x _ n o; missing = laid-other x _ m o; phased = laid-other x _ p o })

@@ -1,19 +1,21 @@
 -- Writing a list: each plan's answer and bytes, at the start of an output and from a place on. Assumes nothing.
 use Prim.Native.Nat.{ℕ, _-_, _≤_, _<_}
 use mathlib.Core.Path.{_≡_, refl, sym, _∙_}
-use mathlib.Core.Bool.{Bool, true, false, _&&_}
-use mathlib.Core.List.{List}
+use mathlib.Core.Bool.{Bool, true, false}
+use mathlib.Core.List.{List, []}
 use native.Mathlib.Omega.{arith}
 use lib.ListN.{length, take, drop}
 use lib.Dec.{eqb}
-use borrow.Author.Tests.{le-leb, lt-leb, eq-eqb, ne-eqb}
+use borrow.Author.Tests.{le-leb, lt-leb}
 use borrow.Rule.Slice.PartMut.{putMid}
 use Rattle.text.specs.Pick.{pick}
-use Rattle.text.specs.Answer.{numberOf}
+use Rattle.text.specs.Answer.{Answer, says, numberOf}
 use Rattle.text.specs.Over.{over, overAt}
 use Rattle.text.proofs.CopyLaws.{room-fits, room-lacks}
 use Rattle.text.proofs.Lists.{rest-all, rest-put, rest-back}
+use Rattle.genotype.specs.Answers as G
 use Rattle.genotype.specs.declared.allele.Allele.{Allele}
+use Rattle.genotype.proofs.RowLaws.{row-even, row-uneven-nm, row-uneven-np}
 use Rattle.spelling.specs.Spelling.{listText, from44, Spelled, bad, phasing, empty, spell}
 use Rattle.spelling.specs.Tally.{tallyOf, planOf}
 use Rattle.spelling.specs.Row.{Parallel, rowOf, Small}
@@ -100,15 +102,15 @@ module _ (n m p : List ℕ) (major minor : ℕ) (out : List ℕ) (at : ℕ) wher
 
   module _ (h : at ≤ length out) where
     -- the slices' lengths differ
-    differ : (eqb (length n) (length m) && eqb (length n) (length p)) ≡ false → WritesRow n m p major minor out at W.Lengths out
+    differ : ((a : Answer) → G.rowAnswer n m p a ≡ says 16 []) → WritesRow n m p major minor out at W.Lengths out
     unfolding writePaper rowAnswer
-    differ e = record { answer = rw (le-leb _ _ h, e); bytes = rw (le-leb _ _ h, e) }
+    differ e = record { answer = rw (le-leb _ _ h, e _); bytes = rw (le-leb _ _ h, e _) }
 
     pub write-differ : (length n ≡ length m → ⊥) → WritesRow n m p major minor out at W.Lengths out
-    write-differ e = differ (rw (ne-eqb _ _ e))
+    write-differ e = differ (λ a. row-uneven-nm n m p a e)
 
-    pub write-differ-2 : length n ≡ length m → (length n ≡ length p → ⊥) → WritesRow n m p major minor out at W.Lengths out
-    write-differ-2 e f = differ (rw (eq-eqb _ _ e, ne-eqb _ _ f))
+    pub write-differ-2 : (length n ≡ length p → ⊥) → WritesRow n m p major minor out at W.Lengths out
+    write-differ-2 e = differ (λ a. row-uneven-np n m p a e)
 
     module _ (e : length n ≡ length m) (f : length n ≡ length p) {r : Write} {ys : List ℕ}
         (w : WritesList (rowOf n m p) (from44 major minor) (take (length out - at) (drop at out)) r ys) where
@@ -120,7 +122,7 @@ module _ (n m p : List ℕ) (major minor : ℕ) (out : List ℕ) (at : ℕ) wher
 
       row-answer : rowAnswer n m p (from44 major minor) out at ≡ spelledAnswer spelling rest
       unfolding rowAnswer spelling rest
-      row-answer = rw (le-leb _ _ h, eq-eqb _ _ e, eq-eqb _ _ f, rest-all out at)
+      row-answer = rw (le-leb _ _ h, row-even n m p _ e f, rest-all out at)
 
       row-bytes : (b : Bool) (vs : List ℕ) → ys ≡ pick b (over vs rest) rest → putMid at (length out - at) out ys ≡ pick b (overAt at vs out) out
       unfolding rest
