@@ -7,6 +7,8 @@ pub mod FillLaws
 pub mod AboveLaws
 pub mod RowLaws
 pub mod ReadLaws
+pub mod ColumnLaws
+pub mod ListLaws
 pub mod Determined
 pub mod PhasedLaws
 pub mod CutLaws

@@ -1,14 +1,14 @@
 -- The writer writes the one shortest permitted spelling, refuses exactly where there is none, and then leaves the output as it was:
 -- an answer that is done has a text that fits. Assumes nothing.
 use Prim.Native.Nat.{ℕ, _+_, _≤_, _<_}
-use mathlib.Core.Path.{_≡_, refl, ap}
+use mathlib.Core.Path.{_≡_, refl, ap, _∙_}
 use mathlib.Core.Bool.{Bool, true, false}
 use mathlib.Core.List.{List, [], _∷_}
 use native.Mathlib.Omega.{arith}
 use native.Mathlib.Decide.{decLt}
 use lib.ListN.{length, drop, length-drop}
 use lib.Dec.{leb}
-use borrow.Author.Tests.{le-leb, leb-true, eq-eqb, ne-eqb}
+use borrow.Author.Tests.{leb-true, eq-eqb, ne-eqb}
 use Rattle.text.specs.Pick.{pick}
 use Rattle.text.specs.Answer.{says, numberOf}
 use Rattle.text.proofs.CopyLaws.{room-fits, room-lacks}
@@ -17,6 +17,7 @@ use Rattle.spelling.specs.Spelling.{from44, Spelled, text, bad, phasing,
 use Rattle.spelling.specs.Permitted.{Permitted}
 use Rattle.spelling.specs.Write.{spelledAnswer, listAnswer, textOf}
 use Rattle.spelling.specs.Demands.{writer, Exact, WritesShortest, Untouched}
+use Rattle.spelling.proofs.WriteLaws.{list-inside}
 use Rattle.spelling.proofs.Shortest.{spelled-shortest, every-spelling}
 
 -- ---- an answer that is done, and the text of it
@@ -57,11 +58,10 @@ module _ (late : Bool) (as′ : List Allele) (out : List ℕ) (at : ℕ) where
       by false h e = absurd (omega arith)
 
   done-answer : (t : List ℕ) → spell late as′ ≡ text t → at + length t ≤ length out → listAnswer as′ late out at ≡ says 0 (length t ∷ [])
-  unfolding listAnswer spelledAnswer
+  unfolding spelledAnswer
   done-answer t e f =
-      let w : at ≤ length out = omega arith in
       let k = length-drop at out in
-      rw (le-leb at (length out) w, e) (room-fits t (drop at out) (omega arith))
+      list-inside as′ late out at (omega arith) ∙ rw e (room-fits t (drop at out) (omega arith))
 
 -- ---- the demands
 

@@ -5,7 +5,7 @@ use mathlib.Core.Bool.{Bool, true, false}
 use mathlib.Core.List.{List, []}
 use native.Mathlib.Omega.{arith}
 use lib.ListN.{length, take, drop}
-use lib.Dec.{eqb}
+use lib.Dec.{leb, eqb}
 use borrow.Author.Tests.{le-leb, lt-leb}
 use borrow.Rule.Slice.PartMut.{putMid}
 use Rattle.text.specs.Pick.{pick}
@@ -15,12 +15,12 @@ use Rattle.text.proofs.CopyLaws.{room-fits, room-lacks}
 use Rattle.text.proofs.Lists.{rest-all, rest-put, rest-back}
 use Rattle.genotype.specs.Answers as G
 use Rattle.genotype.specs.declared.allele.Allele.{Allele}
-use Rattle.genotype.proofs.RowLaws.{row-even, row-uneven-nm, row-uneven-np}
+use Rattle.genotype.proofs.RowLaws.{row-even, row-uneven-nm, row-uneven-np, row-done-nm, row-done-np}
 use Rattle.spelling.specs.Spelling.{listText, from44, Spelled, bad, phasing, empty, spell}
 use Rattle.spelling.specs.Tally.{tallyOf, planOf}
 use Rattle.spelling.specs.Row.{Parallel, rowOf, Small}
 use Rattle.spelling.specs.Paper.{writePaper}
-use Rattle.spelling.specs.Write.{spelledAnswer, textOf, WritesList, rowAnswer, WritesRow, SmallWhereDone}
+use Rattle.spelling.specs.Write.{spelledAnswer, textOf, WritesList, listAnswer, rowAnswer, WritesRow, SmallWhereDone}
 use Rattle.spelling.specs.declared.tally.Tally.{Tally}
 use Rattle.spelling.specs.declared.tally.Plan.{Plan}
 use Rattle.spelling.specs.declared.tally.Plan.the-variants as P
@@ -95,6 +95,26 @@ module _ {n m p : List ℕ} (late : Bool) (l : List ℕ) {t : Tally} {x : Plan} 
 
 -- ---- from a place on
 
+pub list-inside : (as′ : List Allele) (late : Bool) (out : List ℕ) (at : ℕ) → at ≤ length out
+    → listAnswer as′ late out at ≡ spelledAnswer (spell late as′) (drop at out)
+unfolding listAnswer
+list-inside as′ late out at h = rw (le-leb _ _ h)
+
+module _ (n m p : List ℕ) (late : Bool) (out : List ℕ) (at : ℕ) where
+  -- slices of one length are answered as their list is
+  pub row-list : length n ≡ length m → length n ≡ length p → rowAnswer n m p late out at ≡ listAnswer (rowOf n m p) late out at
+  unfolding rowAnswer listAnswer
+  row-list e f = rw (row-even n m p _ e f)
+
+  -- and only those are answered 0
+  pub row-parallel : numberOf (rowAnswer n m p late out at) ≡ 0 → Parallel n m p
+  unfolding rowAnswer
+  row-parallel z = by (leb at (length out)) z
+    where
+      by : (b : Bool) → numberOf (pick b (G.rowAnswer n m p (spelledAnswer (spell late (rowOf n m p)) (drop at out))) (says 6 [])) ≡ 0 → Parallel n m p
+      by true z = record { missing = row-done-nm n m p _ z; phased = row-done-np n m p _ z }
+      by false z = absurd (omega arith)
+
 module _ (n m p : List ℕ) (major minor : ℕ) (out : List ℕ) (at : ℕ) where
   pub write-beyond : length out < at → WritesRow n m p major minor out at W.Beyond out
   unfolding writePaper rowAnswer
@@ -121,8 +141,8 @@ module _ (n m p : List ℕ) (major minor : ℕ) (out : List ℕ) (at : ℕ) wher
       rest = take (length out - at) (drop at out)
 
       row-answer : rowAnswer n m p (from44 major minor) out at ≡ spelledAnswer spelling rest
-      unfolding rowAnswer spelling rest
-      row-answer = rw (le-leb _ _ h, row-even n m p _ e f, rest-all out at)
+      unfolding spelling rest
+      row-answer = rw (row-list n m p (from44 major minor) out at e f, rest-all out at) (list-inside (rowOf n m p) (from44 major minor) out at h)
 
       row-bytes : (b : Bool) (vs : List ℕ) → ys ≡ pick b (over vs rest) rest → putMid at (length out - at) out ys ≡ pick b (overAt at vs out) out
       unfolding rest
