@@ -1,5 +1,5 @@
 -- Filling the slices: what is left to store lies over what stands, in each of the three. Assumes nothing.
-use Prim.Native.Nat.{ℕ, _+_, _-_, _≤_, _<_}
+use Prim.Native.Nat.{ℕ, _+_, _≤_, _<_}
 use mathlib.Core.Path.{_≡_, refl, ap, _∙_}
 use mathlib.Core.List.{List, [], _∷_, map}
 use native.Mathlib.Omega.{arith}
@@ -17,7 +17,7 @@ use Rattle.genotype.specs.declared.allele.Allele.{Allele}
 use Rattle.genotype.specs.declared.step.Step.{Step}
 use Rattle.genotype.specs.declared.step.Step.the-variants as S
 use Rattle.genotype.proofs.step.Step as T
-use Rattle.genotype.proofs.StepLaws.{Further, step-means}
+use Rattle.genotype.proofs.StepLaws.{found-less}
 use Rattle.genotype.proofs.Ahead.{leftOf, Ahead, ahead-first, left-first, ahead-turn, left-turn, left-end}
 
 -- ---- one slice
@@ -71,11 +71,8 @@ fill-first {t} h r =
 
 module _ (t n₀ m₀ p₀ n m p : List ℕ) (at k : ℕ) (x : Step) (g : Filling t n₀ m₀ p₀ n m p at k) (e : stepPaper x ≡ stepAnswer t at) where
   module _ (a : Allele) (next : ℕ) (q : x ≡ S.Found a next) where
-    further : Further t at a next
-    further = step-means t at (S.Found a next) (rw q at e)
-
     left : leftOf t at k ≡ a ∷ leftOf t next (k + 1)
-    left = left-turn (g .ahead) further
+    left = left-turn (g .ahead) e q
 
     fill-count : k + 1 + length (leftOf t next (k + 1)) ≡ length (listOf (readingOf t))
     fill-count = let l = ap length left in let c = g .count in omega arith
@@ -92,14 +89,11 @@ module _ (t n₀ m₀ p₀ n m p : List ℕ) (at k : ℕ) (x : Step) (g : Fillin
     pub fill-p : k < length p
     fill-p = let b = fill-below in omega arith
 
-    pub fill-less : length t - next < length t - at
-    fill-less = let f = further in omega arith
-
     pub fill-turn : {v u : ℕ} → v ≡ mark (a .missing) → u ≡ mark (a .phased) → Filling t n₀ m₀ p₀ (set n k (a .number)) (set m k v) (set p k u) next (k + 1)
     fill-turn b c =
         rw (b, c)
         (record {
-          ahead = ahead-turn (g .ahead) further;
+          ahead = ahead-turn (g .ahead) e q;
           count = fill-count;
           room = g .room;
           numbers = column-turn (rw left at (g .numbers));
@@ -123,4 +117,4 @@ module _ (t n₀ m₀ p₀ n m p : List ℕ) (at k : ℕ) (x : Step) (g : Fillin
     unfolding phasedOf
     fill-past-p = column-past (rw none-left at (g .phases)) (g .room .phased)
 
-pub ruleset laws = (fill-first, fill-n, fill-m, fill-p, fill-less, fill-turn, fill-past-n, fill-past-m, fill-past-p)
+pub ruleset laws = (fill-first, fill-n, fill-m, fill-p, found-less, fill-turn, fill-past-n, fill-past-m, fill-past-p)

@@ -22,12 +22,12 @@ use Rattle.decimal.proofs.Shortest.{shortest-one}
 use Rattle.decimal.proofs.Value.{value-decimal, decimal-value}
 use Rattle.pieces.specs.Pieces.{countOf}
 use Rattle.pieces.proofs.CountLaws.{count-none, count-here, count-other}
-use Rattle.genotype.specs.Reading.{isMark, headOf, markedPieces, piecesOf, numbered, bodied, alleleIn, impliedBy, impliedOf, partsOf, Reading, list, bad, empty, with, gathered, readingOf}
+use Rattle.genotype.specs.Reading.{isMark, headOf, markedPieces, numbered, bodied, alleleIn, impliedBy, partsOf, list, with, gathered, readingOf, listOf}
 use Rattle.genotype.specs.Means.{Mark, bar, slash, Body, dot, number, Later, allPhased, Means, marked}
 use Rattle.genotype.specs.Means as M
 use Rattle.genotype.specs.declared.allele.Allele.{Allele}
 use Rattle.genotype.proofs.PieceLaws.{mark-bar, mark-slash, mark-none, in-bar, in-slash, in-plain, head-none, head-mark, head-more, parts-first}
-use Rattle.genotype.proofs.JudgeLaws.{reading-some, reading-none}
+use Rattle.genotype.proofs.JudgeLaws.{reading-some, reading-none, with-list, with-cons}
 use Rattle.genotype.proofs.PhasedLaws.{phased-none, phased-more}
 use Rattle.genotype.proofs.CutLaws as C
 use Rattle.genotype.proofs.CutLaws.{Quiet, no-bar, no-slash, head-quiet, pieces-quiet, count-quiet, quiet-head}
@@ -165,15 +165,13 @@ some-gathered k [] = refl
 some-gathered k (a ∷ as′) = rw (some-gathered (k + 1) as′)
 
 gathered-some : (k : ℕ) (ps : List (Option Allele)) (as′ : List Allele) → gathered k ps ≡ list as′ → ps ≡ map some as′
-unfolding gathered with
+unfolding gathered listOf
 gathered-some k [] as′ e = let q : [] ≡ as′ = cc in rw (← q)
 gathered-some k (none ∷ ps) as′ e = let z : _≡_ {A = ℕ} 0 1 = cc in absurd (omega arith)
-gathered-some k (some a ∷ ps) as′ e = by (gathered (k + 1) ps) (gathered-some (k + 1) ps) e
-  where
-    by : (r : Reading) → ((bs : List Allele) → r ≡ list bs → ps ≡ map some bs) → with a r ≡ list as′ → some a ∷ ps ≡ map some as′
-    by (list bs) ih e = let q : a ∷ bs ≡ as′ = cc in rw (← q, ih bs refl)
-    by (bad k) ih e = let z : _≡_ {A = ℕ} 0 1 = cc in absurd (omega arith)
-    by empty ih e = let z : _≡_ {A = ℕ} 0 1 = cc in absurd (omega arith)
+gathered-some k (some a ∷ ps) as′ e =
+    let bs : List Allele = listOf (gathered (k + 1) ps) in
+    let q : as′ ≡ a ∷ bs = sym (ap listOf e) ∙ with-cons a (gathered (k + 1) ps) e in
+    rw q (ap (λ (os : List (Option Allele)). some a ∷ os) (gathered-some (k + 1) ps bs (with-list a (gathered (k + 1) ps) e)))
 
 -- a text whose pieces are these alleles
 parts-read : (b : ℕ) (s : List ℕ) (as′ : List Allele) → partsOf (b ∷ s) ≡ map some as′ → readingOf (b ∷ s) ≡ list as′

@@ -1,27 +1,25 @@
 -- The readers: 16 first, then what the judge answers; only where that is done are the slices filled, and then they hold the list. Assumes nothing.
 use Prim.Native.Nat.{ℕ, _≤_}
-use mathlib.Core.Path.{_≡_, refl, sym, _∙_}
-use mathlib.Core.Bool.{Bool, true, false}
+use mathlib.Core.Path.{_≡_, refl, sym, ap, _∙_}
 use mathlib.Core.List.{List, [], _∷_}
 use mathlib.Core.Option.{Option, some, none}
 use native.Mathlib.Omega.{arith}
+use native.Mathlib.Decide.{decLe}
 use types.Run.{OneOf}
 use denote.Enum.Declared.{tagOf}
 use lib.ListN.{length}
-use lib.Dec.{ltb}
-use borrow.Author.Tests.{ne-eqb, ltb-false}
-use Rattle.text.specs.Pick.{pick}
+use borrow.Author.Tests.{ne-eqb}
 use Rattle.text.specs.Answer.{Answer, says, numberOf}
 use Rattle.text.specs.Over.{over}
 use Rattle.genotype.specs.Reading.{Reading, list, bad, empty, readingOf, listOf, ListMeant, numbersOf, missingOf, phasedOf}
-use Rattle.genotype.specs.Answers.{wholeAnswer, fitAnswer, readAnswer, firstAbove, aboveAnswer, checkedAnswer, rowAnswer, laid, Room, Reads}
+use Rattle.genotype.specs.Answers.{readAnswer, firstAbove, aboveAnswer, checkedAnswer, rowAnswer, laid, Room, Reads}
 use Rattle.genotype.specs.Paper.{readPaper}
 use Rattle.genotype.specs.declared.allele.Allele.{Allele}
 use Rattle.genotype.specs.declared.read.Read.{Read}
 use Rattle.genotype.specs.declared.read.Read.the-variants as R
 use Rattle.genotype.proofs.read.Read as D
 use Rattle.genotype.proofs.JudgeLaws.{other-number}
-use Rattle.genotype.proofs.RowLaws.{row-even, row-uneven-nm, row-uneven-np}
+use Rattle.genotype.proofs.AnswerLaws.{answer-short, answer-bad, answer-empty, row-even, row-uneven-nm, row-uneven-np}
 
 -- ---- what is left in a slice
 
@@ -65,14 +63,14 @@ record Fits (r : Reading) (room : ℕ) : Type 0 where
   few : length (listOf r) ≤ room
 
 fits : (r : Reading) (room k : ℕ) → readPaper (R.Done k) ≡ readAnswer r room → Fits r room
-unfolding readPaper readAnswer wholeAnswer fitAnswer listOf
-fits (list as′) room k e = by (ltb room (length as′)) refl e
+unfolding readPaper listOf
+fits (list as′) room k e = record { meant = refl; few = by (decLe (length as′) room) }
   where
-    by : (c : Bool) → ltb room (length as′) ≡ c → says 0 (k ∷ []) ≡ pick c (says 17 []) (says 0 (length as′ ∷ [])) → Fits (list as′) room
-    by true q e = absurd (let z : _≡_ {A = ℕ} 0 1 = cc in omega arith)
-    by false q e = record { meant = refl; few = ltb-false _ _ q }
-fits (bad j) room k e = absurd (let z : _≡_ {A = ℕ} 0 1 = cc in omega arith)
-fits empty room k e = absurd (let z : _≡_ {A = ℕ} 0 1 = cc in omega arith)
+    by : Dec (length as′ ≤ room) → length as′ ≤ room
+    by (yes h) = h
+    by (no h) = absurd (let z = ap numberOf (e ∙ answer-short room as′ (omega arith)) in omega arith)
+fits (bad j) room k e = absurd (let z = ap numberOf (e ∙ answer-bad room j) in omega arith)
+fits empty room k e = absurd (let z = ap numberOf (e ∙ answer-empty room) in omega arith)
 
 -- a check passes on only what none is above
 checked : (count : ℕ) (r : Reading) (room k : ℕ) → readPaper (R.Done k) ≡ checkedAnswer count r room → readPaper (R.Done k) ≡ readAnswer r room

@@ -195,4 +195,12 @@ step-means t at x e = placed (ltb (length t) at) refl
     placed true h = let l = ltb-true _ _ h in is S.Beyond (step-beyond t at l) l
     placed false h = reached (ltb-false _ _ h) (ltb at (length t)) refl
 
+-- a step that finds an allele moves on
+module _ (t : List ℕ) (at : ℕ) (x : Step) (e : stepPaper x ≡ stepAnswer t at) (a : Allele) (next : ℕ) (q : x ≡ S.Found a next) where
+  pub found : Further t at a next
+  found = step-means t at (S.Found a next) (rw q at e)
+
+  pub found-less : length t - next < length t - at
+  found-less = let f = found in omega arith
+
 pub ruleset laws = (seek-first, seek-bar, seek-slash, seek-turn, seek-past, implied-more, implied-rest, body-dot, body-value, body-bad, step-beyond, step-nothing, step-bar, step-slash, step-plain)

@@ -16,7 +16,7 @@ use Rattle.genotype.specs.declared.allele.Allele.{Allele}
 use Rattle.genotype.specs.declared.read.Read.{Read}
 use Rattle.genotype.proofs.MeansLaws.{reads-means}
 use Rattle.genotype.proofs.ColumnLaws.{numbers-none, numbers-more, missing-more, phased-more, numbers-length, missing-length, phased-length}
-use Rattle.genotype.proofs.ListLaws.{Holds, reads-list}
+use Rattle.genotype.proofs.AnswerLaws.{Holds, reads-list}
 use Rattle.spelling.specs.Spelling.{from44}
 use Rattle.spelling.specs.Row.{Parallel, alleleOf, rowOf, Small}
 use Rattle.spelling.specs.Paper.{writePaper}
