@@ -11,8 +11,8 @@ use Rattle.text.specs.Answer.{Answer, says, numberOf}
 use Rattle.text.specs.Over.{overAt}
 use Rattle.text.proofs.Lists.{take-overAt}
 use Rattle.decimal.proofs.Shortest.{shortest-one}
-use Rattle.genotype.specs.Means.{allPhased}
 use Rattle.genotype.specs.declared.allele.Allele.{Allele}
+use Rattle.genotype.proofs.PhasedLaws.{phased-none}
 use Rattle.spelling.specs.Spelling.{bodyText, alleleText, listText, isSound, firstUnsound, text, shaped, judged, spell}
 use Rattle.spelling.specs.Permitted.{Permitted, TheShortest}
 use Rattle.spelling.specs.Demands.{Writer, writer, Exact, WritesShortest}
@@ -44,8 +44,8 @@ blank : List ℕ
 blank = 0 ∷ []
 
 zero-shortest : (late : Bool) → TheShortest (Permitted late phased-zero) (48 ∷ [])
-unfolding phased-zero spell judged shaped firstUnsound isSound listText alleleText bodyText allPhased
-zero-shortest late = spelled-shortest late phased-zero (48 ∷ []) (rw (shortest-one 0 (omega arith)))
+unfolding phased-zero spell judged shaped firstUnsound isSound listText alleleText bodyText
+zero-shortest late = spelled-shortest late phased-zero (48 ∷ []) (rw (phased-none, shortest-one 0 (omega arith)))
 
 -- an exact writer writes it
 must-write : (write : Writer) → Exact write → (numberOf (write 4 4 phased-zero blank 0 .answer) ≡ 0 → ⊥) → ⊥

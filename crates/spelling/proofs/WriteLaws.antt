@@ -100,6 +100,10 @@ pub list-inside : (as′ : List Allele) (late : Bool) (out : List ℕ) (at : ℕ
 unfolding listAnswer
 list-inside as′ late out at h = rw (le-leb _ _ h)
 
+pub list-beyond : (as′ : List Allele) (late : Bool) (out : List ℕ) (at : ℕ) → length out < at → listAnswer as′ late out at ≡ says 6 []
+unfolding listAnswer
+list-beyond as′ late out at h = rw (lt-leb _ _ h)
+
 module _ (n m p : List ℕ) (late : Bool) (out : List ℕ) (at : ℕ) where
   -- slices of one length are answered as their list is
   pub row-list : length n ≡ length m → length n ≡ length p → rowAnswer n m p late out at ≡ listAnswer (rowOf n m p) late out at
