@@ -8,8 +8,9 @@ use native.Mathlib.Numerals.{add-one}
 use types.Run.{OneOf}
 use denote.Enum.Declared.{tagOf}
 use lib.ListN.{length, set, length-set, length-map}
-use lib.Seq.{sets, sets-eq}
+use lib.Seq.{sets}
 use Rattle.text.specs.Over.{over}
+use Rattle.text.proofs.Lists.{sets-over}
 use Rattle.genotype.specs.Reading.{readingOf, stepAnswer, listOf, ListMeant, mark, numbersOf, missingOf, phasedOf}
 use Rattle.genotype.specs.Answers.{Room}
 use Rattle.genotype.specs.Paper.{stepPaper}
@@ -34,10 +35,9 @@ column-turn : {f : Allele → ℕ} {a : Allele} {all xs : List Allele} {l₀ l :
 column-turn {k = k} g = record { len = simp length-set (g .len); same = rw add-one (g .same) }
 
 column-past : {f : Allele → ℕ} {all : List Allele} {l₀ l : List ℕ} {k : ℕ} → Column f all [] l₀ l k → length all ≤ length l₀ → l ≡ over (map f all) l₀
-unfolding over
 column-past {f} {all} {l₀} g h =
     let n : length (map f all) ≡ length all = length-map all f in
-    g .same ∙ sets-eq (map f all) l₀ 0 (omega arith) ∙ rw zero-add
+    g .same ∙ sets-over (map f all) l₀ (omega arith)
 
 abbrev pub number : Allele → ℕ
 number a = a .number

@@ -42,10 +42,9 @@ digits-quiet (b ∷ s) e =
     C.more (mark-none b (λ q. absurd (omega arith)) (λ q. absurd (omega arith))) (digits-quiet s (g .1))
 
 body-quiet : {t : List ℕ} {a : Allele} → Body t a → Quiet t
-unfolding isMark
-body-quiet dot = C.more refl C.none
+body-quiet dot = C.more (mark-none 46 (λ e. absurd (omega arith)) (λ e. absurd (omega arith))) C.none
 body-quiet (number (bare {s} g)) = digits-quiet s (g .digits)
-body-quiet (number (signed {s} g)) = C.more refl (digits-quiet s (g .digits))
+body-quiet (number (signed {s} g)) = C.more (mark-none 43 (λ e. absurd (omega arith)) (λ e. absurd (omega arith))) (digits-quiet s (g .digits))
 
 body-some : {t : List ℕ} {a : Allele} → Body t a → 0 < length t
 body-some dot = omega arith

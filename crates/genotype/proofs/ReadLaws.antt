@@ -19,41 +19,47 @@ use Rattle.genotype.specs.declared.read.Read.{Read}
 use Rattle.genotype.specs.declared.read.Read.the-variants as R
 use Rattle.genotype.proofs.read.Read as D
 use Rattle.genotype.proofs.JudgeLaws.{other-number}
-use Rattle.genotype.proofs.AnswerLaws.{answer-short, answer-bad, answer-empty, row-even, row-uneven-nm, row-uneven-np}
-
--- ---- what is left in a slice
-
-laid-other : (x : Read) (vs l : List ℕ) → OneOf (1 ∷ 2 ∷ 3 ∷ 4 ∷ 5 ∷ []) (tagOf D.the-type x) → l ≡ laid (readPaper x) vs l
-unfolding laid
-laid-other x vs l h = rw (ne-eqb (numberOf (readPaper x)) 0 (other-number x h))
-
-laid-done : (k : ℕ) (vs l : List ℕ) → over vs l ≡ laid (readPaper (R.Done k)) vs l
-unfolding laid readPaper
-laid-done k vs l = refl
+use Rattle.genotype.proofs.AnswerLaws.{answer-short, answer-bad, answer-empty, row-even, row-uneven-nm, row-uneven-np, laid-done, laid-refused}
 
 -- ---- the answer
 
 module _ (a : Answer) (as′ : List Allele) (n m p : List ℕ) where
+  refused : {r : Read} → rowAnswer n m p a ≡ readPaper r → (numberOf (readPaper r) ≡ 0 → ⊥) → Reads (rowAnswer n m p a) as′ n m p r n m p
+  refused e z =
+      rw e
+      (record {
+        answer = refl;
+        numbers = sym (laid-refused _ _ n z);
+        missing = sym (laid-refused _ _ m z);
+        phased = sym (laid-refused _ _ p z);
+      })
+
   pub lengths-nm : (length n ≡ length m → ⊥) → Reads (rowAnswer n m p a) as′ n m p R.Lengths n m p
-  unfolding readPaper laid
-  lengths-nm h = rw (row-uneven-nm n m p a h) (record { answer = refl; numbers = refl; missing = refl; phased = refl })
+  unfolding readPaper
+  lengths-nm h = refused (row-uneven-nm n m p a h) (λ z. omega arith)
 
   pub lengths-np : (length n ≡ length p → ⊥) → Reads (rowAnswer n m p a) as′ n m p R.Lengths n m p
-  unfolding readPaper laid
-  lengths-np h = rw (row-uneven-np n m p a h) (record { answer = refl; numbers = refl; missing = refl; phased = refl })
+  unfolding readPaper
+  lengths-np h = refused (row-uneven-np n m p a h) (λ z. omega arith)
 
   module _ (e : length n ≡ length m) (f : length n ≡ length p) (x : Read) (h : readPaper x ≡ a) where
     row : rowAnswer n m p a ≡ readPaper x
     row = row-even n m p a e f ∙ sym h
 
     pub row-other : OneOf (1 ∷ 2 ∷ 3 ∷ 4 ∷ 5 ∷ []) (tagOf D.the-type x) → Reads (rowAnswer n m p a) as′ n m p x n m p
-    row-other o = rw row (record { answer = refl; numbers = laid-other x _ n o; missing = laid-other x _ m o; phased = laid-other x _ p o })
+    row-other o = refused row (other-number x o)
 
     pub row-done : {k : ℕ} {n′ m′ p′ : List ℕ} → x ≡ R.Done k → n′ ≡ over (numbersOf as′) n → m′ ≡ over (missingOf as′) m → p′ ≡ over (phasedOf as′) p
         → Reads (rowAnswer n m p a) as′ n m p x n′ m′ p′
-    row-done {k} q u v w =
+    unfolding readPaper
+    row-done q u v w =
         rw (row, q)
-        (record { answer = refl; numbers = u ∙ laid-done k _ n; missing = v ∙ laid-done k _ m; phased = w ∙ laid-done k _ p })
+        (record {
+          answer = refl;
+          numbers = u ∙ sym (laid-done _ _ n refl);
+          missing = v ∙ sym (laid-done _ _ m refl);
+          phased = w ∙ sym (laid-done _ _ p refl);
+        })
 
 -- ---- a list that fits
 
