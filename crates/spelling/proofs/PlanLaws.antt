@@ -20,7 +20,7 @@ use Rattle.spelling.specs.declared.tally.Tally.{Tally}
 use Rattle.spelling.specs.declared.tally.Plan.{Plan}
 use Rattle.spelling.specs.declared.tally.Plan.the-variants as P
 use Rattle.spelling.proofs.SpellLaws.{bare-text, marked-length, list-none, list-length, marked-longer, unsound-none, unsound-more, unsound-here, sound-parts, spell-none, spell-sound, spell-bad}
-use Rattle.spelling.proofs.TallyLaws.{short-not, short-fits, firstly, stopped, tallied-stopped, tallied-unsound, tallied-sound, counted-first, counted-later, plan-empty, plan-sound, plan-stopped}
+use Rattle.spelling.proofs.TallyLaws.{begin-is, short-not, short-fits, firstly, stopped, tallied-stopped, tallied-unsound, tallied-sound, counted-first, counted-later, plan-empty, plan-sound, plan-stopped}
 
 -- ---- a list whose missing alleles have the number 0
 
@@ -74,11 +74,10 @@ gather-later {t} a k g s z =
     (record { sound = g .sound; first = g .first; later = ap (λ (b : Bool). b && a .phased) (g .later); fits = g .fits; left = g .left }))
 
 gather-first : (a : Allele) (room : ℕ) → isSound a ≡ true → Gathered (tallied (begun room) a 0) (a .phased) true room (length (alleleText true a))
-unfolding begun
 gather-first a room s =
     let g : Gathered (firstly (begun room) (a .phased)) (a .phased) true room 0 =
-    record { sound = refl; first = refl; later = refl; fits = sym (le-leb 0 room zero-le); left = λ _. sym (sub-zero room) } in
-    rw (tallied-sound (begun room) a 0 refl s, counted-first (begun room) a 0 refl, bare-text a)
+    rw (← begin-is room) (record { sound = refl; first = refl; later = refl; fits = sym (le-leb 0 room zero-le); left = λ _. sym (sub-zero room) }) in
+    rw (tallied-sound (begun room) a 0 (g .sound) s, counted-first (begun room) a 0 refl, bare-text a)
     (rw (zero-add (length (bodyText a))) at (gather-short (length (bodyText a)) g))
 
 gather-from : (as′ : List Allele) (k : ℕ) {t : Tally} {f l : Bool} {room n : ℕ} → Gathered t f l room n → (k ≡ 0 → ⊥) → firstUnsound k as′ ≡ none
@@ -185,7 +184,7 @@ module _ (a : Allele) (as′ : List Allele) (late : Bool) (room : ℕ) where
       by false false e h d = e
 
 pub plan-told : (as′ : List Allele) (late : Bool) (room : ℕ) → Told as′ late room (planOf (tallyOf room as′) (length as′) late)
-unfolding tallyOf begun
+unfolding tallyOf
 plan-told [] late room = rw (← plan-empty (tallyOf room []) 0 late refl) (spell-none late)
 plan-told (a ∷ as′) late room = by (firstUnsound 0 (a ∷ as′)) refl
   where
@@ -201,5 +200,5 @@ plan-told (a ∷ as′) late room = by (firstUnsound 0 (a ∷ as′)) refl
     by : (o : Option ℕ) → firstUnsound 0 (a ∷ as′) ≡ o → Told (a ∷ as′) late room (planOf t n late)
     by none e = let g = gather-all a as′ room e in rw (plan-sound t n late some-there (g .sound)) (shape-told a as′ late room t g (spell-sound late a as′ e))
     by (some i) e =
-        let g = stop-from (a ∷ as′) 0 (begun room) i refl e in
+        let g = stop-from (a ∷ as′) 0 (begun room) i (rw (← begin-is room)) e in
         rw (plan-stopped t n late some-there (g .sound), g .bad) (spell-bad late a as′ e)

@@ -32,32 +32,31 @@ use Rattle.spelling.proofs.PlanLaws.{Spells, Overflows, Told, plan-told
 -- ---- at the start of an output
 
 -- what is spelled decides
-Spelt : Spelled → List ℕ → Write → List ℕ → Type 0
+abbrev Spelt : Spelled → List ℕ → Write → List ℕ → Type 0
 Spelt s l r l′ = (writePaper r ≡ spelledAnswer s l) × (l′ ≡ pick (eqb (numberOf (spelledAnswer s l)) 0) (over (textOf s) l) l)
 
 module _ {as′ : List Allele} {late : Bool} (l : List ℕ) where
   writes-by : {s : Spelled} {r : Write} {l′ : List ℕ} → spell late as′ ≡ s → Spelt s l r l′ → WritesList as′ late l r l′
-  unfolding Spelt
   writes-by e w = record { answer = rw e (w .0); bytes = rw e (w .1) }
 
   writes-text : {vs l′ : List ℕ} {r : ℕ} → Spells as′ late vs (length l) → r ≡ length vs → l′ ≡ over vs l → WritesList as′ late l (W.Done r) l′
-  unfolding Spelt writePaper spelledAnswer textOf
+  unfolding writePaper spelledAnswer textOf
   writes-text {vs} g e b = writes-by (g .is) (rw (room-fits vs l (g .fits), e), rw (room-fits vs l (g .fits)) b)
 
   writes-short : Overflows as′ late (length l) → WritesList as′ late l W.Short l
-  unfolding Spelt writePaper spelledAnswer textOf
+  unfolding writePaper spelledAnswer textOf
   writes-short g = writes-by (g .is) (rw (room-lacks (g .vs) l (g .lacks)), rw (room-lacks (g .vs) l (g .lacks)))
 
   writes-empty : spell late as′ ≡ empty → WritesList as′ late l W.Empty l
-  unfolding Spelt writePaper spelledAnswer
+  unfolding writePaper spelledAnswer
   writes-empty e = writes-by e (refl, refl)
 
   writes-bad : {k : ℕ} → spell late as′ ≡ bad k → WritesList as′ late l (W.Bad k) l
-  unfolding Spelt writePaper spelledAnswer
+  unfolding writePaper spelledAnswer
   writes-bad e = writes-by e (refl, refl)
 
   writes-phasing : spell late as′ ≡ phasing → WritesList as′ late l W.Phasing l
-  unfolding Spelt writePaper spelledAnswer
+  unfolding writePaper spelledAnswer
   writes-phasing e = writes-by e (refl, refl)
 
 module _ {n m p : List ℕ} (late : Bool) (l : List ℕ) {t : Tally} {x : Plan} (q : Parallel n m p) (e : t ≡ tallyOf (length l) (rowOf n m p))
