@@ -5,32 +5,32 @@ use lib.ListN.{length, length-map}
 use Rattle.genotype.specs.Reading.{mark, numbersOf, missingOf, phasedOf}
 use Rattle.genotype.specs.declared.allele.Allele.{Allele}
 
-pub numbers-none : numbersOf [] ≡ []
+pub numbersOf-none : numbersOf [] ≡ []
 unfolding numbersOf
-numbers-none = refl
+numbersOf-none = refl
 
 module _ (a : Allele) (as′ : List Allele) where
-  pub numbers-more : numbersOf (a ∷ as′) ≡ a .number ∷ numbersOf as′
+  pub numbersOf-more : numbersOf (a ∷ as′) ≡ a .number ∷ numbersOf as′
   unfolding numbersOf
-  numbers-more = refl
+  numbersOf-more = refl
 
-  pub missing-more : missingOf (a ∷ as′) ≡ mark (a .missing) ∷ missingOf as′
+  pub missingOf-more : missingOf (a ∷ as′) ≡ mark (a .missing) ∷ missingOf as′
   unfolding missingOf
-  missing-more = refl
+  missingOf-more = refl
 
-  pub phased-more : phasedOf (a ∷ as′) ≡ mark (a .phased) ∷ phasedOf as′
+  pub phasedOf-more : phasedOf (a ∷ as′) ≡ mark (a .phased) ∷ phasedOf as′
   unfolding phasedOf
-  phased-more = refl
+  phasedOf-more = refl
 
 module _ (as′ : List Allele) where
-  pub numbers-length : length (numbersOf as′) ≡ length as′
+  pub numbersOf-length : length (numbersOf as′) ≡ length as′
   unfolding numbersOf
-  numbers-length = length-map as′ _
+  numbersOf-length = length-map as′ _
 
-  pub missing-length : length (missingOf as′) ≡ length as′
+  pub missingOf-length : length (missingOf as′) ≡ length as′
   unfolding missingOf
-  missing-length = length-map as′ _
+  missingOf-length = length-map as′ _
 
-  pub phased-length : length (phasedOf as′) ≡ length as′
+  pub phasedOf-length : length (phasedOf as′) ≡ length as′
   unfolding phasedOf
-  phased-length = length-map as′ _
+  phasedOf-length = length-map as′ _

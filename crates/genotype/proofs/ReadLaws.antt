@@ -8,11 +8,10 @@ use native.Mathlib.Decide.{decLe}
 use types.Run.{OneOf}
 use denote.Enum.Declared.{tagOf}
 use lib.ListN.{length}
-use borrow.Author.Tests.{ne-eqb}
 use Rattle.text.specs.Answer.{Answer, says, numberOf}
 use Rattle.text.specs.Over.{over}
 use Rattle.genotype.specs.Reading.{Reading, list, bad, empty, readingOf, listOf, ListMeant, numbersOf, missingOf, phasedOf}
-use Rattle.genotype.specs.Answers.{readAnswer, firstAbove, aboveAnswer, checkedAnswer, rowAnswer, laid, Room, Reads}
+use Rattle.genotype.specs.Answers.{readAnswer, firstAbove, aboveAnswer, checkedAnswer, rowAnswer, Room, Reads}
 use Rattle.genotype.specs.Paper.{readPaper}
 use Rattle.genotype.specs.declared.allele.Allele.{Allele}
 use Rattle.genotype.specs.declared.read.Read.{Read}

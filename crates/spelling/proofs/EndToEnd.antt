@@ -15,7 +15,7 @@ use Rattle.genotype.specs.Answers.{ReadsText}
 use Rattle.genotype.specs.declared.allele.Allele.{Allele}
 use Rattle.genotype.specs.declared.read.Read.{Read}
 use Rattle.genotype.proofs.MeansLaws.{reads-means}
-use Rattle.genotype.proofs.ColumnLaws.{numbers-none, numbers-more, missing-more, phased-more, numbers-length, missing-length, phased-length}
+use Rattle.genotype.proofs.ColumnLaws.{numbersOf-none, numbersOf-more, missingOf-more, phasedOf-more, numbersOf-length, missingOf-length, phasedOf-length}
 use Rattle.genotype.proofs.AnswerLaws.{Holds, reads-list}
 use Rattle.spelling.specs.Spelling.{from44}
 use Rattle.spelling.specs.Row.{Parallel, alleleOf, rowOf, Small}
@@ -53,8 +53,8 @@ mark-back false = refl
 -- the columns of a list are slices that stand for it
 columns-row : (as′ : List Allele) → rowOf (numbersOf as′) (missingOf as′) (phasedOf as′) ≡ as′
 unfolding rowOf
-columns-row [] = rw numbers-none
-columns-row (a ∷ as′) = rw (numbers-more a as′, missing-more a as′, phased-more a as′, mark-back (a .missing), mark-back (a .phased), columns-row as′)
+columns-row [] = rw numbersOf-none
+columns-row (a ∷ as′) = rw (numbersOf-more a as′, missingOf-more a as′, phasedOf-more a as′, mark-back (a .missing), mark-back (a .phased), columns-row as′)
 
 begins : (vs l : List ℕ) {l′ : List ℕ} {k : ℕ} → l′ ≡ over vs l → length vs ≡ k → take k l′ ≡ vs
 begins vs l {k = k} e f = rw e (take-over vs l k (sym f))
@@ -93,6 +93,6 @@ module _ (n m p : List ℕ) (major minor : ℕ) (out : List ℕ) (at k : ℕ) (o
             answer = rw l at (held .answer);
             row =
                 rw
-                (begins _ n₂ (held .numbers) (numbers-length _ ∙ l), begins _ m₂ (held .missing) (missing-length _ ∙ l), begins _ p₂ (held .phased) (phased-length _ ∙ l))
+                (begins _ n₂ (held .numbers) (numbersOf-length _ ∙ l), begins _ m₂ (held .missing) (missingOf-length _ ∙ l), begins _ p₂ (held .phased) (phasedOf-length _ ∙ l))
                 (columns-row (rowOf n m p));
           }
