@@ -1,12 +1,10 @@
 -- Checking against ALT: the first allele above the count, of those from a place on, is the first of all; 20 stands before 17. Assumes nothing.
-use Prim.Native.Nat.{ℕ, _+_, _-_, _≤_, _<_}
+use Prim.Native.Nat.{ℕ, _+_, _≤_, _<_}
 use mathlib.Core.Path.{_≡_, refl}
 use mathlib.Core.List.{List, [], _∷_}
 use mathlib.Core.Option.{none}
-use native.Mathlib.Omega.{arith}
 use types.Run.{OneOf}
 use denote.Enum.Declared.{tagOf}
-use lib.ListN.{length}
 use borrow.Author.Tests.{lt-ltb, le-ltb}
 use Rattle.text.specs.Answer.{numberOf}
 use Rattle.lists.specs.AlternateBases.{altCount}
@@ -22,7 +20,7 @@ use Rattle.genotype.specs.declared.read.Above.{Above}
 use Rattle.genotype.specs.declared.read.Above.the-variants as O
 use Rattle.genotype.proofs.step.Step as T
 use Rattle.genotype.proofs.read.Read as D
-use Rattle.genotype.proofs.StepLaws.{Further, step-means}
+use Rattle.genotype.proofs.StepLaws.{found-less}
 use Rattle.genotype.proofs.JudgeLaws.{other-number, fit-other, judge-fits}
 use Rattle.genotype.proofs.Ahead.{leftOf, Ahead, ahead-first, left-first, ahead-turn, left-turn, left-end}
 
@@ -38,11 +36,8 @@ find-first {t} m = record { ahead = ahead-first t m; same = rw (left-first t m) 
 
 module _ (t : List ℕ) (count at k : ℕ) (x : Step) (g : Finding t count at k) (e : stepPaper x ≡ stepAnswer t at) where
   module _ (a : Allele) (next : ℕ) (q : x ≡ S.Found a next) where
-    further : Further t at a next
-    further = step-means t at (S.Found a next) (rw q at e)
-
     left : leftOf t at k ≡ a ∷ leftOf t next (k + 1)
-    left = left-turn (g .ahead) further
+    left = left-turn (g .ahead) e q
 
     pub find-at : count < a .number → abovePaper (O.At k) ≡ firstAbove count 0 (listOf (readingOf t))
     unfolding abovePaper firstAbove
@@ -50,10 +45,7 @@ module _ (t : List ℕ) (count at k : ℕ) (x : Step) (g : Finding t count at k)
 
     pub find-turn : a .number ≤ count → Finding t count next (k + 1)
     unfolding firstAbove
-    find-turn h = record { ahead = ahead-turn (g .ahead) further; same = rw (left, le-ltb _ _ h) at (g .same) }
-
-    pub find-less : length t - next < length t - at
-    find-less = let f = further in omega arith
+    find-turn h = record { ahead = ahead-turn (g .ahead) e q; same = rw (left, le-ltb _ _ h) at (g .same) }
 
   pub find-none : OneOf (1 ∷ 2 ∷ 3 ∷ []) (tagOf T.the-type x) → abovePaper O.Nothing ≡ firstAbove count 0 (listOf (readingOf t))
   unfolding abovePaper firstAbove
@@ -94,4 +86,4 @@ module _ (t : List ℕ) (count room : ℕ) (x : Read) (e : readPaper x ≡ whole
 pub check-meant : (t : List ℕ) (x : Read) {n : ℕ} → readPaper x ≡ wholeAnswer (readingOf t) → x ≡ R.Done n → ListMeant t
 check-meant t x {n} e q = record { is = whole-list (readingOf t) n (rw q at e) }
 
-pub ruleset laws = (find-first, find-at, find-turn, find-less, find-none, check-other, check-above, check-fits, check-meant)
+pub ruleset laws = (find-first, find-at, find-turn, found-less, find-none, check-other, check-above, check-fits, check-meant)

@@ -1,20 +1,20 @@
 -- The alleles from a place on of a text that reads as a list: the one that a step finds, and those behind it. Assumes nothing.
 use Prim.Native.Nat.{ℕ, _+_, _≤_, zero-le}
-use mathlib.Core.Path.{_≡_, refl, sym, _∙_}
+use mathlib.Core.Path.{_≡_, sym, _∙_}
 use mathlib.Core.List.{List, [], _∷_}
 use native.Mathlib.Omega.{arith}
 use types.Run.{OneOf, miss}
 use denote.Enum.Declared.{tagOf}
 use lib.ListN.{length, drop}
-use Rattle.genotype.specs.Reading.{Reading, list, bad, empty, with, gathered, readingOf, partsOf, stepAnswer, listOf, ListMeant}
+use Rattle.genotype.specs.Reading.{list, empty, gathered, readingOf, partsOf, stepAnswer, listOf, ListMeant}
 use Rattle.genotype.specs.Paper.{stepPaper}
 use Rattle.genotype.specs.declared.allele.Allele.{Allele}
 use Rattle.genotype.specs.declared.step.Step.{Step}
 use Rattle.genotype.specs.declared.step.Step.the-variants as S
 use Rattle.genotype.proofs.step.Step as T
 use Rattle.genotype.proofs.PieceLaws.{parts-end}
-use Rattle.genotype.proofs.StepLaws.{Further, step-means}
-use Rattle.genotype.proofs.JudgeLaws.{reading-some, reading-none}
+use Rattle.genotype.proofs.StepLaws.{Further, step-means, found}
+use Rattle.genotype.proofs.JudgeLaws.{reading-some, reading-none, with-list, with-cons}
 
 -- those from `at` on, the first of which has index k
 abbrev pub leftOf : List ℕ → ℕ → ℕ → List Allele
@@ -40,28 +40,18 @@ module _ (t : List ℕ) (m : ListMeant t) where
   pub left-first : leftOf t 0 0 ≡ listOf (readingOf t)
   left-first = rw (reading-some t some-text)
 
--- ---- a list with an allele before it
+-- a step that finds an allele
+module _ {t : List ℕ} {at k : ℕ} (g : Ahead t at k) {x : Step} (e : stepPaper x ≡ stepAnswer t at) {a : Allele} {next : ℕ} (q : x ≡ S.Found a next) where
+  passed : Further t at a next
+  passed = found t at x e a next q
 
-with-list : (a : Allele) (r : Reading) {as′ : List Allele} → with a r ≡ list as′ → r ≡ list (listOf r)
-unfolding with listOf
-with-list a (list bs) e = refl
-with-list a (bad k) e = cc
-with-list a empty e = cc
-
-with-cons : (a : Allele) (r : Reading) {as′ : List Allele} → with a r ≡ list as′ → listOf (with a r) ≡ a ∷ listOf r
-unfolding with listOf
-with-cons a (list bs) e = refl
-with-cons a (bad k) e = cc
-with-cons a empty e = cc
-
-module _ {t : List ℕ} {at k : ℕ} (g : Ahead t at k) {a : Allele} {next : ℕ} (f : Further t at a next) where
   pub ahead-turn : Ahead t next (k + 1)
   unfolding gathered
-  ahead-turn = record { within = f .within; few = omega arith; meant = with-list a _ (rw (f .parts) at (g .meant)) }
+  ahead-turn = let f = passed in record { within = f .within; few = omega arith; meant = with-list a _ (rw (passed .parts) at (g .meant)) }
 
   pub left-turn : leftOf t at k ≡ a ∷ leftOf t next (k + 1)
   unfolding gathered
-  left-turn = rw (f .parts) (with-cons a _ (rw (f .parts) at (g .meant)))
+  left-turn = rw (passed .parts) (with-cons a _ (rw (passed .parts) at (g .meant)))
 
 -- where a step finds no allele, none is left
 pub left-end : (t : List ℕ) (at k : ℕ) (x : Step) → Ahead t at k → stepPaper x ≡ stepAnswer t at → OneOf (1 ∷ 2 ∷ 3 ∷ []) (tagOf T.the-type x) → leftOf t at k ≡ []

@@ -3,33 +3,25 @@ use Prim.Native.Nat.{ℕ}
 use mathlib.Core.Path.{_≡_, refl, sym, ap, _∙_}
 use mathlib.Core.Bool.{Bool, true, false, false≢true}
 use mathlib.Core.List.{List, [], _∷_, _++_}
-use borrow.Author.Tests.{ne-eqb}
-use Rattle.text.specs.Pick.{pick}
 use Rattle.pieces.specs.Pieces.{countOf}
 use Rattle.pieces.proofs.CountLaws.{count-other}
 use Rattle.genotype.specs.Reading.{isMark, headOf, markedPieces}
+use Rattle.genotype.proofs.PieceLaws.{mark-bar, mark-slash, head-none, head-mark, head-more}
 
 -- bytes that are no marks
 pub data Quiet : List ℕ → Type 0 where
   none : Quiet []
   more : {b : ℕ} {s : List ℕ} → isMark b ≡ false → Quiet s → Quiet (b ∷ s)
 
-pub no-mark : (b : ℕ) → (b ≡ 124 → ⊥) → (b ≡ 47 → ⊥) → isMark b ≡ false
-unfolding isMark
-no-mark b p q = rw (ne-eqb b 124 p, ne-eqb b 47 q)
-
 pub no-bar : (b : ℕ) → isMark b ≡ false → b ≡ 124 → ⊥
-unfolding isMark
-no-bar b m e = false≢true (sym (rw e at m))
+no-bar b m e = false≢true (sym m ∙ mark-bar b e)
 
 pub no-slash : (b : ℕ) → isMark b ≡ false → b ≡ 47 → ⊥
-unfolding isMark
-no-slash b m e = false≢true (sym (rw e at m))
+no-slash b m e = false≢true (sym m ∙ mark-slash b e)
 
 pub head-quiet : (t : List ℕ) {s : List ℕ} → Quiet s → headOf t ≡ [] → headOf (s ++ t) ≡ s
-unfolding headOf
 head-quiet t none e = e
-head-quiet t (more {b} m q) e = rw m (ap (λ (l : List ℕ). b ∷ l) (head-quiet t q e))
+head-quiet t (more {b} m q) e = head-more b _ m ∙ ap (λ (l : List ℕ). b ∷ l) (head-quiet t q e)
 
 pub pieces-quiet : (t : List ℕ) {s : List ℕ} → Quiet s → markedPieces (s ++ t) ≡ markedPieces t
 unfolding markedPieces
@@ -42,10 +34,9 @@ count-quiet t (more {b} m q) = count-other 47 _ (no-slash b m) ∙ count-quiet t
 
 -- what stands before the first mark is quiet
 pub quiet-head : (s : List ℕ) → Quiet (headOf s)
-unfolding headOf
-quiet-head [] = none
+quiet-head [] = rw head-none none
 quiet-head (b ∷ s) = by (isMark b) refl (quiet-head s)
   where
-    by : (t : Bool) → isMark b ≡ t → Quiet (headOf s) → Quiet (pick t [] (b ∷ headOf s))
-    by true m q = none
-    by false m q = more m q
+    by : (t : Bool) → isMark b ≡ t → Quiet (headOf s) → Quiet (headOf (b ∷ s))
+    by true m q = rw (head-mark b s m) none
+    by false m q = rw (head-more b s m) (more m q)

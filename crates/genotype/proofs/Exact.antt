@@ -4,12 +4,13 @@ use Prim.Native.Nat.{ℕ}
 use mathlib.Core.Path.{_≡_, refl}
 use mathlib.Core.List.{List}
 use native.Mathlib.Omega.{arith}
-use borrow.Author.Tests.{le-ltb, ne-eqb}
+use lib.ListN.{length}
+use borrow.Author.Tests.{ne-eqb}
 use Rattle.text.specs.Answer.{numberOf}
 use Rattle.genotype.specs.Reading.{Reading, list, bad, empty, readingOf, listOf}
-use Rattle.genotype.specs.Answers.{wholeAnswer, fitAnswer, readAnswer}
 use Rattle.genotype.specs.Demands.{Outcome, reader, ExactAt, Exact, Untouched}
 use Rattle.genotype.specs.declared.allele.Allele.{Allele}
+use Rattle.genotype.proofs.AnswerLaws.{answer-list, answer-bad, answer-empty}
 use Rattle.genotype.proofs.MeansLaws.{reads-means, means-one}
 
 -- a text that reads as no list is refused
@@ -17,20 +18,20 @@ refuses : (t : List ℕ) (row : List Allele) (o : Outcome) → ((as′ : List Al
 refuses t row o n r = record { refused = (λ z as′ m. n as′ (reads-means t as′ .1 m), λ z. r); one = λ z. absurd (r z) }
 
 pub exact : Exact reader
-unfolding Exact reader readAnswer fitAnswer wholeAnswer listOf
+unfolding Exact reader listOf
 exact t row fits = by (readingOf t) refl
   where
     by : (r : Reading) → readingOf t ≡ r → ExactAt t row (reader t row)
     by (list as′) e =
         let m = reads-means t as′ .0 e in
         let l = fits as′ m in
-        rw (e, le-ltb _ _ l)
+        rw (e, answer-list (length row) as′ l)
         (record {
           refused = (λ n. absurd (n refl), λ n. absurd (n as′ m));
           one = λ z. record { list = as′; means = m; only = λ bs k. means-one k m; count = refl; holds = refl };
         })
-    by (bad k) e = rw e (refuses t row _ (λ as′ q. let z : _≡_ {A = ℕ} 0 1 = cc in omega arith) (λ z. omega arith))
-    by empty e = rw e (refuses t row _ (λ as′ q. let z : _≡_ {A = ℕ} 0 1 = cc in omega arith) (λ z. omega arith))
+    by (bad k) e = rw (e, answer-bad (length row) k) (refuses t row _ (λ as′ q. let z : _≡_ {A = ℕ} 0 1 = cc in omega arith) (λ z. omega arith))
+    by empty e = rw (e, answer-empty (length row)) (refuses t row _ (λ as′ q. let z : _≡_ {A = ℕ} 0 1 = cc in omega arith) (λ z. omega arith))
 
 pub untouched : Untouched reader
 unfolding Untouched reader

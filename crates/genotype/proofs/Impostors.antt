@@ -1,16 +1,17 @@
 -- Readers that nobody would accept do not meet demand 3: each is found out by texts of one digit and a row of one. Assumes
 -- nothing.
 use Prim.Native.Nat.{ℕ, _+_, _<_}
-use mathlib.Core.Path.{_≡_, refl, sym, ap, _∙_}
+use mathlib.Core.Path.{_≡_, sym, ap, _∙_}
 use mathlib.Core.Bool.{true, false}
 use mathlib.Core.List.{List, [], _∷_, _++_}
 use native.Mathlib.Omega.{arith}
 use native.Mathlib.Decide.{ℕ-discrete}
 use lib.ListN.{length, drop}
 use Rattle.text.specs.Answer.{says, numberOf}
-use Rattle.genotype.specs.Means.{none, allPhased, Means, bare}
+use Rattle.genotype.specs.Means.{none, Means, bare}
 use Rattle.genotype.specs.Demands.{Reader, reader, Stands, ExactAt, Exact}
 use Rattle.genotype.specs.declared.allele.Allele.{Allele}
+use Rattle.genotype.proofs.PhasedLaws.{phased-none}
 use Rattle.genotype.proofs.MeansLaws.{digit-body, means-one}
 use Rattle.genotype.proofs.Exact.{exact}
 
@@ -19,8 +20,7 @@ abbrev lone : ℕ → Allele
 lone n = record { number = n; missing = false; phased = true }
 
 digit-means : (n : ℕ) → n < 10 → Means ((48 + n) ∷ []) (lone n ∷ [])
-unfolding allPhased
-digit-means n h = bare refl (digit-body n true h) none
+digit-means n h = bare (sym phased-none) (digit-body n true h) none
 
 -- an exact reader, given one digit and a row of one
 module _ (read : Reader) (x : Exact read) (n : ℕ) (h : n < 10) where

@@ -1,5 +1,5 @@
 -- Judging: what the pieces from a place on answer, counted from their index, is what the whole does; room comes last. Assumes nothing.
-use Prim.Native.Nat.{ℕ, _+_, _-_, _≤_, _<_, zero-le}
+use Prim.Native.Nat.{ℕ, _+_, _≤_, _<_, zero-le}
 use mathlib.Core.Path.{_≡_, refl, sym, _∙_}
 use mathlib.Core.List.{List, [], _∷_}
 use native.Mathlib.Omega.{arith}
@@ -8,7 +8,7 @@ use denote.Enum.Declared.{tagOf}
 use lib.ListN.{length, drop}
 use borrow.Author.Tests.{lt-ltb, le-ltb}
 use Rattle.text.specs.Answer.{Answer, says, numberOf}
-use Rattle.genotype.specs.Reading.{Reading, list, bad, empty, with, gathered, readingOf, partsOf, stepAnswer}
+use Rattle.genotype.specs.Reading.{Reading, list, bad, empty, with, gathered, readingOf, listOf, partsOf, stepAnswer}
 use Rattle.genotype.specs.Answers.{wholeAnswer, fitAnswer, readAnswer}
 use Rattle.genotype.specs.Paper.{stepPaper, readPaper}
 use Rattle.genotype.specs.declared.allele.Allele.{Allele}
@@ -19,7 +19,7 @@ use Rattle.genotype.specs.declared.read.Read.the-variants as R
 use Rattle.genotype.proofs.step.Step as T
 use Rattle.genotype.proofs.read.Read as D
 use Rattle.genotype.proofs.PieceLaws.{parts-end}
-use Rattle.genotype.proofs.StepLaws.{Further, step-means}
+use Rattle.genotype.proofs.StepLaws.{step-means, found, found-less}
 
 -- ---- the whole text
 
@@ -52,6 +52,19 @@ whole-with k a (list as′) = let z : k + length (a ∷ as′) ≡ k + 1 + lengt
 whole-with k a (bad j) = refl
 whole-with k a empty = refl
 
+-- a reading that is a list once it has an allele before it
+pub with-list : (a : Allele) (r : Reading) {as′ : List Allele} → with a r ≡ list as′ → r ≡ list (listOf r)
+unfolding with listOf
+with-list a (list bs) e = refl
+with-list a (bad k) e = cc
+with-list a empty e = cc
+
+pub with-cons : (a : Allele) (r : Reading) {as′ : List Allele} → with a r ≡ list as′ → listOf (with a r) ≡ a ∷ listOf r
+unfolding with listOf
+with-cons a (list bs) e = refl
+with-cons a (bad k) e = cc
+with-cons a empty e = cc
+
 -- neither an allele nor a bad piece, at a place of the text: it is the end
 end-tells : (t : List ℕ) (at : ℕ) (x : Step) → at ≤ length t → stepPaper x ≡ stepAnswer t at → OneOf (1 ∷ 2 ∷ []) (tagOf T.the-type x) → length t ≤ at
 end-tells t at (S.Found a next) w e h = absurd (miss (1 ∷ 2 ∷ []) 0 tt h)
@@ -74,17 +87,11 @@ judge-first t h = record { within = zero-le; few = zero-le; same = rw (reading-s
 
 module _ (t : List ℕ) (at k : ℕ) (x : Step) (g : Judging t at k) (e : stepPaper x ≡ stepAnswer t at) where
   module _ (a : Allele) (next : ℕ) (q : x ≡ S.Found a next) where
-    further : Further t at a next
-    further = step-means t at (S.Found a next) (rw q at e)
-
     pub judge-turn : Judging t next (k + 1)
     unfolding gathered
     judge-turn =
-        let f = further in
+        let f = found t at x e a next q in
         record { within = f .within; few = omega arith; same = sym (whole-with k a _) ∙ (rw (f .parts) at (g .same)) }
-
-    pub judge-less : length t - next < length t - at
-    judge-less = let f = further in omega arith
 
   pub judge-bad : x ≡ S.Bad → readPaper (R.Bad k) ≡ wholeAnswer (readingOf t)
   unfolding readPaper gathered wholeFrom
@@ -128,4 +135,4 @@ pub judge-fits : (t : List ℕ) (room : ℕ) (x y : Read) → readPaper x ≡ wh
 unfolding readAnswer
 judge-fits t room x y e f = rw (← e) f
 
-pub ruleset laws = (judge-empty, judge-first, judge-turn, judge-less, judge-bad, judge-past, fit-short, fit-done, fit-other, judge-fits)
+pub ruleset laws = (judge-empty, judge-first, judge-turn, found-less, judge-bad, judge-past, fit-short, fit-done, fit-other, judge-fits)

@@ -5,7 +5,9 @@ pub mod JudgeLaws
 pub mod Ahead
 pub mod FillLaws
 pub mod AboveLaws
+pub mod AnswerLaws
 pub mod ReadLaws
+pub mod ColumnLaws
 pub mod Determined
 pub mod PhasedLaws
 pub mod CutLaws

@@ -7,9 +7,10 @@ use mathlib.Core.Logic.{_↔_}
 use mathlib.Core.List.{List, [], _∷_, _++_, map}
 use mathlib.Core.Option.{Option, some, none}
 use native.Mathlib.Omega.{arith}
+use native.Mathlib.Decide.{ℕ-discrete}
 use lib.ListN.{length}
 use lib.Dec.{eqb}
-use borrow.Author.Tests.{eqb-true, eq-eqb, ne-eqb}
+use borrow.Author.Tests.{ne-eqb}
 use Rattle.text.specs.Pick.{pick}
 use Rattle.text.specs.Same.{same}
 use Rattle.text.proofs.SameLaws.{same-self, same-is, same-not}
@@ -21,12 +22,15 @@ use Rattle.decimal.proofs.Shortest.{shortest-one}
 use Rattle.decimal.proofs.Value.{value-decimal, decimal-value}
 use Rattle.pieces.specs.Pieces.{countOf}
 use Rattle.pieces.proofs.CountLaws.{count-none, count-here, count-other}
-use Rattle.genotype.specs.Reading.{isMark, headOf, markedPieces, piecesOf, numbered, bodied, alleleIn, impliedBy, impliedOf, partsOf, Reading, list, bad, empty, with, gathered, readingOf}
+use Rattle.genotype.specs.Reading.{isMark, headOf, markedPieces, numbered, bodied, alleleIn, impliedBy, partsOf, list, with, gathered, readingOf, listOf}
 use Rattle.genotype.specs.Means.{Mark, bar, slash, Body, dot, number, Later, allPhased, Means, marked}
 use Rattle.genotype.specs.Means as M
 use Rattle.genotype.specs.declared.allele.Allele.{Allele}
+use Rattle.genotype.proofs.PieceLaws.{mark-bar, mark-slash, mark-none, in-bar, in-slash, in-plain, head-none, head-mark, head-more, parts-first}
+use Rattle.genotype.proofs.JudgeLaws.{reading-some, reading-none, with-list, with-cons}
+use Rattle.genotype.proofs.PhasedLaws.{phased-none, phased-more}
 use Rattle.genotype.proofs.CutLaws as C
-use Rattle.genotype.proofs.CutLaws.{Quiet, no-mark, no-bar, no-slash, head-quiet, pieces-quiet, count-quiet, quiet-head}
+use Rattle.genotype.proofs.CutLaws.{Quiet, no-bar, no-slash, head-quiet, pieces-quiet, count-quiet, quiet-head}
 
 -- ---- a body
 
@@ -35,13 +39,12 @@ digits-quiet [] e = C.none
 digits-quiet (b ∷ s) e =
     let g = digits-cons b s e in
     let r = digit-range b (g .0) in
-    C.more (no-mark b (λ q. absurd (omega arith)) (λ q. absurd (omega arith))) (digits-quiet s (g .1))
+    C.more (mark-none b (λ q. absurd (omega arith)) (λ q. absurd (omega arith))) (digits-quiet s (g .1))
 
 body-quiet : {t : List ℕ} {a : Allele} → Body t a → Quiet t
-unfolding isMark
-body-quiet dot = C.more refl C.none
+body-quiet dot = C.more (mark-none 46 (λ e. absurd (omega arith)) (λ e. absurd (omega arith))) C.none
 body-quiet (number (bare {s} g)) = digits-quiet s (g .digits)
-body-quiet (number (signed {s} g)) = C.more refl (digits-quiet s (g .digits))
+body-quiet (number (signed {s} g)) = C.more (mark-none 43 (λ e. absurd (omega arith)) (λ e. absurd (omega arith))) (digits-quiet s (g .digits))
 
 body-some : {t : List ℕ} {a : Allele} → Body t a → 0 < length t
 body-some dot = omega arith
@@ -88,24 +91,21 @@ bodied-body p t a e = by (same t (46 ∷ [])) refl e
 -- ---- a piece
 
 mark-is : {b : ℕ} {p : Bool} → Mark b p → isMark b ≡ true
-unfolding isMark
-mark-is bar = refl
-mark-is slash = refl
+mark-is bar = mark-bar 124 refl
+mark-is slash = mark-slash 47 refl
 
 -- with its mark an allele is read as it is, whatever is implied
 marked-allele : (i : Bool) {b : ℕ} {t : List ℕ} {a : Allele} → Mark b (a .phased) → Body t a → alleleIn i (b ∷ t) ≡ some a
-unfolding alleleIn
 marked-allele i {b} {t} {a} m c = by m (body-bodied c)
   where
     by : {b : ℕ} {p : Bool} → Mark b p → bodied p t ≡ some a → alleleIn i (b ∷ t) ≡ some a
-    by bar e = e
-    by slash e = e
+    by bar e = in-bar i 124 t refl ∙ e
+    by slash e = in-slash i 47 t refl ∙ e
 
 -- without one it has the phasing that is implied
 quiet-allele : (i : Bool) {t : List ℕ} → Quiet t → 0 < length t → alleleIn i t ≡ bodied i t
-unfolding alleleIn
 quiet-allele i C.none h = absurd (omega arith)
-quiet-allele i (C.more {b} m q) h = rw (ne-eqb b 124 (no-bar b m), ne-eqb b 47 (no-slash b m))
+quiet-allele i (C.more {b} {s} m q) h = in-plain i b s (no-bar b m) (no-slash b m)
 
 -- a piece that is an allele has its mark and a body, or is a body that has the phasing implied
 data Piece (i : Bool) : ℕ → List ℕ → Allele → Type 0 where
@@ -113,34 +113,32 @@ data Piece (i : Bool) : ℕ → List ℕ → Allele → Type 0 where
   plain : {b : ℕ} {t : List ℕ} {a : Allele} → isMark b ≡ false → a .phased ≡ i → Body (b ∷ t) a → Piece i b t a
 
 allele-piece : (i : Bool) (b : ℕ) (t : List ℕ) (a : Allele) → alleleIn i (b ∷ t) ≡ some a → Piece i b t a
-unfolding alleleIn
-allele-piece i b t a e = by (eqb b 124) (eqb b 47) refl refl e
+allele-piece i b t a e = by (ℕ-discrete b 124) (ℕ-discrete b 47)
   where
-    by : (x y : Bool) → eqb b 124 ≡ x → eqb b 47 ≡ y → pick x (bodied true t) (pick y (bodied false t) (bodied i (b ∷ t))) ≡ some a → Piece i b t a
-    by true y p q e =
-        let c = bodied-body true t a e in
-        let m : Mark b (a .phased) = rw (eqb-true b 124 p, c .phasing) bar in
+    by : Dec (b ≡ 124) → Dec (b ≡ 47) → Piece i b t a
+    by (yes p) q =
+        let c = bodied-body true t a (sym (in-bar i b t p) ∙ e) in
+        let m : Mark b (a .phased) = rw (p, c .phasing) bar in
         with-mark m (c .body)
-    by false true p q e =
-        let c = bodied-body false t a e in
-        let m : Mark b (a .phased) = rw (eqb-true b 47 q, c .phasing) slash in
+    by (no p) (yes q) =
+        let c = bodied-body false t a (sym (in-slash i b t q) ∙ e) in
+        let m : Mark b (a .phased) = rw (q, c .phasing) slash in
         with-mark m (c .body)
-    by false false p q e =
-        let c = bodied-body i (b ∷ t) a e in
-        plain (no-mark b (λ z. false≢true (sym p ∙ eq-eqb b 124 z)) (λ z. false≢true (sym q ∙ eq-eqb b 47 z))) (c .phasing) (c .body)
+    by (no p) (no q) =
+        let c = bodied-body i (b ∷ t) a (sym (in-plain i b t p q) ∙ e) in
+        plain (mark-none b p q) (c .phasing) (c .body)
 
 -- ---- the alleles after the first
 
 later-head : {t : List ℕ} {as′ : List Allele} → Later t as′ → headOf t ≡ []
-unfolding headOf
-later-head M.none = refl
-later-head (M.more m c l) = rw (mark-is m)
+later-head M.none = head-none
+later-head (M.more {b} m c l) = head-mark b _ (mark-is m)
 
 -- the phasing that their text implies is the one that they imply
 later-implied : {t : List ℕ} {as′ : List Allele} → Later t as′ → impliedBy t ≡ allPhased as′
-unfolding impliedBy allPhased
-later-implied M.none = rw (count-none 47)
-later-implied (M.more {t = t} {rest} {as′ = as′} m c l) = by m (later-implied l)
+unfolding impliedBy
+later-implied M.none = rw (count-none 47, phased-none)
+later-implied (M.more {t = t} {rest} {a} {as′} m c l) = rw (phased-more a as′) (by m (later-implied l))
   where
     by : {b : ℕ} {p : Bool} → Mark b p → eqb (countOf 47 rest) 0 ≡ allPhased as′ → eqb (countOf 47 (b ∷ t ++ rest)) 0 ≡ (p && allPhased as′)
     by bar e = rw (count-other 47 (t ++ rest) {a = 124} (λ e. absurd (omega arith)), count-quiet rest (body-quiet c)) e
@@ -166,27 +164,23 @@ some-gathered k [] = refl
 some-gathered k (a ∷ as′) = rw (some-gathered (k + 1) as′)
 
 gathered-some : (k : ℕ) (ps : List (Option Allele)) (as′ : List Allele) → gathered k ps ≡ list as′ → ps ≡ map some as′
-unfolding gathered with
+unfolding gathered listOf
 gathered-some k [] as′ e = let q : [] ≡ as′ = cc in rw (← q)
 gathered-some k (none ∷ ps) as′ e = let z : _≡_ {A = ℕ} 0 1 = cc in absurd (omega arith)
-gathered-some k (some a ∷ ps) as′ e = by (gathered (k + 1) ps) (gathered-some (k + 1) ps) e
-  where
-    by : (r : Reading) → ((bs : List Allele) → r ≡ list bs → ps ≡ map some bs) → with a r ≡ list as′ → some a ∷ ps ≡ map some as′
-    by (list bs) ih e = let q : a ∷ bs ≡ as′ = cc in rw (← q, ih bs refl)
-    by (bad k) ih e = let z : _≡_ {A = ℕ} 0 1 = cc in absurd (omega arith)
-    by empty ih e = let z : _≡_ {A = ℕ} 0 1 = cc in absurd (omega arith)
+gathered-some k (some a ∷ ps) as′ e =
+    let bs : List Allele = listOf (gathered (k + 1) ps) in
+    let q : as′ ≡ a ∷ bs = sym (ap listOf e) ∙ with-cons a (gathered (k + 1) ps) e in
+    rw q (ap (λ (os : List (Option Allele)). some a ∷ os) (gathered-some (k + 1) ps bs (with-list a (gathered (k + 1) ps) e)))
 
 -- a text whose pieces are these alleles
 parts-read : (b : ℕ) (s : List ℕ) (as′ : List Allele) → partsOf (b ∷ s) ≡ map some as′ → readingOf (b ∷ s) ≡ list as′
-unfolding readingOf
-parts-read b s as′ e = rw e (some-gathered 0 as′)
+parts-read b s as′ e = rw (reading-some (b ∷ s) (λ z. omega arith), e) (some-gathered 0 as′)
 
 -- a byte, bytes that are no marks, and alleles with marks: one piece, and one for each of these
 parts-cut : (b : ℕ) {s t : List ℕ} {as′ : List Allele} → Quiet s → Later t as′ → (i : Bool) → i ≡ impliedBy (s ++ t)
     → partsOf (b ∷ s ++ t) ≡ alleleIn i (b ∷ s) ∷ map some as′
-unfolding partsOf piecesOf impliedOf
 parts-cut b {s} {t} q l i e =
-    rw (← e, head-quiet t q (later-head l), pieces-quiet t q)
+    rw (parts-first b (s ++ t), ← e, head-quiet t q (later-head l), pieces-quiet t q)
     (ap (λ (ps : List (Option Allele)). alleleIn i (b ∷ s) ∷ ps) (later-pieces i l))
 
 means-read : {t : List ℕ} {as′ : List Allele} → Means t as′ → readingOf t ≡ list as′
@@ -208,14 +202,14 @@ record Parted (s : List ℕ) (as′ : List Allele) : Type 0 where
   later : Later rest as′
 
 parted : (i : Bool) (s : List ℕ) (as′ : List Allele) → map (alleleIn i) (markedPieces s) ≡ map some as′ → Parted s as′
-unfolding headOf markedPieces
-parted i [] [] e = record { rest = []; whole = refl; later = M.none }
+unfolding markedPieces
+parted i [] [] e = record { rest = []; whole = rw head-none; later = M.none }
 parted i [] (a ∷ as′) e = let z : _≡_ {A = ℕ} 0 1 = cc in absurd (omega arith)
 parted i (b ∷ s) as′ e = by (isMark b) refl as′ e (parted i s)
   where
     first : {a : Allele} {bs : List Allele} → isMark b ≡ true → Piece i b (headOf s) a → Parted s bs → Parted (b ∷ s) (a ∷ bs)
     first k (with-mark m c) g =
-        record { rest = b ∷ headOf s ++ g .rest; whole = rw (k, g .whole); later = M.more m c (g .later) }
+        record { rest = b ∷ headOf s ++ g .rest; whole = rw (head-mark b s k, g .whole); later = M.more m c (g .later) }
     first k (plain m p c) g = absurd (false≢true (sym m ∙ k))
 
     by : (x : Bool) → isMark b ≡ x → (as′ : List Allele) → map (alleleIn i) (pick x ((b ∷ headOf s) ∷ markedPieces s) (markedPieces s)) ≡ map some as′
@@ -224,12 +218,14 @@ parted i (b ∷ s) as′ e = by (isMark b) refl as′ e (parted i s)
     by true m (a ∷ bs) e ih = first m (allele-piece i b (headOf s) a (cc)) (ih bs (cc))
     by false m as′ e ih =
         let g = ih as′ e in
-        record { rest = g .rest; whole = rw m (ap (λ (l : List ℕ). b ∷ l) (g .whole)); later = g .later }
+        record { rest = g .rest; whole = rw (head-more b s m) (ap (λ (l : List ℕ). b ∷ l) (g .whole)); later = g .later }
 
 read-means : (t : List ℕ) (as′ : List Allele) → readingOf t ≡ list as′ → Means t as′
-unfolding readingOf partsOf piecesOf impliedOf
-read-means [] as′ e = let z : _≡_ {A = ℕ} 0 1 = cc in absurd (omega arith)
-read-means (b ∷ s) as′ e = by as′ (gathered-some 0 (partsOf (b ∷ s)) as′ e)
+read-means [] as′ e =
+    let n = reading-none [] refl in
+    let z : _≡_ {A = ℕ} 0 1 = cc in
+    absurd (omega arith)
+read-means (b ∷ s) as′ e = by as′ (sym (parts-first b s) ∙ gathered-some 0 (partsOf (b ∷ s)) as′ (sym (reading-some (b ∷ s) (λ z. omega arith)) ∙ e))
   where
     i : Bool
     i = impliedBy s

@@ -1,12 +1,12 @@
 -- Cutting a text before each mark, shown byte by byte: the first piece, and the pieces of the text behind it. Assumes nothing.
 use Prim.Native.Nat.{ℕ, suc, _+_, _≤_, _<_, zero-le, suc-le-suc}
-use mathlib.Core.Path.{_≡_, refl, ap, _∙_}
+use mathlib.Core.Path.{_≡_, refl, sym, ap, _∙_}
 use mathlib.Core.List.{List, [], _∷_, map}
-use mathlib.Core.Bool.{Bool, true, false, _||_, or-true}
+use mathlib.Core.Bool.{Bool, true, false, false≢true, or-true}
 use mathlib.Core.Option.{Option}
 use native.Mathlib.Omega.{arith}
+use native.Mathlib.Decide.{ℕ-discrete}
 use lib.ListN.{length, getD, take, drop, drop-of-length-le}
-use lib.Dec.{eqb}
 use lib.Seq.{drop-drop}
 use borrow.Author.Tests.{eq-eqb, ne-eqb}
 use Rattle.text.specs.Pick.{pick}
@@ -45,14 +45,12 @@ module _ (implied : Bool) (b : ℕ) (s : List ℕ) where
 
 -- a piece that begins with a mark is the same whatever is implied
 marked-same : (i j : Bool) (b : ℕ) (s : List ℕ) → isMark b ≡ true → alleleIn i (b ∷ s) ≡ alleleIn j (b ∷ s)
-unfolding isMark alleleIn
-marked-same i j b s h = by (eqb b 124) (eqb b 47) h
+marked-same i j b s h = by (ℕ-discrete b 124) (ℕ-discrete b 47)
   where
-    by : (x y : Bool) → (x || y) ≡ true
-        → pick x (bodied true s) (pick y (bodied false s) (bodied i (b ∷ s))) ≡ pick x (bodied true s) (pick y (bodied false s) (bodied j (b ∷ s)))
-    by true y h = refl
-    by false true h = refl
-    by false false h = absurd (let z : _≡_ {A = ℕ} 0 1 = cc in omega arith)
+    by : Dec (b ≡ 124) → Dec (b ≡ 47) → alleleIn i (b ∷ s) ≡ alleleIn j (b ∷ s)
+    by (yes p) q = in-bar i b s p ∙ sym (in-bar j b s p)
+    by (no p) (yes q) = in-slash i b s q ∙ sym (in-slash j b s q)
+    by (no p) (no q) = absurd (false≢true (sym (mark-none b p q) ∙ h))
 
 marked-all : (i j : Bool) (s : List ℕ) → map (alleleIn i) (markedPieces s) ≡ map (alleleIn j) (markedPieces s)
 unfolding markedPieces
@@ -65,6 +63,19 @@ marked-all i j (b ∷ s) = by (isMark b) refl (marked-all i j s)
     by false m h = h
 
 -- ---- the bytes before the first mark
+
+pub head-none : headOf [] ≡ []
+unfolding headOf
+head-none = refl
+
+module _ (b : ℕ) (s : List ℕ) where
+  pub head-mark : isMark b ≡ true → headOf (b ∷ s) ≡ []
+  unfolding headOf
+  head-mark m = rw m
+
+  pub head-more : isMark b ≡ false → headOf (b ∷ s) ≡ b ∷ headOf s
+  unfolding headOf
+  head-more m = rw m
 
 pub head-le : (s : List ℕ) → length (headOf s) ≤ length s
 unfolding headOf
@@ -97,14 +108,19 @@ marked-pieces (b ∷ s) = by (isMark b) (marked-pieces s)
     by true h = refl
     by false h = h
 
+pub parts-first : (b : ℕ) (s : List ℕ) → partsOf (b ∷ s) ≡ alleleIn (impliedBy s) (b ∷ headOf s) ∷ map (alleleIn (impliedBy s)) (markedPieces s)
+unfolding partsOf piecesOf impliedOf
+parts-first b s = refl
+
 -- so the parts behind the first are those of the text behind it, whatever it implies itself
 parts-cons : (b : ℕ) (s : List ℕ) → partsOf (b ∷ s) ≡ alleleIn (impliedBy s) (b ∷ headOf s) ∷ partsOf (drop (length (headOf s)) s)
-unfolding partsOf piecesOf impliedOf
+unfolding partsOf
 parts-cons b s =
-    ap (λ (l : List (Option Allele)). alleleIn (impliedBy s) (b ∷ headOf s) ∷ l)
+    parts-first b s
+    ∙ ap (λ (l : List (Option Allele)). alleleIn (impliedBy s) (b ∷ headOf s) ∷ l)
     (marked-all (impliedBy s) (impliedOf (drop (length (headOf s)) s)) s ∙ ap (map (alleleIn (impliedOf (drop (length (headOf s)) s)))) (marked-pieces s))
 
-pub parts-none : partsOf [] ≡ []
+parts-none : partsOf [] ≡ []
 unfolding partsOf piecesOf
 parts-none = refl
 

@@ -1,61 +1,64 @@
 -- The readers: 16 first, then what the judge answers; only where that is done are the slices filled, and then they hold the list. Assumes nothing.
 use Prim.Native.Nat.{ℕ, _≤_}
-use mathlib.Core.Path.{_≡_, refl, sym, _∙_}
-use mathlib.Core.Bool.{Bool, true, false, and-false}
+use mathlib.Core.Path.{_≡_, refl, sym, ap, _∙_}
 use mathlib.Core.List.{List, [], _∷_}
 use mathlib.Core.Option.{Option, some, none}
 use native.Mathlib.Omega.{arith}
+use native.Mathlib.Decide.{decLe}
 use types.Run.{OneOf}
 use denote.Enum.Declared.{tagOf}
 use lib.ListN.{length}
-use lib.Dec.{ltb}
-use borrow.Author.Tests.{eq-eqb, ne-eqb, ltb-false}
-use Rattle.text.specs.Pick.{pick}
 use Rattle.text.specs.Answer.{Answer, says, numberOf}
 use Rattle.text.specs.Over.{over}
 use Rattle.genotype.specs.Reading.{Reading, list, bad, empty, readingOf, listOf, ListMeant, numbersOf, missingOf, phasedOf}
-use Rattle.genotype.specs.Answers.{wholeAnswer, fitAnswer, readAnswer, firstAbove, aboveAnswer, checkedAnswer, rowAnswer, laid, Room, Reads}
+use Rattle.genotype.specs.Answers.{readAnswer, firstAbove, aboveAnswer, checkedAnswer, rowAnswer, Room, Reads}
 use Rattle.genotype.specs.Paper.{readPaper}
 use Rattle.genotype.specs.declared.allele.Allele.{Allele}
 use Rattle.genotype.specs.declared.read.Read.{Read}
 use Rattle.genotype.specs.declared.read.Read.the-variants as R
 use Rattle.genotype.proofs.read.Read as D
 use Rattle.genotype.proofs.JudgeLaws.{other-number}
-
--- ---- what is left in a slice
-
-laid-other : (x : Read) (vs l : List ℕ) → OneOf (1 ∷ 2 ∷ 3 ∷ 4 ∷ 5 ∷ []) (tagOf D.the-type x) → l ≡ laid (readPaper x) vs l
-unfolding laid
-laid-other x vs l h = rw (ne-eqb (numberOf (readPaper x)) 0 (other-number x h))
-
-laid-done : (k : ℕ) (vs l : List ℕ) → over vs l ≡ laid (readPaper (R.Done k)) vs l
-unfolding laid readPaper
-laid-done k vs l = refl
+use Rattle.genotype.proofs.AnswerLaws.{answer-short, answer-bad, answer-empty, row-even, row-uneven-nm, row-uneven-np, laid-done, laid-refused}
 
 -- ---- the answer
 
 module _ (a : Answer) (as′ : List Allele) (n m p : List ℕ) where
+  refused : {r : Read} → rowAnswer n m p a ≡ readPaper r → (numberOf (readPaper r) ≡ 0 → ⊥) → Reads (rowAnswer n m p a) as′ n m p r n m p
+  refused e z =
+      rw e
+      (record {
+        answer = refl;
+        numbers = sym (laid-refused _ _ n z);
+        missing = sym (laid-refused _ _ m z);
+        phased = sym (laid-refused _ _ p z);
+      })
+
   pub lengths-nm : (length n ≡ length m → ⊥) → Reads (rowAnswer n m p a) as′ n m p R.Lengths n m p
-  unfolding rowAnswer readPaper laid
-  lengths-nm h = rw (ne-eqb _ _ h) (record { answer = refl; numbers = refl; missing = refl; phased = refl })
+  unfolding readPaper
+  lengths-nm h = refused (row-uneven-nm n m p a h) (λ z. omega arith)
 
   pub lengths-np : (length n ≡ length p → ⊥) → Reads (rowAnswer n m p a) as′ n m p R.Lengths n m p
-  unfolding rowAnswer readPaper laid
-  lengths-np h = rw (ne-eqb _ _ h, and-false) (record { answer = refl; numbers = refl; missing = refl; phased = refl })
+  unfolding readPaper
+  lengths-np h = refused (row-uneven-np n m p a h) (λ z. omega arith)
 
   module _ (e : length n ≡ length m) (f : length n ≡ length p) (x : Read) (h : readPaper x ≡ a) where
     row : rowAnswer n m p a ≡ readPaper x
-    unfolding rowAnswer
-    row = rw (eq-eqb _ _ e, eq-eqb _ _ f) (sym h)
+    row = row-even n m p a e f ∙ sym h
 
     pub row-other : OneOf (1 ∷ 2 ∷ 3 ∷ 4 ∷ 5 ∷ []) (tagOf D.the-type x) → Reads (rowAnswer n m p a) as′ n m p x n m p
-    row-other o = rw row (record { answer = refl; numbers = laid-other x _ n o; missing = laid-other x _ m o; phased = laid-other x _ p o })
+    row-other o = refused row (other-number x o)
 
     pub row-done : {k : ℕ} {n′ m′ p′ : List ℕ} → x ≡ R.Done k → n′ ≡ over (numbersOf as′) n → m′ ≡ over (missingOf as′) m → p′ ≡ over (phasedOf as′) p
         → Reads (rowAnswer n m p a) as′ n m p x n′ m′ p′
-    row-done {k} q u v w =
+    unfolding readPaper
+    row-done q u v w =
         rw (row, q)
-        (record { answer = refl; numbers = u ∙ laid-done k _ n; missing = v ∙ laid-done k _ m; phased = w ∙ laid-done k _ p })
+        (record {
+          answer = refl;
+          numbers = u ∙ sym (laid-done _ _ n refl);
+          missing = v ∙ sym (laid-done _ _ m refl);
+          phased = w ∙ sym (laid-done _ _ p refl);
+        })
 
 -- ---- a list that fits
 
@@ -65,14 +68,14 @@ record Fits (r : Reading) (room : ℕ) : Type 0 where
   few : length (listOf r) ≤ room
 
 fits : (r : Reading) (room k : ℕ) → readPaper (R.Done k) ≡ readAnswer r room → Fits r room
-unfolding readPaper readAnswer wholeAnswer fitAnswer listOf
-fits (list as′) room k e = by (ltb room (length as′)) refl e
+unfolding readPaper listOf
+fits (list as′) room k e = record { meant = refl; few = by (decLe (length as′) room) }
   where
-    by : (c : Bool) → ltb room (length as′) ≡ c → says 0 (k ∷ []) ≡ pick c (says 17 []) (says 0 (length as′ ∷ [])) → Fits (list as′) room
-    by true q e = absurd (let z : _≡_ {A = ℕ} 0 1 = cc in omega arith)
-    by false q e = record { meant = refl; few = ltb-false _ _ q }
-fits (bad j) room k e = absurd (let z : _≡_ {A = ℕ} 0 1 = cc in omega arith)
-fits empty room k e = absurd (let z : _≡_ {A = ℕ} 0 1 = cc in omega arith)
+    by : Dec (length as′ ≤ room) → length as′ ≤ room
+    by (yes h) = h
+    by (no h) = absurd (let z = ap numberOf (e ∙ answer-short room as′ (omega arith)) in omega arith)
+fits (bad j) room k e = absurd (let z = ap numberOf (e ∙ answer-bad room j) in omega arith)
+fits empty room k e = absurd (let z = ap numberOf (e ∙ answer-empty room) in omega arith)
 
 -- a check passes on only what none is above
 checked : (count : ℕ) (r : Reading) (room k : ℕ) → readPaper (R.Done k) ≡ checkedAnswer count r room → readPaper (R.Done k) ≡ readAnswer r room

@@ -32,7 +32,7 @@ use Rattle.genotype.specs.declared.allele.Allele.{Allele}
 use Rattle.genotype.specs.declared.step.Step.{Step}
 use Rattle.genotype.specs.declared.step.Step.the-variants as S
 use Rattle.genotype.proofs.PaperLaws.{step-paper-injective}
-use Rattle.genotype.proofs.PieceLaws.{mark-bar, mark-slash, mark-none, in-bar, in-slash, in-plain, head-le, head-take, parts-at}
+use Rattle.genotype.proofs.PieceLaws.{mark-bar, mark-slash, mark-none, in-bar, in-slash, in-plain, head-none, head-mark, head-more, head-le, head-take, parts-at}
 
 -- ---- the next mark
 
@@ -46,8 +46,7 @@ seek-first h = record { within = h; same = refl }
 
 module _ {s : List ℕ} {from i : ℕ} (g : Seeking s from i) where
   at-mark : i < length s → isMark (getD s i 0) ≡ true → i ≡ from + length (headOf (drop from s))
-  unfolding headOf
-  at-mark h m = let e = rw (here s i h) at (g .same) in omega (arith, simp m at e)
+  at-mark h m = let e = rw (here s i h, head-mark _ (drop (i + 1) s) m) at (g .same) in omega arith
 
   pub seek-bar : i < length s → getD s i 0 ≡ 124 → i ≡ from + length (headOf (drop from s))
   seek-bar h e = at-mark h (mark-bar _ e)
@@ -56,14 +55,12 @@ module _ {s : List ℕ} {from i : ℕ} (g : Seeking s from i) where
   seek-slash h e = at-mark h (mark-slash _ e)
 
   pub seek-turn : i < length s → (getD s i 0 ≡ 124 → ⊥) → (getD s i 0 ≡ 47 → ⊥) → Seeking s from (i + 1)
-  unfolding headOf
   seek-turn h p q =
-      let e = rw (here s i h) at (g .same) in
-      record { within = omega arith; same = omega (arith, simp (mark-none _ p q) at e) }
+      let e = rw (here s i h, head-more _ (drop (i + 1) s) (mark-none _ p q)) at (g .same) in
+      record { within = omega arith; same = omega arith }
 
   pub seek-past : length s ≤ i → i ≡ from + length (headOf (drop from s))
-  unfolding headOf
-  seek-past h = omega (arith, rw (drop-of-length-le s h) at (g .same))
+  seek-past h = omega (arith, rw (drop-of-length-le s h, head-none) at (g .same))
 
 -- ---- what the rest implies
 
@@ -197,5 +194,13 @@ step-means t at x e = placed (ltb (length t) at) refl
     placed : (c : Bool) → ltb (length t) at ≡ c → StepTells t at x
     placed true h = let l = ltb-true _ _ h in is S.Beyond (step-beyond t at l) l
     placed false h = reached (ltb-false _ _ h) (ltb at (length t)) refl
+
+-- a step that finds an allele moves on
+module _ (t : List ℕ) (at : ℕ) (x : Step) (e : stepPaper x ≡ stepAnswer t at) (a : Allele) (next : ℕ) (q : x ≡ S.Found a next) where
+  pub found : Further t at a next
+  found = step-means t at (S.Found a next) (rw q at e)
+
+  pub found-less : length t - next < length t - at
+  found-less = let f = found in omega arith
 
 pub ruleset laws = (seek-first, seek-bar, seek-slash, seek-turn, seek-past, implied-more, implied-rest, body-dot, body-value, body-bad, step-beyond, step-nothing, step-bar, step-slash, step-plain)

@@ -1,41 +1,25 @@
 -- The writer writes the one shortest permitted spelling, refuses exactly where there is none, and then leaves the output as it was:
 -- an answer that is done has a text that fits. Assumes nothing.
 use Prim.Native.Nat.{ℕ, _+_, _≤_, _<_}
-use mathlib.Core.Path.{_≡_, refl, ap}
-use mathlib.Core.Bool.{Bool, true, false}
+use mathlib.Core.Path.{_≡_, refl, ap, _∙_}
+use mathlib.Core.Bool.{Bool}
 use mathlib.Core.List.{List, [], _∷_}
 use native.Mathlib.Omega.{arith}
-use native.Mathlib.Decide.{decLt}
+use native.Mathlib.Decide.{decLe, decLt}
 use lib.ListN.{length, drop, length-drop}
-use lib.Dec.{leb}
-use borrow.Author.Tests.{le-leb, leb-true, eq-eqb, ne-eqb}
-use Rattle.text.specs.Pick.{pick}
+use borrow.Author.Tests.{eq-eqb, ne-eqb}
 use Rattle.text.specs.Answer.{says, numberOf}
+use Rattle.text.specs.Over.{roomAnswer}
 use Rattle.text.proofs.CopyLaws.{room-fits, room-lacks}
 use Rattle.genotype.specs.declared.allele.Allele.{Allele}
 use Rattle.spelling.specs.Spelling.{from44, Spelled, text, bad, phasing, empty, spell}
 use Rattle.spelling.specs.Permitted.{Permitted}
 use Rattle.spelling.specs.Write.{spelledAnswer, listAnswer, textOf}
 use Rattle.spelling.specs.Demands.{writer, Exact, WritesShortest, Untouched}
+use Rattle.spelling.proofs.WriteLaws.{list-inside, list-beyond}
 use Rattle.spelling.proofs.Shortest.{spelled-shortest, every-spelling}
 
 -- ---- an answer that is done, and the text of it
-
-record Spells (s : Spelled) (l : List ℕ) : Type 0 where
-  bytes : List ℕ
-  spelled : s ≡ text bytes
-  fits : length bytes ≤ length l
-
-spelled-done : (s : Spelled) (l : List ℕ) → numberOf (spelledAnswer s l) ≡ 0 → Spells s l
-unfolding spelledAnswer
-spelled-done (text t) l e = record { bytes = t; spelled = refl; fits = by (decLt (length l) (length t)) }
-  where
-    by : Dec (length l < length t) → length t ≤ length l
-    by (yes h) = let z = ap numberOf (room-lacks t l h) in absurd (omega arith)
-    by (no h) = omega arith
-spelled-done (bad k) l e = absurd (omega arith)
-spelled-done phasing l e = absurd (omega arith)
-spelled-done empty l e = absurd (omega arith)
 
 record Done (late : Bool) (as′ : List Allele) (out : List ℕ) (at : ℕ) : Type 0 where
   bytes : List ℕ
@@ -44,24 +28,34 @@ record Done (late : Bool) (as′ : List Allele) (out : List ℕ) (at : ℕ) : Ty
 
 module _ (late : Bool) (as′ : List Allele) (out : List ℕ) (at : ℕ) where
   done : numberOf (listAnswer as′ late out at) ≡ 0 → Done late as′ out at
-  unfolding listAnswer
-  done e = by (leb at (length out)) refl e
+  unfolding spelledAnswer
+  done e = by (decLe at (length out))
     where
-      by : (t : Bool) → leb at (length out) ≡ t → numberOf (pick t (spelledAnswer (spell late as′) (drop at out)) (says 6 [])) ≡ 0 → Done late as′ out at
-      by true h e =
-          let w = leb-true at (length out) h in
-          let s = spelled-done (spell late as′) (drop at out) e in
+      rest : List ℕ
+      rest = drop at out
+
+      roomy : (t : List ℕ) → numberOf (roomAnswer t rest) ≡ 0 → Dec (length rest < length t) → length t ≤ length rest
+      roomy t e (yes h) = let z = ap numberOf (room-lacks t rest h) in absurd (omega arith)
+      roomy t e (no h) = omega arith
+
+      spelled-by : at ≤ length out → (s : Spelled) → spell late as′ ≡ s → numberOf (spelledAnswer s rest) ≡ 0 → Done late as′ out at
+      spelled-by h (text t) q e =
+          let f = roomy t e (decLt (length rest) (length t)) in
           let k = length-drop at out in
-          let f = s .fits in
-          record { bytes = s .bytes; spelled = s .spelled; fits = omega arith }
-      by false h e = absurd (omega arith)
+          record { bytes = t; spelled = q; fits = omega arith }
+      spelled-by h (bad k) q e = absurd (omega arith)
+      spelled-by h phasing q e = absurd (omega arith)
+      spelled-by h empty q e = absurd (omega arith)
+
+      by : Dec (at ≤ length out) → Done late as′ out at
+      by (yes h) = spelled-by h (spell late as′) refl (rw (list-inside as′ late out at h) at e)
+      by (no h) = let z = ap numberOf (list-beyond as′ late out at (omega arith)) in absurd (omega arith)
 
   done-answer : (t : List ℕ) → spell late as′ ≡ text t → at + length t ≤ length out → listAnswer as′ late out at ≡ says 0 (length t ∷ [])
-  unfolding listAnswer spelledAnswer
+  unfolding spelledAnswer
   done-answer t e f =
-      let w : at ≤ length out = omega arith in
       let k = length-drop at out in
-      rw (le-leb at (length out) w, e) (room-fits t (drop at out) (omega arith))
+      list-inside as′ late out at (omega arith) ∙ rw e (room-fits t (drop at out) (omega arith))
 
 -- ---- the demands
 

@@ -11,11 +11,12 @@ use Rattle.text.specs.Answer.{Answer, says, numberOf}
 use Rattle.text.specs.Over.{overAt}
 use Rattle.text.proofs.Lists.{take-overAt}
 use Rattle.decimal.proofs.Shortest.{shortest-one}
-use Rattle.genotype.specs.Means.{allPhased}
 use Rattle.genotype.specs.declared.allele.Allele.{Allele}
-use Rattle.spelling.specs.Spelling.{bodyText, alleleText, listText, isSound, firstUnsound, text, shaped, judged, spell}
+use Rattle.genotype.proofs.PhasedLaws.{phased-none}
+use Rattle.spelling.specs.Spelling.{shaped}
 use Rattle.spelling.specs.Permitted.{Permitted, TheShortest}
 use Rattle.spelling.specs.Demands.{Writer, writer, Exact, WritesShortest}
+use Rattle.spelling.proofs.SpellLaws.{sound-there, body-number, list-none, list-bare, unsound-none, unsound-more, spell-sound}
 use Rattle.spelling.proofs.Shortest.{spelled-shortest}
 use Rattle.spelling.proofs.Exact.{exact, writes-shortest}
 
@@ -37,15 +38,21 @@ module _ {Q : List ℕ → Type 0} {t u : List ℕ} (p : TheShortest Q t) (q : T
 
 -- ---- the input
 
-phased-zero : List Allele
-phased-zero = record { number = 0; missing = false; phased = true } ∷ []
+abbrev lone : Allele
+lone = record { number = 0; missing = false; phased = true }
+
+abbrev phased-zero : List Allele
+phased-zero = lone ∷ []
 
 blank : List ℕ
 blank = 0 ∷ []
 
 zero-shortest : (late : Bool) → TheShortest (Permitted late phased-zero) (48 ∷ [])
-unfolding phased-zero spell judged shaped firstUnsound isSound listText alleleText bodyText allPhased
-zero-shortest late = spelled-shortest late phased-zero (48 ∷ []) (rw (shortest-one 0 (omega arith)))
+unfolding shaped
+zero-shortest late =
+    let sound = unsound-more 0 lone [] (sym (sound-there lone refl)) ∙ unsound-none 1 in
+    spelled-shortest late phased-zero (48 ∷ [])
+    (spell-sound late lone [] sound ∙ rw (phased-none, list-bare lone [], body-number lone refl, list-none, shortest-one 0 (omega arith)))
 
 -- an exact writer writes it
 must-write : (write : Writer) → Exact write → (numberOf (write 4 4 phased-zero blank 0 .answer) ≡ 0 → ⊥) → ⊥

@@ -13,3 +13,4 @@ pub mod Shortest
 pub mod Exact
 pub mod RoundTrip
 pub mod Impostors
+pub mod EndToEnd

@@ -1,41 +1,35 @@
 -- The text of an allele, and of the alleles after the first, is the only permitted one: by cases and by induction. Assumes
 -- nothing.
 use Prim.Native.Nat.{ℕ, _+_}
-use mathlib.Core.Path.{_≡_, refl}
-use mathlib.Core.Bool.{Bool, true, false, not, _||_}
+use mathlib.Core.Path.{_≡_, refl, sym, _∙_}
+use mathlib.Core.Bool.{Bool, true, false}
 use mathlib.Core.List.{List, [], _∷_}
-use mathlib.Core.Option.{some, none}
-use native.Mathlib.Omega.{arith}
-use lib.Dec.{eqb}
-use borrow.Author.Tests.{eqb-true}
-use Rattle.text.specs.Pick.{pick}
-use Rattle.decimal.specs.Shortest.{shortest}
+use mathlib.Core.Option.{none}
+use borrow.Author.Tests.{eqb-true, eq-eqb}
 use Rattle.genotype.specs.Means.{Mark, bar, slash}
 use Rattle.genotype.specs.declared.allele.Allele.{Allele}
-use Rattle.spelling.specs.Spelling.{bodyText, markByte, alleleText, listText, isSound, firstUnsound}
+use Rattle.spelling.specs.Spelling.{bodyText, markByte, listText, isSound, firstUnsound}
 use Rattle.spelling.specs.Permitted as P
 use Rattle.spelling.specs.Permitted.{Plainly, dot, number, Following, more}
+use Rattle.spelling.proofs.SpellLaws.{sound-missing, sound-there, body-dot, body-number, list-none, list-marked, unsound-none, unsound-more, sound-parts}
 use Rattle.spelling.proofs.PlainLaws.{plain-only, shortest-plain}
 
 -- ---- one allele
 
 pub plainly-only : {a : Allele} {s : List ℕ} → Plainly a s → s ≡ bodyText a
-unfolding bodyText
-plainly-only (dot m n) = rw m
-plainly-only (number m p) = rw m (plain-only _ _ p)
+plainly-only (dot m n) = sym (body-dot _ m)
+plainly-only (number m p) = plain-only _ _ p ∙ sym (body-number _ m)
 
 pub plainly-has : (a : Allele) → isSound a ≡ true → Plainly a (bodyText a)
-unfolding bodyText isSound
-plainly-has a h = by (a .missing) refl h
+plainly-has a h = by (a .missing) refl
   where
-    by : (m : Bool) → a .missing ≡ m → (not m || eqb (a .number) 0) ≡ true → Plainly a (pick m (46 ∷ []) (shortest (a .number)))
-    by true e h = dot e (eqb-true (a .number) 0 h)
-    by false e h = number e (shortest-plain (a .number))
+    by : (m : Bool) → a .missing ≡ m → Plainly a (bodyText a)
+    by true e = rw (body-dot a e) (dot e (eqb-true (a .number) 0 (sound-missing a e ∙ h)))
+    by false e = rw (body-number a e) (number e (shortest-plain (a .number)))
 
 pub plainly-sound : {a : Allele} {s : List ℕ} → Plainly a s → isSound a ≡ true
-unfolding isSound
-plainly-sound (dot m n) = rw (m, n)
-plainly-sound (number m p) = rw m
+plainly-sound (dot m n) = sym (sound-missing _ m) ∙ eq-eqb _ 0 n
+plainly-sound (number m p) = sym (sound-there _ m)
 
 pub mark-only : {b : ℕ} {p : Bool} → Mark b p → b ≡ markByte p
 mark-only bar = refl
@@ -45,35 +39,19 @@ pub mark-has : (p : Bool) → Mark (markByte p) p
 mark-has true = bar
 mark-has false = slash
 
--- ---- a list without an unsound allele
-
-pub sound-cons : (k : ℕ) (a : Allele) (as′ : List Allele) → isSound a ≡ true → firstUnsound (k + 1) as′ ≡ none → firstUnsound k (a ∷ as′) ≡ none
-unfolding firstUnsound
-sound-cons k a as′ h e = rw h e
-
-pub sound-parts : (k : ℕ) (a : Allele) (as′ : List Allele) → firstUnsound k (a ∷ as′) ≡ none → (isSound a ≡ true) × (firstUnsound (k + 1) as′ ≡ none)
-unfolding firstUnsound
-sound-parts k a as′ e = by (isSound a) refl e
-  where
-    by : (t : Bool) → isSound a ≡ t → pick t (firstUnsound (k + 1) as′) (some k) ≡ none → (isSound a ≡ true) × (firstUnsound (k + 1) as′ ≡ none)
-    by true h e = (h, e)
-    by false h e = let z : _≡_ {A = ℕ} 0 1 = cc in absurd (omega arith)
-
 -- ---- the alleles after the first
 
 pub following-only : {as′ : List Allele} {t : List ℕ} → Following as′ t → t ≡ listText false as′
-unfolding listText alleleText
-following-only P.none = refl
-following-only (more m p f) = rw (mark-only m, plainly-only p, following-only f)
+following-only P.none = sym (list-none false)
+following-only (more {a = a} {as′} m p f) = rw (mark-only m, plainly-only p, following-only f) (sym (list-marked a as′))
 
 pub following-has : (k : ℕ) (as′ : List Allele) → firstUnsound k as′ ≡ none → Following as′ (listText false as′)
-unfolding listText alleleText
-following-has k [] e = P.none
+following-has k [] e = rw (list-none false) P.none
 following-has k (a ∷ as′) e =
     let h = sound-parts k a as′ e in
-    more (mark-has (a .phased)) (plainly-has a (h .0)) (following-has (k + 1) as′ (h .1))
+    rw (list-marked a as′)
+    (more (mark-has (a .phased)) (plainly-has a (h .0)) (following-has (k + 1) as′ (h .1)))
 
 pub following-sound : (k : ℕ) {as′ : List Allele} {t : List ℕ} → Following as′ t → firstUnsound k as′ ≡ none
-unfolding firstUnsound
-following-sound k P.none = refl
-following-sound k (more m p f) = rw (plainly-sound p) (following-sound (k + 1) f)
+following-sound k P.none = unsound-none k
+following-sound k (more m p f) = unsound-more k _ _ (plainly-sound p) ∙ following-sound (k + 1) f

@@ -14,13 +14,13 @@ use Rattle.text.specs.Pick.{pick}
 use Rattle.genotype.specs.Means.{allPhased}
 use Rattle.genotype.specs.declared.allele.Allele.{Allele}
 use Rattle.genotype.proofs.PhasedLaws.{phased-none, phased-more}
-use Rattle.spelling.specs.Spelling.{bodyText, alleleText, listText, isSound, firstUnsound, text, bad, phasing, empty, shaped, judged, spell}
+use Rattle.spelling.specs.Spelling.{bodyText, alleleText, listText, isSound, firstUnsound, text, bad, phasing, empty, shaped, spell}
 use Rattle.spelling.specs.Tally.{begun, shortened, counted, tallied, tallyFrom, tallyOf, shapeOf, planOf}
 use Rattle.spelling.specs.declared.tally.Tally.{Tally}
 use Rattle.spelling.specs.declared.tally.Plan.{Plan}
 use Rattle.spelling.specs.declared.tally.Plan.the-variants as P
-use Rattle.spelling.proofs.SpellLaws.{bare-text, marked-length, list-none, list-length, marked-longer}
-use Rattle.spelling.proofs.TallyLaws.{short-not, short-fits, firstly, stopped, tallied-stopped, tallied-unsound, tallied-sound, counted-first, counted-later, plan-empty, plan-sound, plan-stopped}
+use Rattle.spelling.proofs.SpellLaws.{bare-text, marked-length, list-none, list-length, marked-longer, unsound-none, unsound-more, unsound-here, sound-parts, spell-none, spell-sound, spell-bad}
+use Rattle.spelling.proofs.TallyLaws.{begin-is, short-not, short-fits, firstly, stopped, tallied-stopped, tallied-unsound, tallied-sound, counted-first, counted-later, plan-empty, plan-sound, plan-stopped}
 
 -- ---- a list whose missing alleles have the number 0
 
@@ -74,36 +74,27 @@ gather-later {t} a k g s z =
     (record { sound = g .sound; first = g .first; later = ap (λ (b : Bool). b && a .phased) (g .later); fits = g .fits; left = g .left }))
 
 gather-first : (a : Allele) (room : ℕ) → isSound a ≡ true → Gathered (tallied (begun room) a 0) (a .phased) true room (length (alleleText true a))
-unfolding begun
 gather-first a room s =
     let g : Gathered (firstly (begun room) (a .phased)) (a .phased) true room 0 =
-    record { sound = refl; first = refl; later = refl; fits = sym (le-leb 0 room zero-le); left = λ _. sym (sub-zero room) } in
-    rw (tallied-sound (begun room) a 0 refl s, counted-first (begun room) a 0 refl, bare-text a)
+    rw (← begin-is room) (record { sound = refl; first = refl; later = refl; fits = sym (le-leb 0 room zero-le); left = λ _. sym (sub-zero room) }) in
+    rw (tallied-sound (begun room) a 0 (g .sound) s, counted-first (begun room) a 0 refl, bare-text a)
     (rw (zero-add (length (bodyText a))) at (gather-short (length (bodyText a)) g))
 
 gather-from : (as′ : List Allele) (k : ℕ) {t : Tally} {f l : Bool} {room n : ℕ} → Gathered t f l room n → (k ≡ 0 → ⊥) → firstUnsound k as′ ≡ none
     → Gathered (tallyFrom t k as′) f (l && allPhased as′) room (n + length (listText false as′))
-unfolding tallyFrom firstUnsound
+unfolding tallyFrom
 gather-from [] k g z e = rw (phased-none, list-none, and-true, add-zero) g
-gather-from (a ∷ as′) k {t} {f} {l} {room} {n} g z e = by (isSound a) refl (λ s. gather-from as′ (k + 1) (gather-later a k g s z) (λ y. omega arith)) e
-  where
-    by : (b : Bool) → isSound a ≡ b
-        → (isSound a ≡ true → firstUnsound (k + 1) as′ ≡ none
-        → Gathered (tallyFrom (tallied t a k) (k + 1) as′) f ((l && a .phased) && allPhased as′) room (n + length (alleleText false a) + length (listText false as′)))
-        → pick b (firstUnsound (k + 1) as′) (some k) ≡ none
-        → Gathered (tallyFrom (tallied t a k) (k + 1) as′) f (l && allPhased (a ∷ as′)) room (n + length (listText false (a ∷ as′)))
-    by true s ih e = rw (phased-more a as′, ← and-assoc l (a .phased) (allPhased as′), list-length false a as′, ← add-assoc) (ih s e)
-    by false s ih e = let y : _≡_ {A = ℕ} 0 1 = cc in absurd (omega arith)
+gather-from (a ∷ as′) k {l = l} g z e =
+    let s = sound-parts k a as′ e in
+    rw (phased-more a as′, ← and-assoc l (a .phased) (allPhased as′), list-length false a as′, ← add-assoc)
+    (gather-from as′ (k + 1) (gather-later a k g (s .0) z) (λ y. omega arith) (s .1))
 
-module _ (a : Allele) (as′ : List Allele) (room : ℕ) where
-  gather-all : firstUnsound 0 (a ∷ as′) ≡ none → Gathered (tallyOf room (a ∷ as′)) (a .phased) (allPhased as′) room (length (listText true (a ∷ as′)))
-  unfolding tallyOf tallyFrom firstUnsound
-  gather-all e = by (isSound a) refl e
-    where
-      by : (b : Bool) → isSound a ≡ b → pick b (firstUnsound 1 as′) (some 0) ≡ none
-          → Gathered (tallyFrom (tallied (begun room) a 0) 1 as′) (a .phased) (allPhased as′) room (length (listText true (a ∷ as′)))
-      by true s e = rw (list-length true a as′) (gather-from as′ 1 (gather-first a room s) (λ y. omega arith) e)
-      by false s e = let y : _≡_ {A = ℕ} 0 1 = cc in absurd (omega arith)
+gather-all : (a : Allele) (as′ : List Allele) (room : ℕ) → firstUnsound 0 (a ∷ as′) ≡ none
+    → Gathered (tallyOf room (a ∷ as′)) (a .phased) (allPhased as′) room (length (listText true (a ∷ as′)))
+unfolding tallyOf tallyFrom
+gather-all a as′ room e =
+    let s = sound-parts 0 a as′ e in
+    rw (list-length true a as′) (gather-from as′ 1 (gather-first a room (s .0)) (λ y. omega arith) (s .1))
 
 -- ---- a list with a missing allele that has a number
 
@@ -131,14 +122,16 @@ counted-sound t a k =
     ]
 
 stop-from : (as′ : List Allele) (k : ℕ) (t : Tally) (i : ℕ) → t .sound ≡ true → firstUnsound k as′ ≡ some i → Stopped (tallyFrom t k as′) i
-unfolding tallyFrom firstUnsound
-stop-from [] k t i h e = let y : _≡_ {A = ℕ} 0 1 = cc in absurd (omega arith)
-stop-from (a ∷ as′) k t i h e = by (isSound a) refl (stop-from as′ (k + 1) (tallied t a k) i) e
+unfolding tallyFrom
+stop-from [] k t i h e = let n = unsound-none k in let y : _≡_ {A = ℕ} 0 1 = cc in absurd (omega arith)
+stop-from (a ∷ as′) k t i h e = by (isSound a) refl (stop-from as′ (k + 1) (tallied t a k) i)
   where
     by : (b : Bool) → isSound a ≡ b → (tallied t a k .sound ≡ true → firstUnsound (k + 1) as′ ≡ some i → Stopped (tallyFrom (tallied t a k) (k + 1) as′) i)
-        → pick b (firstUnsound (k + 1) as′) (some k) ≡ some i → Stopped (tallyFrom (tallied t a k) (k + 1) as′) i
-    by true s ih e = ih (rw (tallied-sound t a k h s) (counted-sound t a k ∙ h)) e
-    by false s ih e = rw (tallied-unsound t a k h s, stays as′ (k + 1) (stopped t k) refl) (record { sound = refl; bad = cc })
+        → Stopped (tallyFrom (tallied t a k) (k + 1) as′) i
+    by true s ih = ih (rw (tallied-sound t a k h s) (counted-sound t a k ∙ h)) (sym (unsound-more k a as′ s) ∙ e)
+    by false s ih =
+        let q = sym (unsound-here k a as′ s) ∙ e in
+        rw (tallied-unsound t a k h s, stays as′ (k + 1) (stopped t k) refl) (record { sound = refl; bad = cc })
 
 -- ---- the plan
 
@@ -191,8 +184,8 @@ module _ (a : Allele) (as′ : List Allele) (late : Bool) (room : ℕ) where
       by false false e h d = e
 
 pub plan-told : (as′ : List Allele) (late : Bool) (room : ℕ) → Told as′ late room (planOf (tallyOf room as′) (length as′) late)
-unfolding spell judged tallyOf begun
-plan-told [] late room = rw (← plan-empty (tallyOf room []) 0 late refl)
+unfolding tallyOf
+plan-told [] late room = rw (← plan-empty (tallyOf room []) 0 late refl) (spell-none late)
 plan-told (a ∷ as′) late room = by (firstUnsound 0 (a ∷ as′)) refl
   where
     t : Tally
@@ -205,7 +198,7 @@ plan-told (a ∷ as′) late room = by (firstUnsound 0 (a ∷ as′)) refl
     some-there z = omega arith
 
     by : (o : Option ℕ) → firstUnsound 0 (a ∷ as′) ≡ o → Told (a ∷ as′) late room (planOf t n late)
-    by none e = let g = gather-all a as′ room e in rw (plan-sound t n late some-there (g .sound)) (shape-told a as′ late room t g (rw e))
+    by none e = let g = gather-all a as′ room e in rw (plan-sound t n late some-there (g .sound)) (shape-told a as′ late room t g (spell-sound late a as′ e))
     by (some i) e =
-        let g = stop-from (a ∷ as′) 0 (begun room) i refl e in
-        rw (plan-stopped t n late some-there (g .sound), g .bad) (rw e)
+        let g = stop-from (a ∷ as′) 0 (begun room) i (rw (← begin-is room)) e in
+        rw (plan-stopped t n late some-there (g .sound), g .bad) (spell-bad late a as′ e)

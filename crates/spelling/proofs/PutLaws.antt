@@ -18,7 +18,7 @@ use Rattle.decimal.specs.Shortest.{shortest}
 use Rattle.genotype.specs.declared.allele.Allele.{Allele}
 use Rattle.spelling.specs.Spelling.{bodyText, markByte, alleleText}
 use Rattle.spelling.specs.Put.{fitsAt, PutsAt}
-use Rattle.spelling.proofs.SpellLaws.{body-dot, body-number, bare-text, marked-length}
+use Rattle.spelling.proofs.SpellLaws.{body-dot, body-number, bare-text, marked-text, marked-length}
 
 -- ---- without its mark
 
@@ -32,11 +32,11 @@ module _ (a : Allele) {l l′ : List ℕ} {r : Written} where
 -- ---- at a place
 
 module _ (vs : List ℕ) (at : ℕ) (l : List ℕ) where
-  pub puts-lacks : length l < at + length vs → PutsAt vs at l at l
+  puts-lacks : length l < at + length vs → PutsAt vs at l at l
   unfolding fitsAt
   puts-lacks h = record { place = rw (lt-leb _ _ h); bytes = rw (lt-leb _ _ h) }
 
-  pub puts-fits : at + length vs ≤ length l → PutsAt vs at l (at + length vs) (overAt at vs l)
+  puts-fits : at + length vs ≤ length l → PutsAt vs at l (at + length vs) (overAt at vs l)
   unfolding fitsAt
   puts-fits h = record { place = rw (le-leb _ _ h); bytes = rw (le-leb _ _ h) }
 
@@ -100,9 +100,9 @@ module _ (a : Allele) (bare : Bool) (at : ℕ) (l : List ℕ) where
 
           pub put-mark : {b : ℕ} → b ≡ markByte (a .phased)
               → PutsAt (alleleText bare a) at l (at + 1 + n) (set (putMid (at + 1) (length l - (at + 1)) l ys) at b)
-          unfolding alleleText
           put-mark s =
-              rw (e, s, mark-count, rest-put (at + 1) (bodyText a) l ys (mark-wrote .bytes), overAt-before l at (bodyText a) (markByte (a .phased)) (omega arith))
+              rw
+              (e, s, mark-count, rest-put (at + 1) (bodyText a) l ys (mark-wrote .bytes), overAt-before l at (bodyText a) (markByte (a .phased)) (omega arith), ← marked-text a)
               (puts-fits (alleleText false a) at l mark-room)
 
         pub put-mark-short : v ≡ Short → PutsAt (alleleText bare a) at l at (putMid (at + 1) (length l - (at + 1)) l ys)

@@ -1,7 +1,7 @@
 -- What is spelled is the one shortest permitted spelling: a permitted one is the text with the first mark or without, and with
 -- it the text is a byte longer. Assumes nothing.
-use Prim.Native.Nat.{ℕ, suc, _<_}
-use mathlib.Core.Path.{_≡_, refl, sym}
+use Prim.Native.Nat.{ℕ, _<_}
+use mathlib.Core.Path.{_≡_, refl, sym, _∙_}
 use mathlib.Core.Bool.{Bool, true, false, Bool·beq}
 use mathlib.Core.List.{List, [], _∷_}
 use mathlib.Core.Option.{Option, some, none}
@@ -9,9 +9,10 @@ use native.Mathlib.Omega.{arith}
 use lib.ListN.{length}
 use Rattle.genotype.specs.Means.{allPhased}
 use Rattle.genotype.specs.declared.allele.Allele.{Allele}
-use Rattle.spelling.specs.Spelling.{alleleText, listText, firstUnsound, text, shaped, judged, spell}
+use Rattle.spelling.specs.Spelling.{listText, firstUnsound, text, shaped, spell}
 use Rattle.spelling.specs.Permitted.{Permitted, bare, marked, TheShortest}
-use Rattle.spelling.proofs.PermittedLaws.{plainly-only, plainly-has, plainly-sound, mark-only, mark-has, sound-cons, sound-parts, following-only, following-has, following-sound}
+use Rattle.spelling.proofs.SpellLaws.{list-bare, list-marked, marked-longer, unsound-more, sound-parts, spell-none, spell-sound, spell-bad}
+use Rattle.spelling.proofs.PermittedLaws.{plainly-only, plainly-has, plainly-sound, mark-only, mark-has, following-only, following-has, following-sound}
 
 -- ---- a permitted spelling is one of two texts
 
@@ -20,13 +21,8 @@ data OneOfTwo (late : Bool) (a : Allele) (as′ : List Allele) (u : List ℕ) : 
   is-marked : late ≡ true → u ≡ listText false (a ∷ as′) → OneOfTwo late a as′ u
 
 one-of-two : {late : Bool} {a : Allele} {as′ : List Allele} {u : List ℕ} → Permitted late (a ∷ as′) u → OneOfTwo late a as′ u
-unfolding listText alleleText
-one-of-two (bare e p f) = is-bare e (rw (plainly-only p, following-only f))
-one-of-two (marked l m p f) = is-marked l (rw (mark-only m, plainly-only p, following-only f))
-
-longer : (a : Allele) (as′ : List Allele) → length (listText false (a ∷ as′)) ≡ suc (length (listText true (a ∷ as′)))
-unfolding listText alleleText
-longer a as′ = refl
+one-of-two {a = a} {as′} (bare e p f) = is-bare e (rw (plainly-only p, following-only f) (sym (list-bare a as′)))
+one-of-two {a = a} {as′} (marked l m p f) = is-marked l (rw (mark-only m, plainly-only p, following-only f) (sym (list-marked a as′)))
 
 -- ---- two phasings are equal or not
 
@@ -46,49 +42,50 @@ same-no false false e f = let z : _≡_ {A = ℕ} 0 1 = cc in omega arith
 
 module _ (late : Bool) (a : Allele) (as′ : List Allele) (h : firstUnsound 0 (a ∷ as′) ≡ none) where
   shortest-bare : a .phased ≡ allPhased as′ → TheShortest (Permitted late (a ∷ as′)) (listText true (a ∷ as′))
-  unfolding listText alleleText
   shortest-bare e =
       let s = sound-parts 0 a as′ h in
-      record { has = bare e (plainly-has a (s .0)) (following-has 1 as′ (s .1)); least = λ u p n. by (one-of-two p) n }
+      record { has = rw (list-bare a as′) (bare e (plainly-has a (s .0)) (following-has 1 as′ (s .1))); least = λ u p n. by (one-of-two p) n }
     where
       by : {u : List ℕ} → OneOfTwo late a as′ u → (u ≡ listText true (a ∷ as′) → ⊥) → length (listText true (a ∷ as′)) < length u
       by (is-bare e f) n = absurd (n f)
-      by (is-marked l f) n = let k = longer a as′ in rw f (omega arith)
+      by (is-marked l f) n = let k = marked-longer a as′ in rw f (omega arith)
 
   shortest-marked : late ≡ true → (a .phased ≡ allPhased as′ → ⊥) → TheShortest (Permitted late (a ∷ as′)) (listText false (a ∷ as′))
-  unfolding listText alleleText
   shortest-marked l d =
       let s = sound-parts 0 a as′ h in
-      record { has = marked l (mark-has (a .phased)) (plainly-has a (s .0)) (following-has 1 as′ (s .1)); least = λ u p n. by (one-of-two p) n }
+      record { has = rw (list-marked a as′) (marked l (mark-has (a .phased)) (plainly-has a (s .0)) (following-has 1 as′ (s .1))); least = λ u p n. by (one-of-two p) n }
     where
       by : {u : List ℕ} → OneOfTwo late a as′ u → (u ≡ listText false (a ∷ as′) → ⊥) → length (listText false (a ∷ as′)) < length u
       by (is-bare e f) n = absurd (d e)
       by (is-marked l f) n = absurd (n f)
 
 pub spelled-shortest : (late : Bool) (as′ : List Allele) (t : List ℕ) → spell late as′ ≡ text t → TheShortest (Permitted late as′) t
-unfolding spell judged shaped
-spelled-shortest late [] t e = let z : _≡_ {A = ℕ} 0 1 = cc in absurd (omega arith)
-spelled-shortest late (a ∷ as′) t e = by (firstUnsound 0 (a ∷ as′)) refl (Bool·beq (a .phased) (allPhased as′)) refl late e
+unfolding shaped
+spelled-shortest late [] t e = let n = spell-none late in let z : _≡_ {A = ℕ} 0 1 = cc in absurd (omega arith)
+spelled-shortest late (a ∷ as′) t e = judged-by (firstUnsound 0 (a ∷ as′)) refl
   where
-    by : (o : Option ℕ) → firstUnsound 0 (a ∷ as′) ≡ o → (q : Bool) → Bool·beq (a .phased) (allPhased as′) ≡ q → (late : Bool)
-        → judged o (shaped q late (a ∷ as′)) ≡ text t → TheShortest (Permitted late (a ∷ as′)) t
-    by (some k) h q s late e = let z : _≡_ {A = ℕ} 0 1 = cc in absurd (omega arith)
-    by none h true s late e = let z : t ≡ listText true (a ∷ as′) = cc in rw z (shortest-bare late a as′ h (same-yes _ _ s))
-    by none h false s true e = let z : t ≡ listText false (a ∷ as′) = cc in rw z (shortest-marked true a as′ h refl (same-no _ _ s))
-    by none h false s false e = let z : _≡_ {A = ℕ} 0 1 = cc in absurd (omega arith)
+    shaped-by : firstUnsound 0 (a ∷ as′) ≡ none → (q : Bool) → Bool·beq (a .phased) (allPhased as′) ≡ q → (late : Bool) → shaped q late (a ∷ as′) ≡ text t
+        → TheShortest (Permitted late (a ∷ as′)) t
+    shaped-by h true s late e = let z : t ≡ listText true (a ∷ as′) = cc in rw z (shortest-bare late a as′ h (same-yes _ _ s))
+    shaped-by h false s true e = let z : t ≡ listText false (a ∷ as′) = cc in rw z (shortest-marked true a as′ h refl (same-no _ _ s))
+    shaped-by h false s false e = let z : _≡_ {A = ℕ} 0 1 = cc in absurd (omega arith)
+
+    judged-by : (o : Option ℕ) → firstUnsound 0 (a ∷ as′) ≡ o → TheShortest (Permitted late (a ∷ as′)) t
+    judged-by (some k) h = let n = spell-bad late a as′ h in let z : _≡_ {A = ℕ} 0 1 = cc in absurd (omega arith)
+    judged-by none h = shaped-by h (Bool·beq (a .phased) (allPhased as′)) refl late (sym (spell-sound late a as′ h) ∙ e)
 
 -- ---- a list with a permitted spelling is spelled
 
 permitted-sound : {late : Bool} {as′ : List Allele} {u : List ℕ} → Permitted late as′ u → firstUnsound 0 as′ ≡ none
-permitted-sound (bare e p f) = sound-cons 0 _ _ (plainly-sound p) (following-sound 1 f)
-permitted-sound (marked l m p f) = sound-cons 0 _ _ (plainly-sound p) (following-sound 1 f)
+permitted-sound (bare e p f) = unsound-more 0 _ _ (plainly-sound p) ∙ following-sound 1 f
+permitted-sound (marked l m p f) = unsound-more 0 _ _ (plainly-sound p) ∙ following-sound 1 f
 
 pub every-spelling : (late : Bool) (as′ : List Allele) (u : List ℕ) → Permitted late as′ u → (t : List ℕ) × (spell late as′ ≡ text t)
-unfolding spell judged shaped
+unfolding shaped
 every-spelling late [] u p = absurd (elim p [ ])
 every-spelling late (a ∷ as′) u p =
     let g = by (Bool·beq (a .phased) (allPhased as′)) refl late (one-of-two p) in
-    (g .0, rw (permitted-sound p) (g .1))
+    (g .0, spell-sound late a as′ (permitted-sound p) ∙ g .1)
   where
     by : (q : Bool) → Bool·beq (a .phased) (allPhased as′) ≡ q → (late : Bool) → OneOfTwo late a as′ u → (t : List ℕ) × (shaped q late (a ∷ as′) ≡ text t)
     by true s late w = (listText true (a ∷ as′), refl)

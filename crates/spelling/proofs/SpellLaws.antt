@@ -1,8 +1,9 @@
--- The texts of alleles, which alleles have one, and from which file format on a first mark is permitted. Assumes nothing.
+-- The texts of alleles and of lists, which of them have one, and from which file format on a first mark is permitted. Assumes nothing.
 use Prim.Native.Nat.{ℕ, _+_, _^_, _≤_, _<_}
-use mathlib.Core.Path.{_≡_, refl, sym, ap}
-use mathlib.Core.Bool.{Bool, true, false}
+use mathlib.Core.Path.{_≡_, refl, sym, ap, _∙_}
+use mathlib.Core.Bool.{Bool, true, false, Bool·beq}
 use mathlib.Core.List.{List, [], _∷_, _++_}
+use mathlib.Core.Option.{some, none}
 use native.Mathlib.Omega.{arith}
 use native.Mathlib.Numerals.{add-one}
 use lib.ListN.{length, length-append}
@@ -10,8 +11,9 @@ use lib.Dec.{leb, eqb}
 use borrow.Author.Tests.{lt-ltb, le-ltb, eq-eqb, ne-eqb}
 use Rattle.decimal.specs.Shortest.{shortest}
 use Rattle.decimal.proofs.Shortest.{length-20}
+use Rattle.genotype.specs.Means.{allPhased}
 use Rattle.genotype.specs.declared.allele.Allele.{Allele}
-use Rattle.spelling.specs.Spelling.{bodyText, alleleText, listText, isSound, from44}
+use Rattle.spelling.specs.Spelling.{bodyText, markByte, alleleText, listText, isSound, firstUnsound, from44, bad, empty, shaped, judged, spell}
 
 -- ---- one allele
 
@@ -38,13 +40,16 @@ module _ (a : Allele) where
   pub number-length : {r : ℕ} → a .missing ≡ false → r ≡ length (shortest (a .number)) → r ≡ length (bodyText a)
   number-length e f = rw (body-number e) f
 
-  pub marked-length : length (alleleText false a) ≡ length (bodyText a) + 1
-  unfolding alleleText
-  marked-length = sym (add-one _)
-
   pub bare-text : alleleText true a ≡ bodyText a
   unfolding alleleText
   bare-text = refl
+
+  pub marked-text : alleleText false a ≡ markByte (a .phased) ∷ bodyText a
+  unfolding alleleText
+  marked-text = refl
+
+  pub marked-length : length (alleleText false a) ≡ length (bodyText a) + 1
+  marked-length = rw marked-text (sym (add-one _))
 
 pub number-20 : (n : ℕ) {r : ℕ} → r ≡ length (shortest n) → n < 2 ^ 64 → r ≤ 20
 number-20 n e h = let b = length-20 n h in omega arith
@@ -59,6 +64,13 @@ pub list-more : (bare : Bool) (a : Allele) (as′ : List Allele) → listText ba
 unfolding listText
 list-more bare a as′ = refl
 
+module _ (a : Allele) (as′ : List Allele) where
+  pub list-bare : listText true (a ∷ as′) ≡ bodyText a ++ listText false as′
+  list-bare = rw (list-more true a as′, bare-text a)
+
+  pub list-marked : listText false (a ∷ as′) ≡ markByte (a .phased) ∷ bodyText a ++ listText false as′
+  list-marked = list-more false a as′ ∙ rw (marked-text a)
+
 pub list-length : (bare : Bool) (a : Allele) (as′ : List Allele) → length (listText bare (a ∷ as′)) ≡ length (alleleText bare a) + length (listText false as′)
 list-length bare a as′ = rw list-more (length-append (alleleText bare a) (listText false as′))
 
@@ -70,6 +82,45 @@ marked-longer a as′ =
     let e = marked-length a in
     let t : length (alleleText true a) ≡ length (bodyText a) = ap length (bare-text a) in
     omega arith
+
+-- ---- which lists have a text
+
+pub unsound-none : (k : ℕ) → firstUnsound k [] ≡ none
+unfolding firstUnsound
+unsound-none k = refl
+
+module _ (k : ℕ) (a : Allele) (as′ : List Allele) where
+  pub unsound-more : isSound a ≡ true → firstUnsound k (a ∷ as′) ≡ firstUnsound (k + 1) as′
+  unfolding firstUnsound
+  unsound-more h = rw h
+
+  pub unsound-here : isSound a ≡ false → firstUnsound k (a ∷ as′) ≡ some k
+  unfolding firstUnsound
+  unsound-here h = rw h
+
+  -- in a list without an unsound allele the first is sound, and the others are such a list
+  pub sound-parts : firstUnsound k (a ∷ as′) ≡ none → (isSound a ≡ true) × (firstUnsound (k + 1) as′ ≡ none)
+  sound-parts e = by (isSound a) refl
+    where
+      by : (t : Bool) → isSound a ≡ t → (isSound a ≡ true) × (firstUnsound (k + 1) as′ ≡ none)
+      by true h = (h, sym (unsound-more h) ∙ e)
+      by false h =
+          let s = sym (unsound-here h) ∙ e in
+          let z : _≡_ {A = ℕ} 0 1 = cc in
+          absurd (omega arith)
+
+pub spell-none : (late : Bool) → spell late [] ≡ empty
+unfolding spell
+spell-none late = refl
+
+module _ (late : Bool) (a : Allele) (as′ : List Allele) where
+  pub spell-sound : firstUnsound 0 (a ∷ as′) ≡ none → spell late (a ∷ as′) ≡ shaped (Bool·beq (a .phased) (allPhased as′)) late (a ∷ as′)
+  unfolding spell judged
+  spell-sound e = rw e
+
+  pub spell-bad : {k : ℕ} → firstUnsound 0 (a ∷ as′) ≡ some k → spell late (a ∷ as′) ≡ bad k
+  unfolding spell judged
+  spell-bad e = rw e
 
 -- ---- the file format
 

@@ -1,24 +1,26 @@
 -- Writing a list: each plan's answer and bytes, at the start of an output and from a place on. Assumes nothing.
 use Prim.Native.Nat.{ℕ, _-_, _≤_, _<_}
 use mathlib.Core.Path.{_≡_, refl, sym, _∙_}
-use mathlib.Core.Bool.{Bool, true, false, _&&_}
-use mathlib.Core.List.{List}
+use mathlib.Core.Bool.{Bool, true, false}
+use mathlib.Core.List.{List, []}
 use native.Mathlib.Omega.{arith}
 use lib.ListN.{length, take, drop}
-use lib.Dec.{eqb}
-use borrow.Author.Tests.{le-leb, lt-leb, eq-eqb, ne-eqb}
+use lib.Dec.{leb, eqb}
+use borrow.Author.Tests.{le-leb, lt-leb}
 use borrow.Rule.Slice.PartMut.{putMid}
 use Rattle.text.specs.Pick.{pick}
-use Rattle.text.specs.Answer.{numberOf}
+use Rattle.text.specs.Answer.{Answer, says, numberOf}
 use Rattle.text.specs.Over.{over, overAt}
 use Rattle.text.proofs.CopyLaws.{room-fits, room-lacks}
 use Rattle.text.proofs.Lists.{rest-all, rest-put, rest-back}
+use Rattle.genotype.specs.Answers as G
 use Rattle.genotype.specs.declared.allele.Allele.{Allele}
+use Rattle.genotype.proofs.AnswerLaws.{row-even, row-uneven-nm, row-uneven-np, row-done-nm, row-done-np}
 use Rattle.spelling.specs.Spelling.{listText, from44, Spelled, bad, phasing, empty, spell}
 use Rattle.spelling.specs.Tally.{tallyOf, planOf}
 use Rattle.spelling.specs.Row.{Parallel, rowOf, Small}
 use Rattle.spelling.specs.Paper.{writePaper}
-use Rattle.spelling.specs.Write.{spelledAnswer, textOf, WritesList, rowAnswer, WritesRow, SmallWhereDone}
+use Rattle.spelling.specs.Write.{spelledAnswer, textOf, WritesList, listAnswer, rowAnswer, WritesRow, SmallWhereDone}
 use Rattle.spelling.specs.declared.tally.Tally.{Tally}
 use Rattle.spelling.specs.declared.tally.Plan.{Plan}
 use Rattle.spelling.specs.declared.tally.Plan.the-variants as P
@@ -30,32 +32,31 @@ use Rattle.spelling.proofs.PlanLaws.{Spells, Overflows, Told, plan-told
 -- ---- at the start of an output
 
 -- what is spelled decides
-Spelt : Spelled → List ℕ → Write → List ℕ → Type 0
+abbrev Spelt : Spelled → List ℕ → Write → List ℕ → Type 0
 Spelt s l r l′ = (writePaper r ≡ spelledAnswer s l) × (l′ ≡ pick (eqb (numberOf (spelledAnswer s l)) 0) (over (textOf s) l) l)
 
 module _ {as′ : List Allele} {late : Bool} (l : List ℕ) where
   writes-by : {s : Spelled} {r : Write} {l′ : List ℕ} → spell late as′ ≡ s → Spelt s l r l′ → WritesList as′ late l r l′
-  unfolding Spelt
   writes-by e w = record { answer = rw e (w .0); bytes = rw e (w .1) }
 
   writes-text : {vs l′ : List ℕ} {r : ℕ} → Spells as′ late vs (length l) → r ≡ length vs → l′ ≡ over vs l → WritesList as′ late l (W.Done r) l′
-  unfolding Spelt writePaper spelledAnswer textOf
+  unfolding writePaper spelledAnswer textOf
   writes-text {vs} g e b = writes-by (g .is) (rw (room-fits vs l (g .fits), e), rw (room-fits vs l (g .fits)) b)
 
   writes-short : Overflows as′ late (length l) → WritesList as′ late l W.Short l
-  unfolding Spelt writePaper spelledAnswer textOf
+  unfolding writePaper spelledAnswer textOf
   writes-short g = writes-by (g .is) (rw (room-lacks (g .vs) l (g .lacks)), rw (room-lacks (g .vs) l (g .lacks)))
 
   writes-empty : spell late as′ ≡ empty → WritesList as′ late l W.Empty l
-  unfolding Spelt writePaper spelledAnswer
+  unfolding writePaper spelledAnswer
   writes-empty e = writes-by e (refl, refl)
 
   writes-bad : {k : ℕ} → spell late as′ ≡ bad k → WritesList as′ late l (W.Bad k) l
-  unfolding Spelt writePaper spelledAnswer
+  unfolding writePaper spelledAnswer
   writes-bad e = writes-by e (refl, refl)
 
   writes-phasing : spell late as′ ≡ phasing → WritesList as′ late l W.Phasing l
-  unfolding Spelt writePaper spelledAnswer
+  unfolding writePaper spelledAnswer
   writes-phasing e = writes-by e (refl, refl)
 
 module _ {n m p : List ℕ} (late : Bool) (l : List ℕ) {t : Tally} {x : Plan} (q : Parallel n m p) (e : t ≡ tallyOf (length l) (rowOf n m p))
@@ -93,6 +94,30 @@ module _ {n m p : List ℕ} (late : Bool) (l : List ℕ) {t : Tally} {x : Plan} 
 
 -- ---- from a place on
 
+pub list-inside : (as′ : List Allele) (late : Bool) (out : List ℕ) (at : ℕ) → at ≤ length out
+    → listAnswer as′ late out at ≡ spelledAnswer (spell late as′) (drop at out)
+unfolding listAnswer
+list-inside as′ late out at h = rw (le-leb _ _ h)
+
+pub list-beyond : (as′ : List Allele) (late : Bool) (out : List ℕ) (at : ℕ) → length out < at → listAnswer as′ late out at ≡ says 6 []
+unfolding listAnswer
+list-beyond as′ late out at h = rw (lt-leb _ _ h)
+
+module _ (n m p : List ℕ) (late : Bool) (out : List ℕ) (at : ℕ) where
+  -- slices of one length are answered as their list is
+  pub row-list : length n ≡ length m → length n ≡ length p → rowAnswer n m p late out at ≡ listAnswer (rowOf n m p) late out at
+  unfolding rowAnswer listAnswer
+  row-list e f = rw (row-even n m p _ e f)
+
+  -- and only those are answered 0
+  pub row-parallel : numberOf (rowAnswer n m p late out at) ≡ 0 → Parallel n m p
+  unfolding rowAnswer
+  row-parallel z = by (leb at (length out)) z
+    where
+      by : (b : Bool) → numberOf (pick b (G.rowAnswer n m p (spelledAnswer (spell late (rowOf n m p)) (drop at out))) (says 6 [])) ≡ 0 → Parallel n m p
+      by true z = record { missing = row-done-nm n m p _ z; phased = row-done-np n m p _ z }
+      by false z = absurd (omega arith)
+
 module _ (n m p : List ℕ) (major minor : ℕ) (out : List ℕ) (at : ℕ) where
   pub write-beyond : length out < at → WritesRow n m p major minor out at W.Beyond out
   unfolding writePaper rowAnswer
@@ -100,15 +125,15 @@ module _ (n m p : List ℕ) (major minor : ℕ) (out : List ℕ) (at : ℕ) wher
 
   module _ (h : at ≤ length out) where
     -- the slices' lengths differ
-    differ : (eqb (length n) (length m) && eqb (length n) (length p)) ≡ false → WritesRow n m p major minor out at W.Lengths out
+    differ : ((a : Answer) → G.rowAnswer n m p a ≡ says 16 []) → WritesRow n m p major minor out at W.Lengths out
     unfolding writePaper rowAnswer
-    differ e = record { answer = rw (le-leb _ _ h, e); bytes = rw (le-leb _ _ h, e) }
+    differ e = record { answer = rw (le-leb _ _ h, e _); bytes = rw (le-leb _ _ h, e _) }
 
     pub write-differ : (length n ≡ length m → ⊥) → WritesRow n m p major minor out at W.Lengths out
-    write-differ e = differ (rw (ne-eqb _ _ e))
+    write-differ e = differ (λ a. row-uneven-nm n m p a e)
 
-    pub write-differ-2 : length n ≡ length m → (length n ≡ length p → ⊥) → WritesRow n m p major minor out at W.Lengths out
-    write-differ-2 e f = differ (rw (eq-eqb _ _ e, ne-eqb _ _ f))
+    pub write-differ-2 : (length n ≡ length p → ⊥) → WritesRow n m p major minor out at W.Lengths out
+    write-differ-2 e = differ (λ a. row-uneven-np n m p a e)
 
     module _ (e : length n ≡ length m) (f : length n ≡ length p) {r : Write} {ys : List ℕ}
         (w : WritesList (rowOf n m p) (from44 major minor) (take (length out - at) (drop at out)) r ys) where
@@ -119,8 +144,8 @@ module _ (n m p : List ℕ) (major minor : ℕ) (out : List ℕ) (at : ℕ) wher
       rest = take (length out - at) (drop at out)
 
       row-answer : rowAnswer n m p (from44 major minor) out at ≡ spelledAnswer spelling rest
-      unfolding rowAnswer spelling rest
-      row-answer = rw (le-leb _ _ h, eq-eqb _ _ e, eq-eqb _ _ f, rest-all out at)
+      unfolding spelling rest
+      row-answer = rw (row-list n m p (from44 major minor) out at e f, rest-all out at) (list-inside (rowOf n m p) (from44 major minor) out at h)
 
       row-bytes : (b : Bool) (vs : List ℕ) → ys ≡ pick b (over vs rest) rest → putMid at (length out - at) out ys ≡ pick b (overAt at vs out) out
       unfolding rest

@@ -6,3 +6,4 @@ pub mod Put
 pub mod Paper
 pub mod Write
 pub mod Demands
+pub mod EndToEnd

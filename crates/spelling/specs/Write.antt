@@ -1,13 +1,14 @@
 -- What the writer answers, and what it leaves in the output (docs/RULES.md, "Genotypes"). Assumes nothing.
 use Prim.Native.Nat.{ℕ}
 use mathlib.Core.Path.{_≡_}
-use mathlib.Core.Bool.{Bool, _&&_}
+use mathlib.Core.Bool.{Bool}
 use mathlib.Core.List.{List, [], _∷_}
 use lib.ListN.{length, drop}
 use lib.Dec.{leb, eqb}
 use Rattle.text.specs.Pick.{pick}
 use Rattle.text.specs.Answer.{Answer, says, numberOf}
 use Rattle.text.specs.Over.{over, overAt, roomAnswer}
+use Rattle.genotype.specs.Answers as G
 use Rattle.genotype.specs.declared.allele.Allele.{Allele}
 use Rattle.spelling.specs.Spelling.{from44, Spelled, text, bad, phasing, empty, spell}
 use Rattle.spelling.specs.Row.{rowOf, Small}
@@ -43,8 +44,7 @@ listAnswer as′ late out at = pick (leb at (length out)) (spelledAnswer (spell 
 -- 6 first, then 16 where the slices' lengths differ
 unfoldable pub rowAnswer : List ℕ → List ℕ → List ℕ → Bool → List ℕ → ℕ → Answer
 rowAnswer n m p late out at =
-    pick (leb at (length out)) (pick (eqb (length n) (length m) && eqb (length n) (length p)) (spelledAnswer (spell late (rowOf n m p)) (drop at out)) (says 16 []))
-    (says 6 [])
+    pick (leb at (length out)) (G.rowAnswer n m p (spelledAnswer (spell late (rowOf n m p)) (drop at out))) (says 6 [])
 
 pub record WritesRow (n m p : List ℕ) (major minor : ℕ) (out : List ℕ) (at : ℕ) (r : Write) (out′ : List ℕ) : Type 0 where
   pub answer : writePaper r ≡ rowAnswer n m p (from44 major minor) out at

@@ -1,18 +1,18 @@
 -- Copying byte by byte: what is left to copy lies over what stands. Assumes nothing.
 use Prim.Native.Nat.{ℕ, _+_, _<_, _≤_}
 use mathlib.Core.Path.{_≡_, refl, _∙_}
-use mathlib.Core.List.{List, [], _∷_, _++_}
+use mathlib.Core.List.{List, [], _∷_}
 use native.Mathlib.Omega.{arith}
 use native.Mathlib.Numerals.{add-one}
-use native.Mathlib.Nat.{zero-add}
 use lib.ListN.{length, getD, drop, set, length-set, drop-of-length-le}
-use lib.Seq.{sets, sets-eq, drop-cons}
+use lib.Seq.{sets, drop-cons}
 use borrow.Author.Tests.{le-leb, lt-leb}
 use Rattle.text.specs.Answer.{says}
 use Rattle.text.specs.Over.{over, roomAnswer, leaves, Writes}
 use Rattle.text.specs.Paper.{writtenPaper}
 use Rattle.text.specs.declared.copy.Written.{Written}
 use Rattle.text.specs.declared.copy.Written.the-variants.{Done, Short}
+use Rattle.text.proofs.Lists.{sets-over}
 
 -- i bytes of vs are copied, and l stands where l₀ stood
 pub record Copying (vs l₀ l : List ℕ) (i : ℕ) : Type 0 where
@@ -34,13 +34,12 @@ copy-turn {vs} {l₀} {l} {i} g h =
     }
 
 pub copy-past : {vs l₀ l : List ℕ} {i : ℕ} → Copying vs l₀ l i → length vs ≤ i → Writes vs l₀ (Done i) l
-unfolding over roomAnswer leaves writtenPaper
+unfolding roomAnswer leaves writtenPaper
 copy-past {vs} {l₀} {l} {i} g h =
     let e : i ≡ length vs = omega arith in
-    let s : sets l₀ 0 vs ≡ vs ++ drop (length vs) l₀ = simp zero-add at (sets-eq vs l₀ 0 (omega arith)) in
     record {
       answer = rw (e, le-leb _ _ (g .fits));
-      bytes = rw (le-leb _ _ (g .fits)) ((rw (drop-of-length-le vs h) at (g .same)) ∙ s);
+      bytes = rw (le-leb _ _ (g .fits)) ((rw (drop-of-length-le vs h) at (g .same)) ∙ sets-over vs l₀ (g .fits));
     }
 
 pub copy-short : {vs l : List ℕ} → length l < length vs → Writes vs l Short l

@@ -3,10 +3,10 @@ use Prim.Native.Nat.{ℕ, zero, suc, _+_, _-_, _<_, _≤_}
 use mathlib.Core.Path.{_≡_, refl, sym, ap, _∙_, subst}
 use mathlib.Core.List.{List, [], _∷_, _++_, append-assoc, append-nil}
 use native.Mathlib.Omega.{arith}
-use native.Mathlib.Nat.{le-refl, le-of-suc-le-suc}
+use native.Mathlib.Nat.{zero-add, le-refl, le-of-suc-le-suc}
 use native.Mathlib.Numerals.{add-one}
 use lib.ListN.{length, getD, take, drop, set, length-append, length-drop, length-set, take-append-drop, drop-of-length-le}
-use lib.Seq.{drop-cons, drop-set-lt, getD-set-same, take-all, drop-drop, length-take-le, take-add, take-at, drop-at, take-append-add, drop-append-add}
+use lib.Seq.{sets, sets-eq, drop-cons, drop-set-lt, getD-set-same, take-all, drop-drop, length-take-le, take-add, take-at, drop-at, take-append-add, drop-append-add}
 use borrow.Rule.Slice.PartMut.{putMid}
 use Rattle.text.specs.Range.{cut}
 use Rattle.text.specs.declared.range.Range.{Range}
@@ -65,6 +65,11 @@ rest-put a vs l ys e =
 pub over-nil : (l : List ℕ) → over [] l ≡ l
 unfolding over
 over-nil l = refl
+
+-- elements stored from the start on
+pub sets-over : (vs l : List ℕ) → length vs ≤ length l → sets l 0 vs ≡ over vs l
+unfolding over
+sets-over vs l h = simp zero-add at (sets-eq vs l 0 (omega arith))
 
 pub overAt-nil : (a : ℕ) (l : List ℕ) → overAt a [] l ≡ l
 unfolding overAt over

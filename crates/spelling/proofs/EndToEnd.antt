@@ -1,0 +1,98 @@
+-- What the writer leaves reads back as the list written, by both contracts and nothing else: an answer that is done is the one for the
+-- list, what is written means the list, and what means a list reads as it. Assumes nothing.
+use Prim.Native.Nat.{ℕ, zero, suc, _≤_, _<_}
+use mathlib.Core.Path.{_≡_, refl, sym, ap, _∙_}
+use mathlib.Core.Bool.{Bool, true, false, not}
+use mathlib.Core.List.{List, [], _∷_}
+use native.Mathlib.Omega.{arith}
+use lib.ListN.{length, getD, take, drop}
+use lib.Dec.{eqb}
+use Rattle.text.specs.Answer.{says, numberOf}
+use Rattle.text.specs.Over.{over}
+use Rattle.text.proofs.Lists.{take-over}
+use Rattle.genotype.specs.Reading.{list, readingOf, mark, numbersOf, missingOf, phasedOf}
+use Rattle.genotype.specs.Answers.{ReadsText}
+use Rattle.genotype.specs.declared.allele.Allele.{Allele}
+use Rattle.genotype.specs.declared.read.Read.{Read}
+use Rattle.genotype.proofs.MeansLaws.{reads-means}
+use Rattle.genotype.proofs.ColumnLaws.{numbersOf-none, numbersOf-more, missingOf-more, phasedOf-more, numbersOf-length, missingOf-length, phasedOf-length}
+use Rattle.genotype.proofs.AnswerLaws.{Holds, reads-list}
+use Rattle.spelling.specs.Spelling.{from44}
+use Rattle.spelling.specs.Row.{Parallel, alleleOf, rowOf, Small}
+use Rattle.spelling.specs.Paper.{writePaper}
+use Rattle.spelling.specs.Write.{listAnswer, rowAnswer, WritesRow, SmallWhereDone}
+use Rattle.spelling.specs.Demands.{writer, Fitting, RoundTrip}
+use Rattle.spelling.specs.EndToEnd.{ReadBack}
+use Rattle.spelling.specs.declared.write.Write.the-variants.{Done}
+use Rattle.spelling.proofs.RowLaws.{row-length}
+use Rattle.spelling.proofs.WriteLaws.{row-list, row-parallel}
+use Rattle.spelling.proofs.RoundTrip.{round-trip}
+
+-- ---- the list of three slices
+
+small-rest : {x : ℕ} {n : List ℕ} → Small (x ∷ n) → Small n
+small-rest s = record { each = λ i h. s .each (suc i) (omega arith) }
+
+-- its numbers are those of the first slice
+row-fits : (n m p : List ℕ) → Small n → Fitting (rowOf n m p)
+unfolding rowOf
+row-fits [] m p s = record { each = λ i h. absurd (omega arith) }
+row-fits (x ∷ n) [] p s = record { each = λ i h. absurd (omega arith) }
+row-fits (x ∷ n) (y ∷ m) [] s = record { each = λ i h. absurd (omega arith) }
+row-fits (x ∷ n) (y ∷ m) (z ∷ p) s = record { each = by (row-fits n m p (small-rest s)) }
+  where
+    by : Fitting (rowOf n m p) → (i : ℕ) → i < length (alleleOf x y z ∷ rowOf n m p)
+        → getD (alleleOf x y z ∷ rowOf n m p) i (record { number = 0; missing = true; phased = true }) .number ≤ 18446744073709551615
+    by f zero h = s .each 0 (omega arith)
+    by f (suc i) h = f .each i (omega arith)
+
+mark-back : (b : Bool) → not (eqb (mark b) 0) ≡ b
+mark-back true = refl
+mark-back false = refl
+
+-- the columns of a list are slices that stand for it
+columns-row : (as′ : List Allele) → rowOf (numbersOf as′) (missingOf as′) (phasedOf as′) ≡ as′
+unfolding rowOf
+columns-row [] = rw numbersOf-none
+columns-row (a ∷ as′) = rw (numbersOf-more a as′, missingOf-more a as′, phasedOf-more a as′, mark-back (a .missing), mark-back (a .phased), columns-row as′)
+
+begins : (vs l : List ℕ) {l′ : List ℕ} {k : ℕ} → l′ ≡ over vs l → length vs ≡ k → take k l′ ≡ vs
+begins vs l {k = k} e f = rw e (take-over vs l k (sym f))
+
+-- ---- the two contracts together
+
+module _ (n m p : List ℕ) (major minor : ℕ) (out : List ℕ) (at k : ℕ) (out′ : List ℕ) (w : WritesRow n m p major minor out at (Done k) out′)
+    (s : SmallWhereDone n (Done k)) where
+  answered : rowAnswer n m p (from44 major minor) out at ≡ says 0 (k ∷ [])
+  unfolding writePaper
+  answered = sym (w .answer)
+
+  one-length : Parallel n m p
+  one-length = row-parallel n m p (from44 major minor) out at (ap numberOf answered)
+
+  as-list : rowAnswer n m p (from44 major minor) out at ≡ listAnswer (rowOf n m p) (from44 major minor) out at
+  as-list = row-list n m p (from44 major minor) out at (one-length .missing) (one-length .phased)
+
+  -- what the writer leaves reads as the list written
+  pub written-back : readingOf (take k (drop at out′)) ≡ list (rowOf n m p)
+  unfolding RoundTrip writer writePaper
+  written-back =
+      reads-means _ _ .1
+      (rw (w .bytes, as-list) (round-trip major minor (rowOf n m p) out at k (row-fits n m p (s .small refl)) (sym as-list ∙ answered)))
+
+  -- the reader, given that and slices of one length that are long enough, answers and leaves that list
+  pub read-back : (n₂ m₂ p₂ : List ℕ) (r : Read) (n₂′ m₂′ p₂′ : List ℕ) → length n₂ ≡ length m₂ → length n₂ ≡ length p₂ → length n ≤ length n₂
+      → ReadsText (take k (drop at out′)) n₂ m₂ p₂ r n₂′ m₂′ p₂′ → ReadBack n m p r n₂′ m₂′ p₂′
+  read-back n₂ m₂ p₂ r n₂′ m₂′ p₂′ e f h g =
+      let l = row-length n m p one-length in
+      by l (reads-list (take k (drop at out′)) n₂ m₂ p₂ (rowOf n m p) written-back e f (omega arith) g)
+    where
+      by : length (rowOf n m p) ≡ length n → Holds (rowOf n m p) n₂ m₂ p₂ r n₂′ m₂′ p₂′ → ReadBack n m p r n₂′ m₂′ p₂′
+      by l held =
+          record {
+            answer = rw l at (held .answer);
+            row =
+                rw
+                (begins _ n₂ (held .numbers) (numbersOf-length _ ∙ l), begins _ m₂ (held .missing) (missingOf-length _ ∙ l), begins _ p₂ (held .phased) (phasedOf-length _ ∙ l))
+                (columns-row (rowOf n m p));
+          }
