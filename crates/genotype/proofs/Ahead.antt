@@ -1,11 +1,15 @@
 -- The alleles from a place on of a text that reads as a list: the one that a step finds, and those behind it. Assumes nothing.
-use Prim.Native.Nat.{ℕ, _+_, _≤_, zero-le}
-use mathlib.Core.Path.{_≡_, sym, _∙_}
+use Prim.Native.Nat.{ℕ, _+_, _≤_, _<_, zero-le}
+use mathlib.Core.Path.{_≡_, refl, sym, _∙_}
+use mathlib.Core.Bool.{Bool, true, false}
 use mathlib.Core.List.{List, [], _∷_}
+use mathlib.Core.Option.{Option, some, none}
 use native.Mathlib.Omega.{arith}
 use types.Run.{OneOf, miss}
 use denote.Enum.Declared.{tagOf}
 use lib.ListN.{length, drop}
+use lib.Dec.{ltb}
+use borrow.Author.Tests.{ltb-true, ltb-false}
 use Rattle.genotype.specs.Reading.{list, empty, gathered, readingOf, partsOf, stepAnswer, listOf, ListMeant}
 use Rattle.genotype.specs.Paper.{stepPaper}
 use Rattle.genotype.specs.declared.allele.Allele.{Allele}
@@ -13,7 +17,7 @@ use Rattle.genotype.specs.declared.step.Step.{Step}
 use Rattle.genotype.specs.declared.step.Step.the-variants as S
 use Rattle.genotype.proofs.step.Step as T
 use Rattle.genotype.proofs.PieceLaws.{parts-end}
-use Rattle.genotype.proofs.StepLaws.{Further, step-means, found}
+use Rattle.genotype.proofs.StepLaws.{firstAt, pastAt, Further, further-at, wrong-at, step-means, found}
 use Rattle.genotype.proofs.JudgeLaws.{reading-some, reading-none, with-list, with-cons}
 
 -- those from `at` on, the first of which has index k
@@ -41,17 +45,22 @@ module _ (t : List ℕ) (m : ListMeant t) where
   left-first = rw (reading-some t some-text)
 
 -- a step that finds an allele
-module _ {t : List ℕ} {at k : ℕ} (g : Ahead t at k) {x : Step} (e : stepPaper x ≡ stepAnswer t at) {a : Allele} {next : ℕ} (q : x ≡ S.Found a next) where
-  passed : Further t at a next
-  passed = found t at x e a next q
-
-  pub ahead-turn : Ahead t next (k + 1)
+module _ {t : List ℕ} {at k : ℕ} (g : Ahead t at k) {a : Allele} {next : ℕ} (f : Further t at a next) where
+  ahead-past : Ahead t next (k + 1)
   unfolding gathered
-  ahead-turn = let f = passed in record { within = f .within; few = omega arith; meant = with-list a _ (rw (passed .parts) at (g .meant)) }
+  ahead-past = record { within = f .within; few = omega arith; meant = with-list a _ (rw (f .parts) at (g .meant)) }
+
+  left-past : leftOf t at k ≡ a ∷ leftOf t next (k + 1)
+  unfolding gathered
+  left-past = rw (f .parts) (with-cons a _ (rw (f .parts) at (g .meant)))
+
+-- the same of a step that finds it
+module _ {t : List ℕ} {at k : ℕ} (g : Ahead t at k) {x : Step} (e : stepPaper x ≡ stepAnswer t at) {a : Allele} {next : ℕ} (q : x ≡ S.Found a next) where
+  pub ahead-turn : Ahead t next (k + 1)
+  ahead-turn = ahead-past g (found t at x e a next q)
 
   pub left-turn : leftOf t at k ≡ a ∷ leftOf t next (k + 1)
-  unfolding gathered
-  left-turn = rw (passed .parts) (with-cons a _ (rw (passed .parts) at (g .meant)))
+  left-turn = left-past g (found t at x e a next q)
 
 -- where a step finds no allele, none is left
 pub left-end : (t : List ℕ) (at k : ℕ) (x : Step) → Ahead t at k → stepPaper x ≡ stepAnswer t at → OneOf (1 ∷ 2 ∷ 3 ∷ []) (tagOf T.the-type x) → leftOf t at k ≡ []
@@ -60,3 +69,23 @@ left-end t at k (S.Found a next) g e h = absurd (miss (1 ∷ 2 ∷ 3 ∷ []) 0 t
 left-end t at k S.Beyond g e h = absurd (let f = step-means t at S.Beyond e in omega arith)
 left-end t at k S.Nothing g e h = let f = step-means t at S.Nothing e in rw (parts-end t at (omega arith))
 left-end t at k S.Bad g e h = let f = step-means t at S.Bad e in rw (f .parts)
+
+-- where one is left, a step finds it
+pub left-some : (t : List ℕ) (at k : ℕ) (a : Allele) (as′ : List Allele) → leftOf t at k ≡ a ∷ as′ → Ahead t at k → Further t at a (pastAt t at)
+unfolding gathered listOf
+left-some t at k a as′ e g = reached (ltb at (length t)) refl
+  where
+    none-left : [] ≡ a ∷ as′ → Further t at a (pastAt t at)
+    none-left z = absurd (let y : _≡_ {A = ℕ} 0 1 = cc in omega arith)
+
+    some-left : (h : at < length t) (o : Option Allele) → firstAt t at ≡ o → Further t at a (pastAt t at)
+    some-left h (some b) q =
+        let f = further-at t at h b q in
+        let c = sym (left-past g f) ∙ e in
+        let z : b ≡ a = cc in
+        rw z at f
+    some-left h none q = let f = wrong-at t at h q in none-left (rw (f .parts) at e)
+
+    reached : (c : Bool) → ltb at (length t) ≡ c → Further t at a (pastAt t at)
+    reached true h = some-left (ltb-true _ _ h) (firstAt t at) refl
+    reached false h = none-left (rw (parts-end t at (ltb-false _ _ h)) at e)

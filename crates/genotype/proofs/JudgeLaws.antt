@@ -103,7 +103,11 @@ module _ (t : List ℕ) (at k : ℕ) (x : Step) (g : Judging t at k) (e : stepPa
 
 -- ---- room
 
--- only an answer that is done has the number 0
+-- an answer that is done has the number 0, and no other has
+pub done-number : (n : ℕ) → numberOf (readPaper (R.Done n)) ≡ 0
+unfolding readPaper
+done-number n = refl
+
 pub other-number : (x : Read) → OneOf (1 ∷ 2 ∷ 3 ∷ 4 ∷ 5 ∷ []) (tagOf D.the-type x) → numberOf (readPaper x) ≡ 0 → ⊥
 unfolding readPaper
 other-number (R.Done n) h e = miss (1 ∷ 2 ∷ 3 ∷ 4 ∷ 5 ∷ []) 0 tt h

@@ -15,3 +15,4 @@ pub mod MeansLaws
 pub mod Exact
 pub mod Impostors
 pub mod Nearest
+pub mod ReaderLaws

@@ -18,7 +18,7 @@ use Rattle.genotype.specs.declared.read.Read.{Read}
 use Rattle.genotype.specs.declared.read.Read.the-variants as R
 use Rattle.genotype.proofs.read.Read as D
 use Rattle.genotype.proofs.JudgeLaws.{other-number}
-use Rattle.genotype.proofs.AnswerLaws.{answer-short, answer-bad, answer-empty, row-even, row-uneven-nm, row-uneven-np, laid-done, laid-refused}
+use Rattle.genotype.proofs.AnswerLaws.{answer-list, answer-short, answer-bad, answer-empty, row-even, row-uneven-nm, row-uneven-np, laid-done, laid-refused}
 
 -- ---- the answer
 
@@ -62,17 +62,18 @@ module _ (a : Answer) (as′ : List Allele) (n m p : List ℕ) where
 
 -- ---- a list that fits
 
--- what is done is a list that the row holds
-record Fits (r : Reading) (room : ℕ) : Type 0 where
-  meant : r ≡ list (listOf r)
-  few : length (listOf r) ≤ room
+-- what is done is a list of k alleles that the row holds
+pub record Fits (r : Reading) (room k : ℕ) : Type 0 where
+  pub meant : r ≡ list (listOf r)
+  pub count : length (listOf r) ≡ k
+  pub few : length (listOf r) ≤ room
 
-fits : (r : Reading) (room k : ℕ) → readPaper (R.Done k) ≡ readAnswer r room → Fits r room
+fits : (r : Reading) (room k : ℕ) → readPaper (R.Done k) ≡ readAnswer r room → Fits r room k
 unfolding readPaper listOf
-fits (list as′) room k e = record { meant = refl; few = by (decLe (length as′) room) }
+fits (list as′) room k e = by (decLe (length as′) room)
   where
-    by : Dec (length as′ ≤ room) → length as′ ≤ room
-    by (yes h) = h
+    by : Dec (length as′ ≤ room) → Fits (list as′) room k
+    by (yes h) = record { meant = refl; count = let q = e ∙ answer-list room as′ h in cc; few = h }
     by (no h) = absurd (let z = ap numberOf (e ∙ answer-short room as′ (omega arith)) in omega arith)
 fits (bad j) room k e = absurd (let z = ap numberOf (e ∙ answer-bad room j) in omega arith)
 fits empty room k e = absurd (let z = ap numberOf (e ∙ answer-empty room) in omega arith)
@@ -86,11 +87,11 @@ checked count r room k e = by (firstAbove count 0 (listOf r)) e
     by (some j) e = absurd (let z : _≡_ {A = ℕ} 0 1 = cc in omega arith)
     by none e = e
 
-fits-room : (t n m p : List ℕ) → length n ≡ length m → length n ≡ length p → Fits (readingOf t) (length n) → Room (length (listOf (readingOf t))) n m p
+fits-room : (t n m p : List ℕ) {k : ℕ} → length n ≡ length m → length n ≡ length p → Fits (readingOf t) (length n) k → Room (length (listOf (readingOf t))) n m p
 fits-room t n m p e f h = let l = h .few in record { numbers = l; missing = omega arith; phased = omega arith }
 
 module _ (t : List ℕ) (room : ℕ) (x : Read) (h : readPaper x ≡ readAnswer (readingOf t) room) {k : ℕ} (q : x ≡ R.Done k) where
-  read-fits : Fits (readingOf t) room
+  pub read-fits : Fits (readingOf t) room k
   read-fits = fits (readingOf t) room k (rw q at h)
 
   pub read-meant : ListMeant t
@@ -100,7 +101,7 @@ module _ (t : List ℕ) (room : ℕ) (x : Read) (h : readPaper x ≡ readAnswer 
   read-room n m p l e f = fits-room t n m p e f (rw l at read-fits)
 
 module _ (t : List ℕ) (count room : ℕ) (x : Read) (h : readPaper x ≡ checkedAnswer count (readingOf t) room) {k : ℕ} (q : x ≡ R.Done k) where
-  checked-fits : Fits (readingOf t) room
+  pub checked-fits : Fits (readingOf t) room k
   checked-fits = fits (readingOf t) room k (checked count (readingOf t) room k (rw q at h))
 
   pub checked-meant : ListMeant t

@@ -106,6 +106,13 @@ module _ (s : List ℕ) (phased : Bool) (next : ℕ) {t : Bool} (d : t ≡ same 
 
 -- ---- what a step answers
 
+-- the first allele from a place of the text on, and the place past it
+abbrev pub firstAt : List ℕ → ℕ → Option Allele
+firstAt t at = alleleIn (impliedBy (drop (at + 1) t)) (getD t at 0 ∷ headOf (drop (at + 1) t))
+
+abbrev pub pastAt : List ℕ → ℕ → ℕ
+pastAt t at = at + 1 + length (headOf (drop (at + 1) t))
+
 inside : (t : List ℕ) (at : ℕ) → at ≤ length t → stepAnswer t at ≡ firstAnswer at (drop at t)
 unfolding stepAnswer
 inside t at h = rw (le-ltb _ _ h)
@@ -118,13 +125,11 @@ pub step-nothing : (t : List ℕ) (at : ℕ) → at ≡ length t → stepPaper S
 unfolding stepPaper firstAnswer
 step-nothing t at e = sym (inside t at (omega arith) ∙ rw (drop-of-length-le t {i = at} (omega arith)))
 
-step-here : (t : List ℕ) (at : ℕ) → at < length t
-    → stepAnswer t at
-    ≡ alleleAnswer (at + 1 + length (headOf (drop (at + 1) t))) (alleleIn (impliedBy (drop (at + 1) t)) (getD t at 0 ∷ headOf (drop (at + 1) t)))
+step-here : (t : List ℕ) (at : ℕ) → at < length t → stepAnswer t at ≡ alleleAnswer (pastAt t at) (firstAt t at)
 unfolding firstAnswer
 step-here t at h = inside t at (omega arith) ∙ rw (here t at h)
 
-module _ (t : List ℕ) (at : ℕ) {end : ℕ} (x : Step) (w : at ≤ length t) (n : at ≡ length t → ⊥) (e : end ≡ at + 1 + length (headOf (drop (at + 1) t))) where
+module _ (t : List ℕ) (at : ℕ) {end : ℕ} (x : Step) (w : at ≤ length t) (n : at ≡ length t → ⊥) (e : end ≡ pastAt t at) where
   -- the bytes up to the next mark
   part : take (end - (at + 1)) (drop (at + 1) t) ≡ headOf (drop (at + 1) t)
   part =
@@ -136,7 +141,7 @@ module _ (t : List ℕ) (at : ℕ) {end : ℕ} (x : Step) (w : at ≤ length t) 
       let l : end - at ≡ suc (end - (at + 1)) = omega arith in
       rw (l, here t at (omega arith)) (ap (λ (z : List ℕ). getD t at 0 ∷ z) part)
 
-  finds : {o : Option Allele} → alleleIn (impliedBy (drop (at + 1) t)) (getD t at 0 ∷ headOf (drop (at + 1) t)) ≡ o → stepPaper x ≡ alleleAnswer end o → stepPaper x ≡ stepAnswer t at
+  finds : {o : Option Allele} → firstAt t at ≡ o → stepPaper x ≡ alleleAnswer end o → stepPaper x ≡ stepAnswer t at
   finds q f = f ∙ rw (e, ← q) (sym (step-here t at (omega arith)))
 
   pub step-bar : getD t at 0 ≡ 124 → stepPaper x ≡ alleleAnswer end (bodied true (take (end - (at + 1)) (drop (at + 1) t))) → stepPaper x ≡ stepAnswer t at
@@ -153,12 +158,15 @@ module _ (t : List ℕ) (at : ℕ) {end : ℕ} (x : Step) (w : at ≤ length t) 
 
 -- an allele, and the place past it
 pub record Further (t : List ℕ) (at : ℕ) (a : Allele) (next : ℕ) : Type 0 where
+  pub first : firstAt t at ≡ some a
+  pub ends : next ≡ pastAt t at
   pub past : at < next
   pub within : next ≤ length t
   pub parts : partsOf (drop at t) ≡ some a ∷ partsOf (drop next t)
 
 -- a piece that is no allele
 pub record Wrong (t : List ℕ) (at : ℕ) : Type 0 where
+  pub first : firstAt t at ≡ none
   pub before : at < length t
   pub others : List (Option Allele)
   pub parts : partsOf (drop at t) ≡ none ∷ others
@@ -170,6 +178,16 @@ StepTells t at S.Beyond = length t < at
 StepTells t at S.Nothing = at ≡ length t
 StepTells t at S.Bad = Wrong t at
 
+module _ (t : List ℕ) (at : ℕ) (h : at < length t) where
+  pub further-at : (a : Allele) → firstAt t at ≡ some a → Further t at a (pastAt t at)
+  further-at a q =
+      let l = head-le (drop (at + 1) t) in
+      let d = length-drop (at + 1) t in
+      record { first = q; ends = refl; past = omega arith; within = omega arith; parts = rw q at (parts-at t at h) }
+
+  pub wrong-at : firstAt t at ≡ none → Wrong t at
+  wrong-at q = record { first = q; before = h; others = _; parts = rw q at (parts-at t at h) }
+
 -- an answer tells what the definition, whose paper it has, says
 pub step-means : (t : List ℕ) (at : ℕ) (x : Step) → stepPaper x ≡ stepAnswer t at → StepTells t at x
 unfolding stepPaper alleleAnswer
@@ -179,16 +197,12 @@ step-means t at x e = placed (ltb (length t) at) refl
     is : (y : Step) → stepPaper y ≡ stepAnswer t at → StepTells t at y → StepTells t at x
     is y f d = rw (step-paper-injective x y (e ∙ sym f)) d
 
-    some-left : at < length t → (o : Option Allele) → alleleIn (impliedBy (drop (at + 1) t)) (getD t at 0 ∷ headOf (drop (at + 1) t)) ≡ o → StepTells t at x
-    some-left h (some a) q =
-        let l = head-le (drop (at + 1) t) in
-        let d = length-drop (at + 1) t in
-        is (S.Found a (at + 1 + length (headOf (drop (at + 1) t)))) (sym (step-here t at h ∙ rw q))
-        (record { past = omega arith; within = omega arith; parts = rw q at (parts-at t at h) })
-    some-left h none q = is S.Bad (sym (step-here t at h ∙ rw q)) (record { before = h; others = _; parts = rw q at (parts-at t at h) })
+    some-left : at < length t → (o : Option Allele) → firstAt t at ≡ o → StepTells t at x
+    some-left h (some a) q = is (S.Found a (pastAt t at)) (sym (step-here t at h ∙ rw q)) (further-at t at h a q)
+    some-left h none q = is S.Bad (sym (step-here t at h ∙ rw q)) (wrong-at t at h q)
 
     reached : at ≤ length t → (c : Bool) → ltb at (length t) ≡ c → StepTells t at x
-    reached w true h = some-left (ltb-true _ _ h) (alleleIn (impliedBy (drop (at + 1) t)) (getD t at 0 ∷ headOf (drop (at + 1) t))) refl
+    reached w true h = some-left (ltb-true _ _ h) (firstAt t at) refl
     reached w false h = let l = ltb-false at (length t) h in let z : at ≡ length t = omega arith in is S.Nothing (step-nothing t at z) z
 
     placed : (c : Bool) → ltb (length t) at ≡ c → StepTells t at x
