@@ -1,4 +1,4 @@
-// The verb of the crate join.
+// The verbs of the crates join and lists, which write entries given as one text and their ends.
 use crate::output::Answer;
 use crate::output::Buffer;
 use crate::output::Place;
@@ -14,13 +14,16 @@ use crate::words::ROOM;
 use crate::words::Row;
 use crate::words::Text;
 use crate::words::decode;
+use crate::words::index_in;
 use crate::words::number;
 use crate::words::numbers;
 use crate::words::word;
 use decimal::read::Number;
-use join::columns;
 use join::columns::Joined;
-use text::same::same_bytes;
+use join::columns::join;
+use lists::alternate_bases::write_alts;
+use lists::filters::write_filters;
+use lists::write::Write;
 
 pub fn answer(
     case: &[u8],
@@ -32,15 +35,17 @@ pub fn answer(
     if arguments != 4 {
         return Answer::NoCase;
     }
-    if !same_bytes(word(case, 0), b"join") {
+    let verb = index_in(b"join filters alts", 3, word(case, 0));
+    if verb == 3 {
         return Answer::NoCase;
     }
     let mut ends = [0usize; 1024];
-    answer_join(case, text, &mut ends, out, at)
+    answer_list(case, verb, text, &mut ends, out, at)
 }
 
-fn answer_join(
+fn answer_list(
     case: &[u8],
+    verb: usize,
     text: &mut Text,
     ends: &mut Row,
     out: &mut Buffer,
@@ -52,10 +57,17 @@ fn answer_join(
     let Counted::Of(n) = numbers(case, 4, ends) else {
         return Answer::NoCase;
     };
-    answer_columns(case, part(text, 0, end), first(ends, n), out, at)
+    answer_entries(case, verb, part(text, 0, end), first(ends, n), out, at)
 }
 
-fn answer_columns(case: &[u8], s: &[u8], ends: &[usize], out: &mut Buffer, at: Place) -> Answer {
+fn answer_entries(
+    case: &[u8],
+    verb: usize,
+    s: &[u8],
+    ends: &[usize],
+    out: &mut Buffer,
+    at: Place,
+) -> Answer {
     let Number::Value(room) = number(case, 1, ROOM) else {
         return Answer::NoCase;
     };
@@ -63,7 +75,8 @@ fn answer_columns(case: &[u8], s: &[u8], ends: &[usize], out: &mut Buffer, at: P
         return Answer::NoCase;
     };
     let mut space = [0xEEu8; 4096];
-    Answer::Given(join(
+    Answer::Given(put_list(
+        verb,
         s,
         ends,
         front(&mut space, room as usize),
@@ -73,7 +86,8 @@ fn answer_columns(case: &[u8], s: &[u8], ends: &[usize], out: &mut Buffer, at: P
     ))
 }
 
-fn join(
+fn put_list(
+    verb: usize,
     s: &[u8],
     ends: &[usize],
     lent: &mut [u8],
@@ -81,12 +95,20 @@ fn join(
     out: &mut Buffer,
     at: Place,
 ) -> Place {
-    let joined = columns::join(s, ends, lent, from);
-    let next = put_said(out, at, said(joined));
+    let said = written(verb, s, ends, lent, from);
+    let next = put_said(out, at, said);
     then_hex(out, next, lent)
 }
 
-fn said(joined: Joined) -> Said {
+fn written(verb: usize, s: &[u8], ends: &[usize], lent: &mut [u8], from: usize) -> Said {
+    match verb {
+        0 => joined(join(s, ends, lent, from)),
+        1 => listed(write_filters(s, ends, lent, from), 14),
+        _ => listed(write_alts(s, ends, lent, from), 15),
+    }
+}
+
+fn joined(joined: Joined) -> Said {
     match joined {
         Joined::Done(len) => Said::With(0, len as u64),
         Joined::NotUtf8(index) => Said::With(5, index as u64),
@@ -95,5 +117,17 @@ fn said(joined: Joined) -> Said {
         Joined::Short => Said::Alone(17),
         Joined::Bad(index) => Said::With(18, index as u64),
         Joined::Few => Said::Alone(19),
+    }
+}
+
+// With the number of an invalid entry.
+fn listed(write: Write, invalid: u64) -> Said {
+    match write {
+        Write::Done(len) => Said::With(0, len as u64),
+        Write::NotUtf8(index) => Said::With(5, index as u64),
+        Write::Beyond => Said::Alone(6),
+        Write::Invalid(index) => Said::With(invalid, index as u64),
+        Write::Wrong => Said::Alone(16),
+        Write::Short => Said::Alone(17),
     }
 }

@@ -1,43 +1,40 @@
--- Joining: each way through each function is a law of the definitions; the columns still to judge or to write stand for all of them. Assumes nothing.
+-- Joining: each way through each function is a law of the definitions; the columns still to judge stand for all of them. Assumes nothing.
 use Prim.Native.Nat.{ℕ, zero, suc, _+_, _-_, _^_, _<_, _≤_, zero-le}
 use mathlib.Core.Path.{_≡_, refl, sym, ap, _∙_}
 use mathlib.Core.Bool.{Bool, true, false, _&&_, _||_, not, or-false, false≢true}
-use mathlib.Core.List.{List, [], _∷_, _++_, flatten, append-assoc, append-nil}
+use mathlib.Core.List.{List, [], _∷_, _++_}
 use native.Mathlib.Omega.{arith}
-use native.Mathlib.Numerals.{add-one}
 use native.Mathlib.Decide.{decLe}
 use types.Run.{OneOf, miss}
 use denote.Enum.Declared.{tagOf}
 use mir.Syntax.{w64}
 use mir.Val.{Fits}
-use lib.ListN.{length, getD, take, drop, set, length-append, length-drop, length-set, drop-of-length-le}
+use lib.ListN.{length, getD, take, drop, set, length-append, length-drop}
 use lib.Dec.{leb, ltb, eqb}
-use lib.Seq.{drop-cons, length-take-le}
 use borrow.Author.Tests.{eqb-true, eqb-false, lt-ltb, le-leb, lt-leb, eq-eqb, ne-eqb, not-true, not-false}
 use borrow.Rule.Slice.PartMut.{putMid}
 use Rattle.text.specs.Pick.{pick}
 use Rattle.text.specs.Answer.{Answer, says}
-use Rattle.text.specs.Over.{over, overAt, roomAnswer, Writes}
+use Rattle.text.specs.Over.{overAt, roomAnswer}
 use Rattle.text.specs.Utf8.{isUtf8, utf8Answer}
 use Rattle.text.specs.Paper.{utf8Paper}
-use Rattle.text.specs.declared.copy.Written.{Written}
-use Rattle.text.specs.declared.range.Range.{Range}
 use Rattle.text.specs.declared.utf8.Utf8.{Utf8}
 use Rattle.text.specs.declared.utf8.Utf8.the-variants as U
 use Rattle.text.proofs.CharLaws.{told-text, told-broken}
-use Rattle.text.proofs.CopyLaws.{room-fits, room-lacks, writes-fits}
-use Rattle.text.proofs.Lists.{cut-is, rest-all, length-rest, rest-put, overAt-nil, overAt-append, length-over, length-overAt, over-set}
+use Rattle.text.proofs.CopyLaws.{room-fits, room-lacks}
+use Rattle.text.proofs.Lists.{rest-all, length-rest, rest-put, overAt-nil, overAt-append, overAt-before, length-overAt}
 use Rattle.pieces.specs.Pieces.{countOf, joined}
-use Rattle.pieces.specs.Entries.{rising, entryList, endsAnswer, startOf, entryAnswer}
-use Rattle.pieces.specs.Paper.{endsPaper, entryPaper}
+use Rattle.pieces.specs.Entries.{rising, entryList, endsAnswer, startOf}
+use Rattle.pieces.specs.Joined.{JoinsList}
+use Rattle.pieces.specs.Paper.{endsPaper}
 use Rattle.pieces.specs.declared.entries.Ends.{Ends}
 use Rattle.pieces.specs.declared.entries.Ends.the-variants as N
-use Rattle.pieces.specs.declared.entries.Entry.{Entry}
-use Rattle.pieces.specs.declared.entries.Entry.the-variants as E
+use Rattle.pieces.specs.declared.joined.Joined.{Joined as Put}
 use Rattle.pieces.proofs.CountLaws.{count-none, count-here, count-other}
-use Rattle.pieces.proofs.EntryLaws.{start-later, rising-fits, entries-length, entries-text, ends-tell, Entered, entry-tells}
+use Rattle.pieces.proofs.EntryLaws.{start-later, entries-length, entry-here, entry-past, ends-tell}
+use Rattle.pieces.proofs.PlaceLaws as place
+use Rattle.pieces.proofs.JoinedLaws.{list-length, joined-fits}
 use Rattle.line.specs.Line.{endsInReturn}
-use Rattle.pieces.proofs.PieceLaws.{joined-one, joined-more}
 use Rattle.line.proofs.ColumnLaws.{none-empty, some-empty, return-none, return-at}
 use Rattle.join.specs.Join.{holds, isBad, Judged, fine, refused, columnJudged, columnsJudged, lineText, isCount, fitted, listAnswer, joinAnswer, isDone, JoinsAt}
 use Rattle.join.specs.Paper.{joinedPaper}
@@ -99,29 +96,6 @@ module _ (c : List ℕ) where
 
 -- ---- the columns of a list
 
-module _ (t ends : List ℕ) (i : ℕ) {x : Entry} (e : entryPaper x ≡ entryAnswer t ends i) where
-  module _ {r : Range} (q : x ≡ E.At r) where
-    column-at : Entered t ends i r
-    column-at = rw q at (entry-tells t ends i x e)
-
-    pub column-within : r .start + r .len ≤ length t
-    column-within = let g = column-at in omega arith
-
-    pub column-sum : length t < 2 ^ 64 → Fits w64 (r .start + r .len)
-    column-sum h = let g = column-at in record { fits = omega arith }
-
-    pub column-is : take (r .start + r .len - r .start) (drop (r .start) t) ≡ getD (entryList t ends) i []
-    column-is =
-        let z : r .start + r .len - r .start ≡ r .len = omega arith in
-        rw z (sym (cut-is (r .start) (r .len) t) ∙ column-at .entry)
-
-  module _ (h : rising 0 ends (length t) ≡ true) (l : i < length ends) where
-    pub column-some : x ≡ E.Nothing → t ≡ getD (entryList t ends) i []
-    column-some q = let g = rw q at (entry-tells t ends i x e) in absurd (omega arith)
-
-    pub column-right : x ≡ E.Wrong → t ≡ getD (entryList t ends) i []
-    column-right q = let g = rw q at (entry-tells t ends i x e) in absurd (g .wrong (rising-fits ends (length t) i h l))
-
 pub count-eight : (n : ℕ) → n ≡ 8 → true ≡ isCount n
 unfolding isCount
 count-eight n e = rw (eq-eqb _ _ e)
@@ -149,10 +123,6 @@ last-length [] e = rw e
 last-length (c ∷ cs) {k} e = sym (ne-eqb k 0 (λ z. omega arith))
 
 module _ (t ends : List ℕ) (i : ℕ) (h : i < length ends) where
-  -- column i, and then the others
-  column-here : drop i (entryList t ends) ≡ getD (entryList t ends) i [] ∷ drop (i + 1) (entryList t ends)
-  column-here = let n = entries-length t ends in rw add-one (drop-cons (entryList t ends) i [] (omega arith))
-
   column-last : isLast (drop (i + 1) (entryList t ends)) ≡ eqb (i + 1) (length ends)
   column-last = by (eqb (i + 1) (length ends)) refl
     where
@@ -162,10 +132,6 @@ module _ (t ends : List ℕ) (i : ℕ) (h : i < length ends) where
       by : (b : Bool) → eqb (i + 1) (length ends) ≡ b → isLast (drop (i + 1) (entryList t ends)) ≡ b
       by true e = let z = eqb-true (i + 1) (length ends) e in last-length _ left ∙ eq-eqb (length ends - (i + 1)) 0 (omega arith)
       by false e = let z = eqb-false (i + 1) (length ends) e in last-length _ left ∙ ne-eqb (length ends - (i + 1)) 0 (λ y. z (omega arith))
-
--- behind the last there is none
-column-past : (t ends : List ℕ) (i : ℕ) → length ends ≤ i → drop i (entryList t ends) ≡ []
-column-past t ends i h = let n = entries-length t ends in drop-of-length-le (entryList t ends) {i = i} (omega arith)
 
 -- ---- judging the columns
 
@@ -193,7 +159,7 @@ module _ {t ends : List ℕ} {i : ℕ} {c : List ℕ} {x : Bool} (g : Judging t 
   judge-here =
       rw (f, ← column-last t ends i h, e)
       (sym (judged-cons i (getD (entryList t ends) i []) (drop (i + 1) (entryList t ends)))
-      ∙ (rw (column-here t ends i h) at (g .same)))
+      ∙ (rw (entry-here t ends i h) at (g .same)))
 
   pub judge-bad : (l : List ℕ) → x ≡ true → joinedPaper (J.Bad i) ≡ columnsAnswer t ends l
   unfolding joinedPaper fitted columnJudged
@@ -208,38 +174,23 @@ module _ {t ends : List ℕ} {i : ℕ} {c : List ℕ} {x : Bool} (g : Judging t 
     unfolding columnJudged
     judge-turn w = record { within = omega arith; same = rw (n, ← v, not-false u w) at judge-here }
 
--- ---- the line's bytes
+-- ---- the line
 
--- each column and what stands behind it
-pub marked : List (List ℕ) → List ℕ
-marked [] = []
-marked (c ∷ cs) = (c ++ pick (isLast cs) 10 9 ∷ []) ++ marked cs
-
-line-marked : (cs : List (List ℕ)) → 0 < length cs → lineText cs ≡ marked cs
-unfolding lineText marked isLast
-line-marked [] h = absurd (omega arith)
-line-marked (c ∷ []) h = rw (joined-one, append-nil)
-line-marked (c ∷ d ∷ cs) h =
-    rw (joined-more, append-assoc c (9 ∷ joined 9 (d ∷ cs)) (10 ∷ []), append-assoc c (9 ∷ []) _)
-    (ap (λ (z : List ℕ). c ++ 9 ∷ z) (line-marked (d ∷ cs) (omega arith)))
-
-marked-length : (cs : List (List ℕ)) → length (marked cs) ≡ length (flatten cs) + length cs
-unfolding marked flatten
-marked-length [] = refl
-marked-length (c ∷ cs) = let n = marked-length cs in simp length-append (omega arith)
-
-entries-marked : (t ends : List ℕ) → 0 < length ends → lineText (entryList t ends) ≡ marked (entryList t ends)
-entries-marked t ends s = let n = entries-length t ends in line-marked (entryList t ends) (omega arith)
-
--- the line is as long as the text up to the last end, and a byte for each column
+-- as long as the text up to the last end, and a byte for each column
 line-length : (t ends : List ℕ) → rising 0 ends (length t) ≡ true → 0 < length ends → length (lineText (entryList t ends)) ≡ startOf ends (length ends) + length ends
+unfolding lineText
 line-length t ends r s =
-    let n = entries-length t ends in
-    let w = rising-fits ends (length t) (length ends - 1) r (omega arith) in
+    let n = list-length 9 t ends r (λ z. omega arith) in
     let e = last-is ends s in
-    let k : length (flatten (entryList t ends)) ≡ startOf ends (length ends) =
-    ap length (entries-text t ends r) ∙ length-take-le (startOf ends (length ends)) t (omega arith) in
-    ap length (entries-marked t ends s) ∙ marked-length (entryList t ends) ∙ omega arith
+    length-append (joined 9 (entryList t ends)) (10 ∷ []) ∙ omega arith
+
+-- a byte stored behind what was laid over a list
+overAt-behind : (at : ℕ) (vs l : List ℕ) (b : ℕ) → at + length vs < length l → set (overAt at vs l) (at + length vs) b ≡ overAt at (vs ++ b ∷ []) l
+overAt-behind at vs l b h =
+    let n = length-overAt at vs l (omega arith) in
+    ap (λ (z : List ℕ). set z (at + length vs) b) (sym (overAt-nil (at + length vs + 1) (overAt at vs l)))
+    ∙ overAt-before (overAt at vs l) (at + length vs) [] b (omega arith)
+    ∙ sym (overAt-append at vs (b ∷ []) l (omega arith))
 
 -- ---- the answer after the columns
 
@@ -247,7 +198,7 @@ module _ {t ends : List ℕ} {i : ℕ} (l : List ℕ) {end : ℕ} (g : Judging t
     (e : end ≡ startOf ends (length ends)) where
   all-fine : columnsJudged 0 (entryList t ends) ≡ fine
   unfolding columnsJudged
-  all-fine = sym (g .same) ∙ ap (columnsJudged i) (column-past t ends i h)
+  all-fine = sym (g .same) ∙ ap (columnsJudged i) (entry-past t ends i h)
 
   line-sum : length (lineText (entryList t ends)) ≡ end + i
   line-sum = let n = line-length t ends r s in let w = g .within in omega arith
@@ -293,100 +244,13 @@ module _ (t ends : List ℕ) {x : Ends} (e : endsPaper x ≡ endsAnswer t ends) 
       unfolding listAnswer
       list-columns l r y f = rw (list-rising, ← n, y) f
 
--- ---- writing
-
--- a column is copied before the byte that stands behind it
-module _ (c l : List ℕ) (b : ℕ) {l′ : List ℕ} {r : Written} (h : length c < length l) (w : Writes c (set l (length c) b) r l′) where
-  put-over : l′ ≡ over c (set l (length c) b)
-  put-over = writes-fits w (simp length-set (omega arith))
-
-  pub put-length : length l′ ≡ length l
-  put-length = rw put-over (length-over c (set l (length c) b) (simp length-set (omega arith)) ∙ length-set l (length c) b)
-
-  pub put-bytes : l′ ≡ over (c ++ b ∷ []) l
-  put-bytes = put-over ∙ sym (over-set c l (length c) b refl h)
-
--- the columns from i on, laid from `place` on, leave what all leave, laid from `at` on
-pub record Laying (t ends : List ℕ) (at : ℕ) (l₀ l : List ℕ) (i place : ℕ) : Type 0 where
-  pub within : i ≤ length ends
-  pub len : length l ≡ length l₀
-  pub room : place + length (marked (drop i (entryList t ends))) ≤ length l₀
-  pub same : overAt place (marked (drop i (entryList t ends))) l ≡ overAt at (lineText (entryList t ends)) l₀
-
-pub lay-first : {t ends : List ℕ} {at : ℕ} {l : List ℕ} → 0 < length ends → at + length (lineText (entryList t ends)) ≤ length l → Laying t ends at l l 0 at
-lay-first {t} {ends} s h = let e = entries-marked t ends s in record { within = zero-le; len = refl; room = rw (← e) h; same = rw (← e) }
-
-module _ {t ends : List ℕ} {at i place : ℕ} {l₀ l : List ℕ} (g : Laying t ends at l₀ l i place) where
-  pub lay-place : place ≤ length l
-  lay-place = let r = g .room in let e = g .len in omega arith
-
-  module _ {c : List ℕ} {b : ℕ} (h : i < length ends) (e : c ≡ getD (entryList t ends) i []) (f : b ≡ pick (eqb (i + 1) (length ends)) 10 9) where
-    lay-here : marked (drop i (entryList t ends)) ≡ (c ++ b ∷ []) ++ marked (drop (i + 1) (entryList t ends))
-    unfolding marked
-    lay-here = rw (column-here t ends i h, column-last t ends i h, e, f)
-
-    lay-length : length (marked (drop i (entryList t ends))) ≡ length c + 1 + length (marked (drop (i + 1) (entryList t ends)))
-    lay-length = rw lay-here (simp length-append)
-
-    pub lay-room : length c < length (take (length l - place) (drop place l))
-    lay-room =
-        let k = lay-length in
-        let r = g .room in
-        let n = g .len in
-        rw (length-rest l place) (omega arith)
-
-    module _ {k : ℕ} (y : k ≡ length c + 1) where
-      pub lay-fits : length l₀ < 2 ^ 64 → Fits w64 (place + k)
-      lay-fits z =
-          let m = lay-length in
-          let r = g .room in
-          record { fits = omega arith }
-
-      pub lay-turn : {ys : List ℕ} → ys ≡ over (c ++ b ∷ []) (take (length l - place) (drop place l))
-          → Laying t ends at l₀ (putMid place (length l - place) l ys) (i + 1) (place + k)
-      lay-turn {ys} u =
-          let m = lay-length in
-          let w = g .room in
-          let n = g .len in
-          let v : length (c ++ b ∷ []) ≡ k = simp length-append (omega arith) in
-          let z : putMid place (length l - place) l ys ≡ overAt place (c ++ b ∷ []) l = rest-put place (c ++ b ∷ []) l ys u in
-          let s : place + length (c ++ b ∷ []) ≤ length l = omega arith in
-          record {
-            within = omega arith;
-            len = ap length z ∙ length-overAt place (c ++ b ∷ []) l s ∙ n;
-            room = omega arith;
-            same =
-                rw (z, ← v)
-                (sym (overAt-append place (c ++ b ∷ []) (marked (drop (i + 1) (entryList t ends))) l s)
-                ∙ (rw lay-here at (g .same)));
-          }
-
-  pub lay-past : length ends ≤ i → l ≡ overAt at (lineText (entryList t ends)) l₀
-  unfolding marked
-  lay-past h = sym (overAt-nil place l) ∙ (rw (column-past t ends i h) at (g .same))
-
 -- ---- the joiner
-
--- an answer that is done, and each later one of the enum
-pub done-yes : {r : Joined} {n : ℕ} → r ≡ J.Done n → true ≡ isDone (joinedPaper r)
-unfolding isDone joinedPaper
-done-yes e = rw e
-
-pub done-later : (r : Joined) → OneOf (1 ∷ 2 ∷ 3 ∷ 4 ∷ 5 ∷ 6 ∷ []) (tagOf the-type r) → false ≡ isDone (joinedPaper r)
-unfolding isDone joinedPaper
-done-later (J.Done n) h = absurd (miss (1 ∷ 2 ∷ 3 ∷ 4 ∷ 5 ∷ 6 ∷ []) 0 tt h)
-done-later (J.NotUtf8 i) h = refl
-done-later J.Beyond h = refl
-done-later J.Wrong h = refl
-done-later J.Short h = refl
-done-later (J.Bad i) h = refl
-done-later J.Few h = refl
 
 -- what an answer that is done tells of a list and the rest of the output
 record Ready (t ends l : List ℕ) : Type 0 where
   rises : rising 0 ends (length t) ≡ true
-  some : 0 < length ends
   room : length (lineText (entryList t ends)) ≤ length l
+  answer : listAnswer t ends l ≡ says 0 (length (lineText (entryList t ends)) ∷ [])
 
 module _ (vs l : List ℕ) where
   -- what is done is fine
@@ -426,42 +290,88 @@ ready t ends l e = by (rising 0 ends (length t)) (isCount (length ends)) refl re
         → isDone (pick a (pick b (columnsAnswer t ends l) (says 19 [])) (says 16 [])) ≡ true → Ready t ends l
     by true true r c e =
         let f = columns-told line l 0 (entryList t ends) e in
-        record { rises = r; some = count-some (length ends) refl c; room = room-told line l (rw f at e) }
+        let k = room-told line l (rw f at e) in
+        record { rises = r; room = k; answer = rw (r, c, f, room-fits line l k) }
     by true false r c e = absurd (false≢true e)
     by false b r c e = absurd (false≢true e)
+
+-- an answer other than done
+refusal : (r : Joined) → OneOf (1 ∷ 2 ∷ 3 ∷ 4 ∷ 5 ∷ 6 ∷ []) (tagOf the-type r) → isDone (joinedPaper r) ≡ false
+unfolding isDone joinedPaper
+refusal (J.Done n) h = absurd (miss (1 ∷ 2 ∷ 3 ∷ 4 ∷ 5 ∷ 6 ∷ []) 0 tt h)
+refusal (J.NotUtf8 i) h = refl
+refusal J.Beyond h = refl
+refusal J.Wrong h = refl
+refusal J.Short h = refl
+refusal (J.Bad i) h = refl
+refusal J.Few h = refl
 
 module _ (t ends : List ℕ) (at : ℕ) (out : List ℕ) where
   pub join-beyond : length out < at → JoinsAt t ends at out J.Beyond out
   unfolding joinedPaper joinAnswer isDone
   join-beyond h = record { answer = rw (lt-leb _ _ h); bytes = rw (lt-leb _ _ h) }
 
-  module _ (r : Joined) {d : Bool} (h : at ≤ length out) (e : joinedPaper r ≡ listAnswer t ends (take (length out - at) (drop at out))) (f : d ≡ isDone (joinedPaper r)) where
+  module _ (r : Joined) (h : at ≤ length out) (e : joinedPaper r ≡ listAnswer t ends (take (length out - at) (drop at out))) where
     join-answer : joinAnswer t ends at out ≡ joinedPaper r
     unfolding joinAnswer
     join-answer = rw (le-leb _ _ h) (sym (rw (rest-all out at) at e))
 
-    join-as : {out′ : List ℕ} → out′ ≡ pick d (overAt at (lineText (entryList t ends)) out) out → JoinsAt t ends at out r out′
-    join-as b = record { answer = sym join-answer; bytes = rw (join-answer, ← f) b }
+    pub join-refused : OneOf (1 ∷ 2 ∷ 3 ∷ 4 ∷ 5 ∷ 6 ∷ []) (tagOf the-type r) → JoinsAt t ends at out r out
+    join-refused o = record { answer = sym join-answer; bytes = rw (join-answer, refusal r o) }
 
-    module _ (y : d ≡ true) where
+    module _ {n : ℕ} (q : r ≡ J.Done n) where
+      done : isDone (joinedPaper r) ≡ true
+      unfolding isDone joinedPaper
+      done = rw q
+
       join-ready : Ready t ends (take (length out - at) (drop at out))
-      join-ready = ready t ends _ (rw (← e, ← f) y)
+      join-ready = ready t ends _ (rw (← e) done)
 
-      pub join-rising : rising 0 ends (length t) ≡ true
-      join-rising = join-ready .rises
+      join-count : n ≡ length (lineText (entryList t ends))
+      unfolding joinedPaper
+      join-count =
+          let z : says 0 (n ∷ []) ≡ says 0 (length (lineText (entryList t ends)) ∷ []) = (rw q at e) ∙ join-ready .answer in
+          cc
 
-      pub join-some : 0 < length ends
-      join-some = join-ready .some
+      -- the columns, and the LF
+      join-length : n ≡ length (joined 9 (entryList t ends)) + 1
+      unfolding lineText
+      join-length = join-count ∙ length-append (joined 9 (entryList t ends)) (10 ∷ [])
 
-      pub join-room : at + length (lineText (entryList t ends)) ≤ length out
-      join-room = let g = join-ready .room in let k = length-rest out at in omega arith
+      pub join-some : 1 ≤ at + n
+      join-some = let k = join-length in omega arith
 
-      pub join-done : {out′ : List ℕ} → out′ ≡ overAt at (lineText (entryList t ends)) out → JoinsAt t ends at out r out′
-      join-done b = join-as (rw y b)
+      join-room : at + n ≤ length out
+      join-room = let g = join-ready .room in let c = join-count in let k = length-rest out at in omega arith
 
-    pub join-not : d ≡ false → JoinsAt t ends at out r out
-    join-not n = join-as (rw n)
+      pub join-sum : length out < 2 ^ 64 → Fits w64 (at + n)
+      join-sum z = let k = join-room in record { fits = omega arith }
 
-pub ruleset more-laws = (put-length, put-bytes, lay-first, lay-place, lay-room, lay-fits, lay-turn, lay-past, done-yes, done-later, join-beyond, join-rising, join-some, join-room, join-done, join-not)
+      module _ {x : Put} {ys : List ℕ} (w : JoinsList 9 t ends (take (length out - at) (drop at out)) x ys) where
+        join-put : putMid at (length out - at) out ys ≡ overAt at (joined 9 (entryList t ends)) out
+        join-put =
+            let k = join-length in
+            let m = join-room in
+            let s = length-rest out at in
+            rest-put at (joined 9 (entryList t ends)) out ys (joined-fits w (join-ready .rises) (omega arith))
 
-pub ruleset laws = (more-laws, holds-count, bad-empty, bad-tab, bad-feed, return-not, return-byte, refused-bad, refused-return, refused-not, utf8-yes, utf8-no, column-within, column-sum, column-is, column-some, column-right, count-eight, count-ten, count-some, last-is, judge-first, judge-bad, judge-broken, judge-turn, judge-no-end, judge-no-marks, judge-sum, judge-done, list-wrong, list-rising, list-few, list-columns)
+        pub join-last : at + n - 1 < length (putMid at (length out - at) out ys)
+        join-last =
+            let k = join-length in
+            let m = join-room in
+            rw (join-put, length-overAt at (joined 9 (entryList t ends)) out (omega arith)) (omega arith)
+
+        pub join-done : JoinsAt t ends at out (J.Done n) (set (putMid at (length out - at) out ys) (at + n - 1) 10)
+        unfolding lineText
+        join-done =
+            let k = join-length in
+            let m = join-room in
+            let z : at + n - 1 ≡ at + length (joined 9 (entryList t ends)) = omega arith in
+            record {
+              answer = rw (← q) (sym join-answer);
+              bytes = rw (join-answer, done, join-put, z) (overAt-behind at (joined 9 (entryList t ends)) out 10 (omega arith));
+            }
+
+pub ruleset join-laws = (join-beyond, join-refused, join-some, join-sum, join-done)
+
+pub ruleset laws = (place.laws, holds-count, bad-empty, bad-tab, bad-feed, return-not, return-byte, refused-bad, refused-return, refused-not, utf8-yes, utf8-no, count-eight, count-ten, count-some, last-is, judge-first, judge-bad, judge-broken, judge-turn, judge-no-end, judge-no-marks, judge-sum, judge-done, list-wrong, list-rising, list-few, list-columns)

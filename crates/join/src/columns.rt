@@ -4,20 +4,18 @@ use pieces::entries::Ends;
 use pieces::entries::Entry;
 use pieces::entries::entry_at;
 use pieces::entries::judge_ends;
-use text::copy::copy;
+use pieces::joined::put_joined;
 use text::utf8::Utf8;
 use text::utf8::check_utf8;
 ghost use mathlib.Core.Path.{_≡_};
 ghost use mathlib.Core.Bool.{true, _&&_, _||_};
-ghost use mathlib.Core.List.{[], _∷_, _++_};
-ghost use Prim.Native.Nat.{_+_, _≤_, _<_};
+ghost use mathlib.Core.List.{[]};
+ghost use Prim.Native.Nat.{_<_};
 ghost use lib.ListN.{length, getD};
-ghost use Rattle.text.specs.Pick.{pick};
 ghost use Rattle.text.specs.Utf8.{isUtf8};
-ghost use Rattle.text.specs.Over.{over, overAt};
 ghost use Rattle.pieces.specs.Entries.{rising, entryList, startOf};
 ghost use Rattle.line.specs.Line.{endsInReturn};
-ghost use Rattle.join.specs.Join.{JoinsAt, holds, isBad, isCount, columnsJudged, lineText, fitted, listAnswer, isDone};
+ghost use Rattle.join.specs.Join.{JoinsAt, holds, isBad, isCount, columnsJudged, lineText, fitted, listAnswer};
 ghost use Rattle.join.specs.Paper.{joinedPaper};
 
 // The answer of the joiner.
@@ -169,51 +167,6 @@ fn judge(text: &[u8], ends: &[usize], rest: &[u8]) -> Joined
     }
 }
 
-// What stands behind a column: LF behind the last, else a tab.
-fn terminator(last: bool) -> u8
-    ensures { λ r. ⌜ r ≡ pick last 10 9 ⌝ }
-{
-    if last { 10 } else { 9 }
-}
-
-// Writes a column and a byte behind it at the start of the output, and returns how many bytes they are.
-fn put_column(c: &[u8], b: u8, out: &mut [u8]) -> usize
-    requires { ⌜ length (now c) < length (now out) ⌝ }
-    ensures bytes { λ _. ⌜ now (out .exit) ≡ over (now (c .entry) ++ b ∷ []) (now (out .entry)) ⌝ }
-    ensures count { λ r. ⌜ r ≡ length (now (c .entry)) + 1 ⌝ }
-{
-    out[c.len()] = b;
-    copy(c, out);
-    c.len() + 1
-}
-
-// Writes the line from a place of the output on.
-fn put_line(text: &[u8], ends: &[usize], out: &mut [u8], at: usize)
-    requires { ⌜ rising 0 (now ends) (length (now text)) ≡ true ⌝ }
-    requires { ⌜ 0 < length (now ends) ⌝ }
-    requires { ⌜ at + length (lineText (entryList (now text) (now ends))) ≤ length (now out) ⌝ }
-    ensures { λ _. ⌜ now (out .exit) ≡ overAt at (lineText (entryList (now (text .entry)) (now (ends .entry)))) (now (out .entry)) ⌝ }
-{
-    let mut i = 0;
-    let mut place = at;
-    while i < ends.len() {
-        let c = column(text, ends, i);
-        let b = terminator(i + 1 == ends.len());
-        place += put_column(c, b, &mut out[place..]);
-        i += 1;
-    }
-}
-
-// Whether an answer is no refusal.
-fn is_done(r: Joined) -> bool
-    ensures { λ d. ⌜ d ≡ isDone (joinedPaper r) ⌝ }
-{
-    match r {
-        Joined::Done(_) => true,
-        _ => false,
-    }
-}
-
 // Writes columns, given as an entry list, with tabs between and a final LF, at a place of the output.
 pub fn join(text: &[u8], ends: &[usize], out: &mut [u8], at: usize) -> Joined
     ensures { λ r. ⌜ JoinsAt (now (text .entry)) (now (ends .entry)) at (now (out .entry)) r (now (out .exit)) ⌝ }
@@ -222,9 +175,11 @@ pub fn join(text: &[u8], ends: &[usize], out: &mut [u8], at: usize) -> Joined
         return Joined::Beyond;
     }
     let r = judge(text, ends, &out[at..]);
-    if is_done(r) {
-        put_line(text, ends, out, at);
+    let Joined::Done(n) = r else {
         return r;
-    }
+    };
+    put_joined(text, ends, b'\t', &mut out[at..]);
+    let last = at + n - 1;
+    out[last] = b'\n';
     r
 }

@@ -1,2 +1,7 @@
 pub mod AltLaws
+pub mod JudgeLaws
+pub mod WriteLaws
+pub mod ValidLaws
+pub mod Demands
+pub mod PaperLaws
 pub mod Determined

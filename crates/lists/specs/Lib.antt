@@ -1,1 +1,6 @@
+pub mod Kind
 pub mod AlternateBases
+pub mod Judge
+pub mod Paper
+pub mod Write
+pub mod Demands

@@ -1,11 +1,87 @@
 // The ALT column.
+use crate::write::Kind;
+use crate::write::Verdict;
+use crate::write::Write;
+use crate::write::write_list;
 use pieces::count::count_byte;
+use text::space::Space;
+use text::space::find_space;
 ghost use mathlib.Core.Path.{_≡_};
 ghost use Rattle.lists.specs.AlternateBases.{altCount};
+ghost use Rattle.lists.specs.Judge.{insideFine, symbolFine, altFine, entryAnswer};
+ghost use Rattle.lists.specs.Paper.{verdictPaper};
+ghost use Rattle.lists.specs.Write.{WritesListAt};
+ghost use Rattle.lists.specs.declared.write.Kind.the-variants.{Alts};
 
 // How many alternate alleles an ALT column has: its commas plus one.
 pub fn alt_count(column: &[u8]) -> usize
     ensures { λ r. ⌜ r ≡ altCount (now (column .entry)) ⌝ }
 {
     count_byte(column, b',') + 1
+}
+
+// Whether the inside of `<` and `>` is not empty and holds neither.
+fn is_inside(inside: &[u8]) -> bool
+    ensures { λ r. ⌜ r ≡ insideFine (now (inside .entry)) ⌝ }
+{
+    if inside.len() == 0 {
+        return false;
+    }
+    if count_byte(inside, b'<') > 0 {
+        return false;
+    }
+    count_byte(inside, b'>') == 0
+}
+
+// Whether an entry that begins with `<` and, past that byte, ends with `>` has such an inside. `<` alone has no past.
+fn is_symbol(alt: &[u8]) -> bool
+    ensures { λ r. ⌜ r ≡ symbolFine (now (alt .entry)) ⌝ }
+{
+    if alt.len() < 2 {
+        return true;
+    }
+    if alt[0] != b'<' {
+        return true;
+    }
+    let end = alt.len() - 1;
+    if alt[end] != b'>' {
+        return true;
+    }
+    is_inside(&alt[1..end])
+}
+
+// What the bytes of an ALT entry say: it is not empty, holds no comma, and is no bad symbol.
+fn is_fine(alt: &[u8]) -> bool
+    ensures { λ r. ⌜ r ≡ altFine (now (alt .entry)) ⌝ }
+{
+    if alt.len() == 0 {
+        return false;
+    }
+    if count_byte(alt, b',') > 0 {
+        return false;
+    }
+    is_symbol(alt)
+}
+
+// Judges one ALT entry: 5, or 15, or fine.
+pub fn judge_alt(alt: &[u8]) -> Verdict
+    ensures { λ r. ⌜ verdictPaper Alts r ≡ entryAnswer Alts (now (alt .entry)) ⌝ }
+{
+    match find_space(alt) {
+        Space::Broken => Verdict::NotUtf8,
+        Space::Held => Verdict::Invalid,
+        Space::Free => {
+            if is_fine(alt) {
+                return Verdict::Fine;
+            }
+            Verdict::Invalid
+        }
+    }
+}
+
+// Writes ALT entries, given as an entry list, with `,` between, from the place `at` on.
+pub fn write_alts(text: &[u8], ends: &[usize], out: &mut [u8], at: usize) -> Write
+    ensures { λ r. ⌜ WritesListAt Alts (now (text .entry)) (now (ends .entry)) (now (out .entry)) at r (now (out .exit)) ⌝ }
+{
+    write_list(Kind::Alts, text, ends, out, at)
 }

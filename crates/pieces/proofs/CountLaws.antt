@@ -1,9 +1,10 @@
 -- Counting a byte: those passed and those to come are those of the whole; there is one piece more than separators. Assumes nothing.
 use Prim.Native.Nat.{ℕ, _+_, _<_, _≤_, zero-le}
-use mathlib.Core.Path.{_≡_, refl, sym}
+use mathlib.Core.Path.{_≡_, refl, sym, _∙_}
 use mathlib.Core.List.{List, [], _∷_}
 use mathlib.Core.Bool.{Bool, true, false}
 use native.Mathlib.Omega.{arith}
+use native.Mathlib.Decide.{ℕ-discrete}
 use native.Mathlib.Nat.{zero-add}
 use lib.ListN.{length, getD, drop, drop-of-length-le}
 use lib.Dec.{eqb}
@@ -11,7 +12,8 @@ use borrow.Author.Tests.{eq-eqb, ne-eqb}
 use Rattle.text.specs.Pick.{pick}
 use Rattle.text.proofs.Lists.{here}
 use Rattle.pieces.specs.Pieces.{oneIf, countOf, pieces}
-use Rattle.pieces.proofs.PieceLaws.{split-count, pieces-none, pieces-some}
+use Rattle.pieces.specs.Demands.{Free}
+use Rattle.pieces.proofs.PieceLaws.{free-nil, free-cons, free-head, free-tail, split-count, pieces-none, pieces-some}
 
 pub one-yes : (a b : ℕ) → a ≡ b → 1 ≡ oneIf a b
 unfolding oneIf
@@ -41,6 +43,19 @@ count-here b s {a} e = rw (eq-eqb a b e)
 pub count-other : (b : ℕ) (s : List ℕ) {a : ℕ} → (a ≡ b → ⊥) → countOf b (a ∷ s) ≡ countOf b s
 unfolding countOf oneIf
 count-other b s {a} h = rw (ne-eqb a b h) (zero-add _)
+
+-- it is 0 exactly where the text is free of the byte
+pub free-none : {b : ℕ} (s : List ℕ) → Free b s → countOf b s ≡ 0
+free-none {b} [] f = count-none b
+free-none {b} (a ∷ s) f = count-other b s (free-head f) ∙ free-none s (free-tail f)
+
+pub none-free : {b : ℕ} (s : List ℕ) → countOf b s ≡ 0 → Free b s
+none-free [] e = free-nil
+none-free {b} (a ∷ s) e = by (ℕ-discrete a b) (none-free s)
+  where
+    by : Dec (a ≡ b) → (countOf b s ≡ 0 → Free b s) → Free b (a ∷ s)
+    by (yes q) rest = absurd (omega (arith, count-here b s q))
+    by (no n) rest = free-cons n (rest (sym (count-other b s n) ∙ e))
 
 -- n of the first i bytes are b
 pub record Counting (b : ℕ) (s : List ℕ) (n i : ℕ) : Type 0 where

@@ -6,12 +6,14 @@ use lib.ListN.{length}
 use Rattle.pieces.specs.Pieces.{pieces, countOf, stepAnswer}
 use Rattle.pieces.specs.Nth.{nthAnswer}
 use Rattle.pieces.specs.Entries.{endsAnswer, entryAnswer}
+use Rattle.pieces.specs.Joined.{JoinsList}
 use Rattle.pieces.specs.Paper.{stepPaper, nthPaper, endsPaper, entryPaper}
 use Rattle.pieces.specs.declared.step.Step.{Step}
 use Rattle.pieces.specs.declared.nth.Nth.{Nth}
 use Rattle.pieces.specs.declared.entries.Ends.{Ends}
 use Rattle.pieces.specs.declared.entries.Entry.{Entry}
-use Rattle.pieces.proofs.PaperLaws.{step-paper-injective, nth-paper-injective, ends-paper-injective, entry-paper-injective}
+use Rattle.pieces.specs.declared.joined.Joined.{Joined}
+use Rattle.pieces.proofs.PaperLaws.{step-paper-injective, nth-paper-injective, ends-paper-injective, entry-paper-injective, joined-paper-injective}
 
 pub count-determined : (b : ℕ) (t : List ℕ) (r r′ : ℕ) → r ≡ countOf b t → r′ ≡ countOf b t → r ≡ r′
 count-determined b t r r′ e f = e ∙ sym f
@@ -30,3 +32,6 @@ ends-determined t ends r r′ e f = ends-paper-injective r r′ (e ∙ sym f)
 
 pub entry-determined : (t ends : List ℕ) (i : ℕ) (r r′ : Entry) → entryPaper r ≡ entryAnswer t ends i → entryPaper r′ ≡ entryAnswer t ends i → r ≡ r′
 entry-determined t ends i r r′ e f = entry-paper-injective r r′ (e ∙ sym f)
+
+pub joined-determined : {b : ℕ} {t ends l l′ l″ : List ℕ} {r r′ : Joined} → JoinsList b t ends l r l′ → JoinsList b t ends l r′ l″ → (r ≡ r′) × (l′ ≡ l″)
+joined-determined {r = r} {r′ = r′} g h = (joined-paper-injective r r′ (g .answer ∙ sym (h .answer)), g .bytes ∙ sym (h .bytes))

@@ -4,9 +4,10 @@ use mathlib.Core.Path.{_≡_, refl, sym, ap, _∙_}
 use mathlib.Core.List.{List, [], _∷_, flatten}
 use mathlib.Core.Bool.{Bool, true, false, _&&_, and-false, and-eq-true-iff}
 use native.Mathlib.Omega.{arith}
+use native.Mathlib.Numerals.{add-one}
 use native.Mathlib.Nat.{le-refl, sub-self, sub-zero}
 use lib.ListN.{length, getD, take, drop, drop-of-length-le}
-use lib.Seq.{drop-drop, take-add}
+use lib.Seq.{drop-cons, drop-drop, take-add}
 use lib.Dec.{leb, ltb}
 use borrow.Author.Tests.{le-leb, lt-leb, leb-true, leb-false, lt-ltb, le-ltb, ltb-true, ltb-false}
 use Rattle.text.specs.Answer.{says}
@@ -145,6 +146,15 @@ entries-length t ends = by 0 ends
     by : (start : ℕ) (es : List ℕ) → length (entriesFrom start t es) ≡ length es
     by start [] = refl
     by start (e ∷ es) = ap suc (by e es)
+
+module _ (t ends : List ℕ) (i : ℕ) where
+  -- entry i, and then the others
+  pub entry-here : i < length ends → drop i (entryList t ends) ≡ getD (entryList t ends) i [] ∷ drop (i + 1) (entryList t ends)
+  entry-here h = let n = entries-length t ends in rw add-one (drop-cons (entryList t ends) i [] (omega arith))
+
+  -- behind the last there is none
+  pub entry-past : length ends ≤ i → drop i (entryList t ends) ≡ []
+  entry-past h = let n = entries-length t ends in drop-of-length-le (entryList t ends) {i = i} (omega arith)
 
 -- the entry is what stands in its place
 pub entry-cut : (t ends : List ℕ) (i : ℕ) → i < length ends → take (getD ends i 0 - startOf ends i) (drop (startOf ends i) t) ≡ getD (entryList t ends) i []

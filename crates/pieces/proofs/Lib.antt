@@ -5,5 +5,7 @@ pub mod StepLaws
 pub mod NthLaws
 pub mod NumberLaws
 pub mod EntryLaws
+pub mod PlaceLaws
+pub mod JoinedLaws
 pub mod Demands
 pub mod Determined

@@ -5,7 +5,7 @@ use mathlib.Mathlib.Logic.Function.Defs.{LeftInverse·injective}
 use lib.Dec.{eqb}
 use Rattle.text.specs.Pick.{pick}
 use Rattle.text.specs.Answer.{Answer, says}
-use Rattle.pieces.specs.Paper.{stepPaper, nthPaper, endsPaper, entryPaper}
+use Rattle.pieces.specs.Paper.{stepPaper, nthPaper, endsPaper, entryPaper, joinedPaper}
 use Rattle.pieces.specs.declared.step.Step.{Step}
 use Rattle.pieces.specs.declared.step.Step.the-variants as S
 use Rattle.pieces.specs.declared.nth.Nth.{Nth}
@@ -14,6 +14,8 @@ use Rattle.pieces.specs.declared.entries.Ends.{Ends}
 use Rattle.pieces.specs.declared.entries.Ends.the-variants as N
 use Rattle.pieces.specs.declared.entries.Entry.{Entry}
 use Rattle.pieces.specs.declared.entries.Entry.the-variants as E
+use Rattle.pieces.specs.declared.joined.Joined.{Joined}
+use Rattle.pieces.specs.declared.joined.Joined.the-variants as J
 
 stepOf : Answer → Step
 stepOf (says n []) = pick (eqb n 10) S.Nothing S.Beyond
@@ -68,3 +70,16 @@ entry-back E.Wrong = refl
 
 pub entry-paper-injective : (x y : Entry) → entryPaper x ≡ entryPaper y → x ≡ y
 entry-paper-injective = LeftInverse·injective entryOf entryPaper entry-back
+
+joinedOf : Answer → Joined
+joinedOf (says n []) = pick (eqb n 16) J.Wrong J.Short
+joinedOf (says n (v ∷ vs)) = J.Done v
+
+joined-back : (x : Joined) → joinedOf (joinedPaper x) ≡ x
+unfolding joinedOf joinedPaper
+joined-back (J.Done n) = refl
+joined-back J.Wrong = refl
+joined-back J.Short = refl
+
+pub joined-paper-injective : (x y : Joined) → joinedPaper x ≡ joinedPaper y → x ≡ y
+joined-paper-injective = LeftInverse·injective joinedOf joinedPaper joined-back

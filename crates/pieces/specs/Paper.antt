@@ -5,6 +5,8 @@ use Rattle.pieces.specs.declared.step.Step.{Step}
 use Rattle.pieces.specs.declared.step.Step.the-variants as S
 use Rattle.pieces.specs.declared.nth.Nth.{Nth}
 use Rattle.pieces.specs.declared.nth.Nth.the-variants as T
+use Rattle.pieces.specs.declared.joined.Joined.{Joined}
+use Rattle.pieces.specs.declared.joined.Joined.the-variants as J
 use Rattle.pieces.specs.declared.entries.Ends.{Ends}
 use Rattle.pieces.specs.declared.entries.Ends.the-variants as N
 use Rattle.pieces.specs.declared.entries.Entry.{Entry}
@@ -29,3 +31,8 @@ unfoldable pub entryPaper : Entry → Answer
 entryPaper (E.At r) = says 0 (r .start ∷ r .len ∷ [])
 entryPaper E.Nothing = says 10 []
 entryPaper E.Wrong = says 16 []
+
+unfoldable pub joinedPaper : Joined → Answer
+joinedPaper (J.Done n) = says 0 (n ∷ [])
+joinedPaper J.Wrong = says 16 []
+joinedPaper J.Short = says 17 []

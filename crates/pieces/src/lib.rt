@@ -1,5 +1,6 @@
 // A text as a list: of the pieces between separators, and of the entries that their ends give.
 pub mod count;
 pub mod entries;
+pub mod joined;
 pub mod nth;
 pub mod step;

@@ -5,5 +5,6 @@ pub mod Utf8Laws
 pub mod CharLaws
 pub mod SameLaws
 pub mod SpaceLaws
+pub mod FoundLaws
 pub mod Demands
 pub mod Determined

@@ -1,41 +1,63 @@
--- `join::columns::join` meets its contract: a list that is answered done has room for its line, and no other answer writes. Assumes nothing.
+-- `join::columns::join` meets its contract: where the answer is done, the columns and an LF behind them fit; no other answer writes. Assumes nothing.
+use Rattle.join.proofs.JoinLaws.{join-last, join-laws}
 use borrow.Author.Needs.{needs}
-use Rattle.join.proofs.JoinLaws.{laws}
 use Rattle.join.proofs.columns.join.Statement.{statement}
 use Rattle.join.proofs.columns.join.Tie as tie
 
 returns : tie.Need-returns
-returns c = search (needs, laws)
+returns c = search (needs, join-laws)
 
 sub-judge : tie.Need-sub-judge
-sub-judge c = search (needs, laws)
+sub-judge c = search (needs, join-laws)
 
 part-judge-start : tie.Need-part-judge-start
-part-judge-start c = search (needs, laws)
+part-judge-start c = search (needs, join-laws)
 
 part-judge-end : tie.Need-part-judge-end
-part-judge-end c = search (needs, laws)
+part-judge-end c = search (needs, join-laws)
 
 judge-requires : tie.Need-judge-requires
-judge-requires c κs = search (needs, laws)
+judge-requires c κs = search (needs, join-laws)
 
-is-done-requires : tie.Need-is-done-requires
-is-done-requires c κs = search (needs, laws)
-
-put-line-requires : tie.Need-put-line-requires
-put-line-requires c κs = (search (needs, laws), (search (needs, laws), search (needs, laws)))
+enum-known-r : tie.Need-enum-known-r
+enum-known-r c = search (needs, join-laws)
 
 same-length : tie.Need-same-length
-same-length c = search (needs, laws)
+same-length c = search (needs, join-laws)
 
 returns-2 : tie.Need-returns-2
-returns-2 c = search (needs, laws)
+returns-2 c = search (needs, join-laws)
+
+sub-put-joined : tie.Need-sub-put-joined
+sub-put-joined c = search (needs, join-laws)
+
+part-put-joined-start : tie.Need-part-put-joined-start
+part-put-joined-start c = search (needs, join-laws)
+
+part-put-joined-end : tie.Need-part-put-joined-end
+part-put-joined-end c = search (needs, join-laws)
+
+put-joined-requires : tie.Need-put-joined-requires
+put-joined-requires c κs = search (needs, join-laws)
+
+add-last : tie.Need-add-last
+add-last c = search (needs, join-laws)
+
+sub-last : tie.Need-sub-last
+sub-last c = search (needs, join-laws)
+
+slice-write-out : tie.Need-slice-write-out
+slice-write-out c =
+    let d = c .before .before in
+    let k = d .before .before .before in
+    let j = k .before .before in
+    join-last _ _ _ _ _ (j .before .before .before .if1 .left) (j .judge .ensures) (k .r .given .1) (d .put-joined .ensures)
 
 same-length-2 : tie.Need-same-length-2
-same-length-2 c = search (needs, laws)
+same-length-2 c = search (needs, join-laws)
 
 returns-3 : tie.Need-returns-3
-returns-3 c = search (needs, laws)
+returns-3 c = search (needs, join-laws)
 
 pub join-spec : {M : Type 1} → statement M
 join-spec =
@@ -46,9 +68,15 @@ join-spec =
     part-judge-start
     part-judge-end
     judge-requires
-    is-done-requires
-    put-line-requires
+    enum-known-r
     same-length
     returns-2
+    sub-put-joined
+    part-put-joined-start
+    part-put-joined-end
+    put-joined-requires
+    add-last
+    sub-last
+    slice-write-out
     same-length-2
     returns-3)

@@ -1,0 +1,195 @@
+-- The writers: each way through each function is a law of the definitions; the entries still to judge stand for all of them. Assumes nothing.
+use Prim.Native.Nat.{ℕ, _+_, _-_, _<_, _≤_, zero-le}
+use mathlib.Core.Path.{_≡_, refl, _∙_}
+use mathlib.Core.Bool.{Bool, true, false}
+use mathlib.Core.List.{List, [], _∷_}
+use native.Mathlib.Omega.{arith}
+use types.Run.{OneOf, miss}
+use denote.Enum.Declared.{tagOf}
+use lib.ListN.{length, getD, take, drop}
+use lib.Dec.{eqb}
+use borrow.Author.Tests.{le-leb, lt-leb}
+use borrow.Rule.Slice.PartMut.{putMid}
+use Rattle.text.specs.Pick.{pick}
+use Rattle.text.specs.Answer.{says, numberOf}
+use Rattle.text.specs.Over.{over, overAt, Writes}
+use Rattle.text.specs.declared.range.Range.{Range}
+use Rattle.text.specs.declared.copy.Written.{Written}
+use Rattle.text.specs.declared.copy.Written.the-variants as C
+use Rattle.text.proofs.CopyLaws.{room-fits, room-lacks}
+use Rattle.text.proofs.WrittenLaws.{Wrote, Lacked, writes-done, writes-short}
+use Rattle.text.proofs.Lists.{rest-all, rest-put, rest-back}
+use Rattle.pieces.specs.Pieces.{joined}
+use Rattle.pieces.specs.Entries.{rising, entryList, endsAnswer, entryAnswer as placeAnswer}
+use Rattle.pieces.specs.Joined.{JoinsList}
+use Rattle.pieces.specs.Paper.{endsPaper, entryPaper}
+use Rattle.pieces.specs.declared.entries.Ends.{Ends}
+use Rattle.pieces.specs.declared.entries.Ends.the-variants as N
+use Rattle.pieces.specs.declared.entries.Entry.{Entry}
+use Rattle.pieces.specs.declared.entries.Entry.the-variants as E
+use Rattle.pieces.specs.declared.joined.Joined.{Joined}
+use Rattle.pieces.specs.declared.joined.Joined.the-variants as P
+use Rattle.pieces.proofs.EntryLaws.{entries-length, entry-here, entry-past, ends-tell}
+use Rattle.pieces.proofs.PlaceLaws as place
+use Rattle.pieces.proofs.JoinedLaws.{joined-tells}
+use Rattle.lists.specs.Kind.{separatorOf, invalidOf}
+use Rattle.lists.specs.Judge.{entryAnswer}
+use Rattle.lists.specs.Paper.{verdictPaper, writePaper}
+use Rattle.lists.specs.Write.{listText, judgedAnswer, entriesAnswer, listAnswer, writeAnswer, PutsList, WritesList, WritesListAt}
+use Rattle.lists.specs.declared.write.Kind.{Kind}
+use Rattle.lists.specs.declared.write.Kind.the-variants as K
+use Rattle.lists.specs.declared.write.Verdict.{Verdict}
+use Rattle.lists.specs.declared.write.Verdict.the-variants as J
+use Rattle.lists.specs.declared.write.Write.{Write}
+use Rattle.lists.specs.declared.write.Write.the-variants as W
+use Rattle.lists.proofs.write.Write.{the-type}
+
+-- ---- one entry
+
+-- the judge of a kind
+pub of-kind : {kind k : Kind} (v : Verdict) (t : List ℕ) → kind ≡ k → verdictPaper k v ≡ entryAnswer k t → verdictPaper kind v ≡ entryAnswer kind t
+of-kind v t q e = rw q e
+
+-- an entry cut out of the text is the list's
+pub at-place : (kind : Kind) (t ends : List ℕ) (i : ℕ) {x : Entry} {r : Range} (v : Verdict) → entryPaper x ≡ placeAnswer t ends i → x ≡ E.At r
+    → verdictPaper kind v ≡ entryAnswer kind (take (r .start + r .len - r .start) (drop (r .start) t))
+    → verdictPaper kind v ≡ entryAnswer kind (getD (entryList t ends) i [])
+at-place kind t ends i v e q f = rw (place.place-is t ends i e q) at f
+
+-- ---- judging the entries
+
+-- the entries from i on are judged as all are from 0 on
+pub record Judging (kind : Kind) (t ends : List ℕ) (i : ℕ) : Type 0 where
+  pub within : i ≤ length ends
+  pub same : judgedAnswer kind i (drop i (entryList t ends)) ≡ judgedAnswer kind 0 (entryList t ends)
+
+pub judge-first : {kind : Kind} {t ends : List ℕ} → Judging kind t ends 0
+judge-first = record { within = zero-le; same = refl }
+
+invalid-not : (kind : Kind) → eqb (invalidOf kind) 0 ≡ false
+invalid-not K.Filters = refl
+invalid-not K.Alts = refl
+
+module _ {kind : Kind} {t ends : List ℕ} {i : ℕ} (g : Judging kind t ends i) where
+  module _ (x : Verdict) (h : i < length ends) (e : verdictPaper kind x ≡ entryAnswer kind (getD (entryList t ends) i [])) where
+    judge-here : pick (eqb (numberOf (verdictPaper kind x)) 0) (judgedAnswer kind (i + 1) (drop (i + 1) (entryList t ends))) (says (numberOf (verdictPaper kind x)) (i ∷ []))
+        ≡ judgedAnswer kind 0 (entryList t ends)
+    unfolding judgedAnswer
+    judge-here = rw e (rw (entry-here t ends i h) at (g .same))
+
+    pub judge-turn : x ≡ J.Fine → Judging kind t ends (i + 1)
+    unfolding verdictPaper
+    judge-turn q = record { within = omega arith; same = rw q at judge-here }
+
+    pub judge-broken : x ≡ J.NotUtf8 → writePaper kind (W.NotUtf8 i) ≡ judgedAnswer kind 0 (entryList t ends)
+    unfolding verdictPaper writePaper
+    judge-broken q = rw q at judge-here
+
+    pub judge-invalid : x ≡ J.Invalid → writePaper kind (W.Invalid i) ≡ judgedAnswer kind 0 (entryList t ends)
+    unfolding verdictPaper writePaper
+    judge-invalid q = rw (q, invalid-not) at judge-here
+
+  pub judge-past : length ends ≤ i → writePaper kind (W.Done 0) ≡ judgedAnswer kind 0 (entryList t ends)
+  unfolding writePaper judgedAnswer
+  judge-past h = rw (entry-past t ends i h) at (g .same)
+
+-- ---- writing a list that may be written
+
+text-none : (kind : Kind) (es : List (List ℕ)) → length es ≡ 0 → listText kind es ≡ 46 ∷ []
+unfolding listText
+text-none kind [] h = refl
+text-none kind (e ∷ es) h = absurd (omega arith)
+
+text-some : (kind : Kind) (es : List (List ℕ)) → (length es ≡ 0 → ⊥) → listText kind es ≡ joined (separatorOf kind) es
+unfolding listText
+text-some kind [] h = absurd (h refl)
+text-some kind (e ∷ es) h = refl
+
+module _ {kind : Kind} {es : List (List ℕ)} {vs l l′ : List ℕ} (e : listText kind es ≡ vs) where
+  puts-done : {n : ℕ} → Wrote vs l n l′ → PutsList kind es l (W.Done n) l′
+  unfolding writePaper
+  puts-done w = let m = room-fits vs l (w .room) in record { answer = rw (e, m, w .count); bytes = rw (e, m) (w .bytes) }
+
+  puts-short : Lacked vs l l′ → PutsList kind es l W.Short l′
+  unfolding writePaper
+  puts-short w = let m = room-lacks vs l (w .room) in record { answer = rw (e, m); bytes = rw (e, m) (w .bytes) }
+
+-- the empty list
+module _ (kind : Kind) (t ends : List ℕ) {l l′ : List ℕ} {x : Written} (w : Writes (46 ∷ []) l x l′) (h : length ends ≡ 0) where
+  none-text : listText kind (entryList t ends) ≡ 46 ∷ []
+  none-text = text-none kind (entryList t ends) (entries-length t ends ∙ h)
+
+  pub none-done : {n : ℕ} → x ≡ C.Done n → PutsList kind (entryList t ends) l (W.Done n) l′
+  none-done q = puts-done none-text (writes-done w q)
+
+  pub none-short : x ≡ C.Short → PutsList kind (entryList t ends) l W.Short l′
+  none-short q = puts-short none-text (writes-short w q)
+
+-- a list of some
+module _ (kind : Kind) {b : ℕ} {t ends l l′ : List ℕ} {x : Joined} (w : JoinsList b t ends l x l′) (r : rising 0 ends (length t) ≡ true)
+    (h : length ends ≡ 0 → ⊥) (s : b ≡ separatorOf kind) where
+  some-text : listText kind (entryList t ends) ≡ joined b (entryList t ends)
+  some-text = let n = entries-length t ends in rw s (text-some kind (entryList t ends) (λ z. h (omega arith)))
+
+  pub some-done : {n : ℕ} → x ≡ P.Done n → PutsList kind (entryList t ends) l (W.Done n) l′
+  some-done q = puts-done some-text (rw q at (joined-tells x w r))
+
+  pub some-short : x ≡ P.Short → PutsList kind (entryList t ends) l W.Short l′
+  some-short q = puts-short some-text (rw q at (joined-tells x w r))
+
+  pub some-wrong : x ≡ P.Wrong → ⊥
+  some-wrong q = rw q at (joined-tells x w r)
+
+-- ---- the answer for a list
+
+module _ (t ends : List ℕ) (x : Ends) (e : endsPaper x ≡ endsAnswer t ends) where
+  pub good-rising : x ≡ N.Good → rising 0 ends (length t) ≡ true
+  good-rising q = rw q at (ends-tell t ends x e)
+
+  pub list-wrong : (kind : Kind) (l : List ℕ) → x ≡ N.Wrong → WritesList kind t ends l W.Wrong l
+  unfolding writePaper listAnswer
+  list-wrong kind l q = let r = rw q at (ends-tell t ends x e) in record { answer = rw r; bytes = rw r }
+
+-- an answer other than done is a refusal
+refusal : (kind : Kind) (r : Write) → OneOf (1 ∷ 2 ∷ 3 ∷ 4 ∷ 5 ∷ []) (tagOf the-type r) → eqb (numberOf (writePaper kind r)) 0 ≡ false
+unfolding writePaper
+refusal kind (W.Done n) h = absurd (miss (1 ∷ 2 ∷ 3 ∷ 4 ∷ 5 ∷ []) 0 tt h)
+refusal kind (W.NotUtf8 i) h = refl
+refusal kind W.Beyond h = refl
+refusal kind (W.Invalid i) h = invalid-not kind
+refusal kind W.Wrong h = refl
+refusal kind W.Short h = refl
+
+module _ {kind : Kind} {t ends : List ℕ} (l : List ℕ) (judged : Write) (r : rising 0 ends (length t) ≡ true) (e : writePaper kind judged ≡ judgedAnswer kind 0 (entryList t ends)) where
+  pub list-refused : OneOf (1 ∷ 2 ∷ 3 ∷ 4 ∷ 5 ∷ []) (tagOf the-type judged) → WritesList kind t ends l judged l
+  unfolding listAnswer entriesAnswer
+  list-refused o = let n = refusal kind judged o in record { answer = rw (r, ← e, n); bytes = rw (r, ← e, n, n) }
+
+  pub list-put : {n : ℕ} {x : Write} {l′ : List ℕ} → judged ≡ W.Done n → PutsList kind (entryList t ends) l x l′ → WritesList kind t ends l x l′
+  unfolding listAnswer entriesAnswer writePaper
+  list-put q p = record { answer = rw (r, ← e, q) (p .answer); bytes = rw (r, ← e, q) (p .bytes) }
+
+-- ---- from a place on
+
+module _ {kind : Kind} {t ends out : List ℕ} {at : ℕ} where
+  pub at-beyond : length out < at → WritesListAt kind t ends out at W.Beyond out
+  unfolding writePaper writeAnswer
+  at-beyond h = record { answer = rw (lt-leb _ _ h); bytes = rw (lt-leb _ _ h) }
+
+  pub at-rest : {x : Write} {ys : List ℕ} → at ≤ length out → WritesList kind t ends (take (length out - at) (drop at out)) x ys
+      → WritesListAt kind t ends out at x (putMid at (length out - at) out ys)
+  unfolding writeAnswer
+  at-rest {x} {ys} h w =
+      record {
+        answer = rw (le-leb _ _ h) (rw (rest-all out at) at (w .answer));
+        bytes = rw (le-leb _ _ h) (by (eqb (numberOf (listAnswer kind t ends (drop at out))) 0) (rw (rest-all out at) at (w .bytes)));
+      }
+    where
+      vs : List ℕ
+      vs = listText kind (entryList t ends)
+
+      by : (c : Bool) → ys ≡ pick c (over vs (drop at out)) (drop at out) → putMid at (length out - at) out ys ≡ pick c (overAt at vs out) out
+      by true e = rest-put at vs out ys (rw rest-all e)
+      by false e = rest-back at out ys (rw rest-all e)
+
+pub ruleset laws = (place.laws, of-kind, at-place, judge-first, judge-turn, judge-broken, judge-invalid, judge-past, none-done, none-short, some-done, some-short, some-wrong, good-rising, list-wrong, list-refused, list-put, at-beyond, at-rest)

@@ -1,0 +1,58 @@
+-- What a writer of filters or ALT entries answers, and what it leaves in the output (docs/RULES.md, "Filters and ALT").
+-- Assumes nothing.
+use Prim.Native.Nat.{ℕ, _+_}
+use mathlib.Core.Path.{_≡_}
+use mathlib.Core.List.{List, [], _∷_}
+use lib.ListN.{length, drop}
+use lib.Dec.{leb, eqb}
+use Rattle.text.specs.Pick.{pick}
+use Rattle.text.specs.Answer.{Answer, says, numberOf}
+use Rattle.text.specs.Over.{over, overAt, roomAnswer}
+use Rattle.pieces.specs.Pieces.{joined}
+use Rattle.pieces.specs.Entries.{rising, entryList}
+use Rattle.lists.specs.Kind.{separatorOf}
+use Rattle.lists.specs.Judge.{entryAnswer}
+use Rattle.lists.specs.Paper.{writePaper}
+use Rattle.lists.specs.declared.write.Kind.{Kind}
+use Rattle.lists.specs.declared.write.Write.{Write}
+
+-- ---- the text
+
+-- `.` for none, else the entries with separators between
+unfoldable pub listText : Kind → List (List ℕ) → List ℕ
+listText kind [] = 46 ∷ []
+listText kind (e ∷ es) = joined (separatorOf kind) (e ∷ es)
+
+-- ---- the answer
+
+-- the first of the entries, from index i on, that is refused, with its index; or 0
+unfoldable pub judgedAnswer : Kind → ℕ → List (List ℕ) → Answer
+judgedAnswer kind i [] = says 0 (0 ∷ [])
+judgedAnswer kind i (e ∷ es) = pick (eqb (numberOf (entryAnswer kind e)) 0) (judgedAnswer kind (i + 1) es) (says (numberOf (entryAnswer kind e)) (i ∷ []))
+
+-- room last
+unfoldable pub entriesAnswer : Kind → List (List ℕ) → List ℕ → Answer
+unfolding judgedAnswer
+entriesAnswer kind es l = pick (eqb (numberOf (judgedAnswer kind 0 es)) 0) (roomAnswer (listText kind es) l) (judgedAnswer kind 0 es)
+
+-- 16 before
+unfoldable pub listAnswer : Kind → List ℕ → List ℕ → List ℕ → Answer
+listAnswer kind t ends l = pick (rising 0 ends (length t)) (entriesAnswer kind (entryList t ends) l) (says 16 [])
+
+-- 6 first
+unfoldable pub writeAnswer : Kind → List ℕ → List ℕ → List ℕ → ℕ → Answer
+writeAnswer kind t ends out at = pick (leb at (length out)) (listAnswer kind t ends (drop at out)) (says 6 [])
+
+-- ---- the output: only an answer that is done changes it
+
+pub record PutsList (kind : Kind) (es : List (List ℕ)) (l : List ℕ) (r : Write) (l′ : List ℕ) : Type 0 where
+  pub answer : writePaper kind r ≡ roomAnswer (listText kind es) l
+  pub bytes : l′ ≡ pick (eqb (numberOf (roomAnswer (listText kind es) l)) 0) (over (listText kind es) l) l
+
+pub record WritesList (kind : Kind) (t ends l : List ℕ) (r : Write) (l′ : List ℕ) : Type 0 where
+  pub answer : writePaper kind r ≡ listAnswer kind t ends l
+  pub bytes : l′ ≡ pick (eqb (numberOf (listAnswer kind t ends l)) 0) (over (listText kind (entryList t ends)) l) l
+
+pub record WritesListAt (kind : Kind) (t ends out : List ℕ) (at : ℕ) (r : Write) (out′ : List ℕ) : Type 0 where
+  pub answer : writePaper kind r ≡ writeAnswer kind t ends out at
+  pub bytes : out′ ≡ pick (eqb (numberOf (writeAnswer kind t ends out at)) 0) (overAt at (listText kind (entryList t ends)) out) out

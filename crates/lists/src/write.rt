@@ -1,0 +1,153 @@
+// What the writers of filters and of ALT entries share: they differ in the separator and the judge alone.
+use crate::alternate_bases::judge_alt;
+use crate::filters::judge_filter;
+use pieces::entries::Ends;
+use pieces::entries::Entry;
+use pieces::entries::entry_at;
+use pieces::entries::judge_ends;
+use pieces::joined::Joined;
+use pieces::joined::put_joined;
+use text::copy::Written;
+use text::copy::copy;
+ghost use mathlib.Core.Path.{_≡_};
+ghost use mathlib.Core.Bool.{true};
+ghost use mathlib.Core.List.{[]};
+ghost use Prim.Native.Nat.{_<_};
+ghost use lib.ListN.{length, getD};
+ghost use Rattle.pieces.specs.Entries.{rising, entryList};
+ghost use Rattle.lists.specs.Kind.{separatorOf};
+ghost use Rattle.lists.specs.Judge.{entryAnswer};
+ghost use Rattle.lists.specs.Paper.{verdictPaper, writePaper};
+ghost use Rattle.lists.specs.Write.{judgedAnswer, PutsList, WritesList, WritesListAt};
+
+// Which list is written.
+pub enum Kind {
+    Filters,
+    Alts,
+}
+
+// Whether an entry may be written.
+pub enum Verdict {
+    // 0: it may.
+    Fine,
+    // 5: it is not UTF-8.
+    NotUtf8,
+    // 14 for a filter, 15 for an ALT entry: it is invalid.
+    Invalid,
+}
+
+// The answer of a writer.
+pub enum Write {
+    // 0: so many bytes were written.
+    Done(usize),
+    // 5: the entry with this index is not UTF-8.
+    NotUtf8(usize),
+    // 6: the place lies beyond the output.
+    Beyond,
+    // 14 for a filter, 15 for an ALT entry: the entry with this index is invalid.
+    Invalid(usize),
+    // 16: the ends fall, or pass the text.
+    Wrong,
+    // 17: the list does not fit.
+    Short,
+}
+
+fn separator(kind: Kind) -> u8
+    ensures { λ r. ⌜ r ≡ separatorOf kind ⌝ }
+{
+    match kind {
+        Kind::Filters => b';',
+        Kind::Alts => b',',
+    }
+}
+
+fn judge_entry(kind: Kind, entry: &[u8]) -> Verdict
+    ensures { λ r. ⌜ verdictPaper kind r ≡ entryAnswer kind (now (entry .entry)) ⌝ }
+{
+    match kind {
+        Kind::Filters => judge_filter(entry),
+        Kind::Alts => judge_alt(entry),
+    }
+}
+
+// Judges entry i.
+fn judge_at(kind: Kind, text: &[u8], ends: &[usize], i: usize) -> Verdict
+    requires { ⌜ rising 0 (now ends) (length (now text)) ≡ true ⌝ }
+    requires { ⌜ i < length (now ends) ⌝ }
+    ensures { λ r. ⌜ verdictPaper kind r ≡ entryAnswer kind (getD (entryList (now (text .entry)) (now (ends .entry))) i []) ⌝ }
+{
+    match entry_at(text, ends, i) {
+        Entry::At(place) => {
+            let start = place.start;
+            let end = start + place.len;
+            judge_entry(kind, &text[start..end])
+        }
+        // Not reached: the ends are good.
+        _ => Verdict::Invalid,
+    }
+}
+
+// Judges the entries in order: the first that may not be written, or none.
+fn judge_list(kind: Kind, text: &[u8], ends: &[usize]) -> Write
+    requires { ⌜ rising 0 (now ends) (length (now text)) ≡ true ⌝ }
+    ensures { λ r. ⌜ writePaper kind r ≡ judgedAnswer kind 0 (entryList (now (text .entry)) (now (ends .entry))) ⌝ }
+{
+    let mut i = 0;
+    while i < ends.len() {
+        match judge_at(kind, text, ends, i) {
+            Verdict::Fine => i += 1,
+            Verdict::NotUtf8 => return Write::NotUtf8(i),
+            Verdict::Invalid => return Write::Invalid(i),
+        }
+    }
+    Write::Done(0)
+}
+
+// Writes a list that may be written: `.` where it is empty.
+fn put_list(kind: Kind, text: &[u8], ends: &[usize], out: &mut [u8]) -> Write
+    requires { ⌜ rising 0 (now ends) (length (now text)) ≡ true ⌝ }
+    ensures { λ r. ⌜ PutsList kind (entryList (now (text .entry)) (now (ends .entry))) (now (out .entry)) r (now (out .exit)) ⌝ }
+{
+    if ends.len() == 0 {
+        return match copy(b".", out) {
+            Written::Done(n) => Write::Done(n),
+            Written::Short => Write::Short,
+        };
+    }
+    match put_joined(text, ends, separator(kind), out) {
+        Joined::Done(n) => Write::Done(n),
+        Joined::Short => Write::Short,
+        // Not reached: the ends are good.
+        Joined::Wrong => Write::Wrong,
+    }
+}
+
+// Writes a list at the start of the output.
+fn write_rest(kind: Kind, text: &[u8], ends: &[usize], out: &mut [u8]) -> Write
+    ensures { λ r. ⌜ WritesList kind (now (text .entry)) (now (ends .entry)) (now (out .entry)) r (now (out .exit)) ⌝ }
+{
+    let Ends::Good = judge_ends(text, ends) else {
+        return Write::Wrong;
+    };
+    let judged = judge_list(kind, text, ends);
+    let Write::Done(_) = judged else {
+        return judged;
+    };
+    put_list(kind, text, ends, out)
+}
+
+// Writes a list from the place `at` on.
+pub(crate) fn write_list(
+    kind: Kind,
+    text: &[u8],
+    ends: &[usize],
+    out: &mut [u8],
+    at: usize,
+) -> Write
+    ensures { λ r. ⌜ WritesListAt kind (now (text .entry)) (now (ends .entry)) (now (out .entry)) at r (now (out .exit)) ⌝ }
+{
+    if at > out.len() {
+        return Write::Beyond;
+    }
+    write_rest(kind, text, ends, &mut out[at..])
+}

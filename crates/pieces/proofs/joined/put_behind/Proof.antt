@@ -1,0 +1,46 @@
+-- `pieces::joined::put_behind` meets its contract: the entry is copied behind the place of the separator. Assumes nothing.
+use Rattle.pieces.proofs.JoinedLaws.{laws}
+use borrow.Author.Needs.{needs}
+use Rattle.pieces.proofs.joined.put_behind.Statement.{statement}
+use Rattle.pieces.proofs.joined.put_behind.Tie as tie
+
+add-behind : tie.Need-add-behind
+add-behind c = search (needs, laws)
+
+sub-copy : tie.Need-sub-copy
+sub-copy c = search (needs, laws)
+
+part-copy-start : tie.Need-part-copy-start
+part-copy-start c = search (needs, laws)
+
+part-copy-end : tie.Need-part-copy-end
+part-copy-end c = search (needs, laws)
+
+copy-requires : tie.Need-copy-requires
+copy-requires c κs = search (needs, laws)
+
+slice-write-out : tie.Need-slice-write-out
+slice-write-out c = search (needs, laws)
+
+add-result : tie.Need-add-result
+add-result c = search (needs, laws)
+
+same-length : tie.Need-same-length
+same-length c = search (needs, laws)
+
+returns : tie.Need-returns
+returns c = search (needs, laws)
+
+pub put-behind-spec : {M : Type 1} → statement M
+put-behind-spec =
+    tie.close
+    (tie.spec
+    add-behind
+    sub-copy
+    part-copy-start
+    part-copy-end
+    copy-requires
+    slice-write-out
+    add-result
+    same-length
+    returns)
