@@ -1137,6 +1137,176 @@ def written_genotypes(large, dice):
     yield from random_lists(large, dice)
 
 
+# ---- filters and alts
+
+ENTRIES = (
+    # filters and ALT entries of the specification's examples
+    b"PASS", b"q10", b"s50", b"A", b"GTCT", b"*", b"<DEL>", b"<INS:ME:ALU>", b"<CN0>", b"<*>", b"]13:123456]T",
+    b"G]17:198982]", b"C[2:321682[", b"[<c>:7[T", b"C<ctg1>", b".A", b"G.",
+    # what one of the two refuses, and what is near to that
+    b"", b".", b"..", b"0", b"00", b"0.", b".0", b"+0", b"a0", b",", b";", b"a,b", b"a;b", b",a", b"a;", b"+", b"-",
+    b":", b"=", b"<", b">", b"<>", b"<a>", b"<a", b"a>", b"<<", b">>", b"><", b"<<>", b"<>>", b"<a>b", b"b<a>",
+    b"<a<b>", b"<a>b>", b"<<a>>", b"<a,b>", b"<a;b>", b"<,>", b"<;>", b"<.>", b"<0>", b"<a><b>", b"<a>,", b"<a>;",
+    b",<a>", b"a<b>c", b"<a><",
+    # other characters, control bytes that are no white space, and bytes one bit away from those that count
+    "\u00e9".encode(), "<\u8a9e>".encode(), "<\U000233b4".encode(), "\uff0c\uff1b\uff1c\uff1e".encode(), b"\x00",
+    b"\x08", b"\x0e", b"\x1c\x1f", b"\x7f", b"<\x00>", b"\x1c\x1e\x0c", b"l{|~",
+)
+NOT_UTF8_ENTRIES = (
+    b"\xff", b"\xc3", b"\xa9", b"a\xffz", b"\xc3\xa9\xa9", b"\xed\xa0\x80", b"\xc0\x80", b"\xe2\x80",
+    b"\xf4\x90\x80\x80", b"<\xff>", b"<\xc3", b"\xff>", b"\xbc\xbe\xac\xbb",
+    # bad in other ways too
+    b"\xff;,", b";,\xff", b"\xff ", b" \xff", b"<>\xff", b".\xff", b"\x85", b"\xa0", b"\xe2\x80 ",
+)
+
+
+def both_lists(room, at, text, ends):
+    yield ask("filters", room, at, text, ends)
+    yield ask("alts", room, at, text, ends)
+
+
+def of_entries(entries, tail=b"", at=0):
+    """The entries into a byte more than they need; none of them into the one byte of their dot."""
+    yield from both_lists(at + max(needed(entries), 1), at, *listed(entries, tail))
+
+
+def alone_and_not(entry):
+    """An entry alone, before a good one, after one, and between two."""
+    for entries in ([entry], [entry, b"a"], [b"a", entry], [b"b", entry, b"c"]):
+        yield from of_entries(entries)
+
+
+def about_white_space():
+    """Each white-space character and its two neighbours: alone, first, last, within, and between `<` and `>`."""
+    for point in sorted({point + step for point in WHITE for step in (-1, 0, 1)}):
+        mark = encoded(point)
+        for entry in (mark, mark + b"a", b"a" + mark, b"a" + mark + b"b", b"<" + mark + b">"):
+            yield from of_entries([entry])
+        yield from of_entries([b"a", b"b" + mark, b"c"])
+        if len(mark) > 1:
+            # cut in two, neither part is a character
+            yield from of_entries([b"a", mark[:-1], mark[-1:]])
+            yield from of_entries([mark[1:], b"a"])
+
+
+def short_entries(large):
+    """All short entries of the bytes that count."""
+    for entry in short_texts(b"<>a,", 6 if large else 5):
+        yield ask("alts", len(entry) + 1, 0, *listed([entry]))
+    for entry in short_texts(b"0.a; ", 5 if large else 3):
+        yield ask("filters", len(entry) + 1, 0, *listed([entry]))
+    for entry in short_texts(b"<>0.;,\xc3\xa9 ", 4 if large else 2):
+        yield from of_entries([b"a", entry])
+
+
+def mixed_entry_faults():
+    """Every mixture of faults, so that each is seen to go before the next."""
+    faults = (
+        {}, {1: b""}, {1: b"\xff"}, {1: b" \xff"}, {0: b" ", 2: b"\xff"}, {0: b"\xff", 2: b""}, {1: b";,", 2: b" "},
+    )
+    for fault in faults:
+        entries = replaced([b"q1", b"b", b"<c>"], fault)
+        need, (text, good) = needed(entries) - 1, listed(entries)
+        fall, pass_text = (good[0], 0, good[2]), (*good[:-1], len(text) + 1)
+        for ends, room in itertools.product((good, fall, pass_text), (need, need - 1)):
+            yield from both_lists(room, 0, text, ends)
+            yield from both_lists(room, room, text, ends)
+            yield from both_lists(room, room + 1, text, ends)
+
+
+def list_rooms():
+    """Rooms from none to more than needed, places from the first to past the output."""
+    for entries in ([], [b"a"], [b"q10", b"<b>"], [b"a", "\u8a9e".encode(), b"cd", b"<e>"]):
+        need, (text, ends) = needed(entries), listed(entries)
+        for room in range(need + 3):
+            yield from both_lists(room, 0, text, ends)
+        for room in range(2, need + 5):
+            yield from both_lists(room, 3, text, ends)
+        for at in (*range(need + 5), *FAR):
+            yield from both_lists(need + 2, at, text, ends)
+        for at in (0, 1, *FAR):
+            yield from both_lists(0, at, text, ends)
+
+
+def list_ends():
+    """Ends that fall, stand still or pass the text, at each entry; tails; entries that cut a character."""
+    text, ends = listed([b"ab", b"c", b"def", b"g"])
+    for index in range(4):
+        before = ends[index - 1] if index else 0
+        near = {before - 1, before, before + 1, len(text), len(text) + 1} - {-1}
+        for end in (*sorted(near), 2**32 + ends[index], LARGEST):
+            yield from both_lists(14, 1, text, (*ends[:index], end, *ends[index + 1 :]))
+    for tail in (b"a", b";", b",", b" ", b"\xff", b"\xa9", b"a" * 300):
+        for entries in ([], [b"a"], [b"a", b"b\xc3"], [b"a", b"<b"], [b"a", b""]):
+            yield from of_entries(entries, tail, 2)
+    for tail, count in itertools.product((b"", b"a"), (1, 2, 1_024)):
+        yield from both_lists(9, 0, tail, (0,) * count)
+    for ends in ((LARGEST,), (1, 0), (0, 1), (1, 1), (2,), (0, LARGEST, 0), (1, LARGEST), (LARGEST, 1)):
+        yield from both_lists(5, 1, b"a", ends)
+        yield from both_lists(5, 1, b"", ends)
+
+
+def many_entries(large):
+    """None to 300 entries and as many as a case may have; the last of them bad."""
+    for count in range(301) if large else (0, 1, 2, 3, 10, 63, 64, 255, 256, 257, 299, 300):
+        good = [b"abc"[number % 3 :][:1] for number in range(count)]
+        yield from of_entries(good)
+        for bad in (b"", b"\xff", b"<>", b"0") if large else (b"",):
+            yield from of_entries([*good, bad])
+    for count in (1_023, 1_024):
+        text, ends = listed([b"a"] * count)
+        for room in (2 * count - 2, 2 * count - 1):
+            yield from both_lists(room, 0, text, ends)
+
+
+def longest_entries():
+    """Outputs as long as may be: filled, one byte short, one byte long; by one entry and by two."""
+    for length in (4_095, 4_096, 4_097):
+        yield ask("filters", 4_096, 0, *listed([filler(length)]))
+    for length in (4_092, 4_093):
+        yield ask("alts", 4_096, 0, *listed([b"ab", filler(length)]))
+    yield ask("filters", 4_096, 1, *listed([filler(4_095)]))
+    yield ask("filters", 4_096, 1, *listed([filler(4_096)]))
+    yield ask("alts", 4_096, 0, *listed([b"<" + filler(4_094) + b">"]))
+    yield ask("alts", 4_096, 0, *listed([b"<" + filler(4_093) + b">>"]))
+    yield ask("alts", 0, 0, *listed([b"a" + filler(4_094) + encoded(0x3000)]))
+
+
+def random_list_entry(dice):
+    """Now and then an empty one, or one between `<` and `>`."""
+    length = 1 + dice.roll(4) if dice.roll(30) else 0
+    entry = "".join(dice.pick("aaaabq10.<>\u00e9\u8a9e\U000233b4\x00") for _ in range(length))
+    return (entry if dice.roll(4) else f"<{entry}>").encode()
+
+
+def random_entries(large, dice):
+    for _ in range(10_000 if large else 120):
+        entries = [random_list_entry(dice) for _ in range(1 + dice.roll(6))]
+        text, ends = listed(entries, random_list_entry(dice))
+        if not dice.roll(2):
+            text = damaged(dice, text + b"a", dice.pick((range(256), b"<>;, .0\xff")))
+        if not dice.roll(8):
+            at = dice.roll(len(ends))
+            ends = (*ends[:at], dice.roll(len(text) + 2), *ends[at + 1 :])
+        at = dice.roll(4)
+        yield from both_lists(at + needed(entries) + dice.roll(3) - 1, at, text, ends)
+
+
+def entry_lists(large, dice):
+    for entry in (*ENTRIES, *NOT_UTF8_ENTRIES, *(map(bytes.fromhex, WRONG) if large else ())):
+        yield from alone_and_not(entry)
+    for first, second in itertools.product((*ENTRIES, *NOT_UTF8_ENTRIES), repeat=2) if large else ():
+        yield from of_entries([first, second])
+    yield from about_white_space()
+    yield from short_entries(large)
+    yield from mixed_entry_faults()
+    yield from list_rooms()
+    yield from list_ends()
+    yield from many_entries(large)
+    yield from longest_entries()
+    yield from random_entries(large, dice)
+
+
 # ---- the form of a case
 
 NO_CASES = (
@@ -1290,6 +1460,33 @@ NO_GENOTYPE_CASES = (
 )
 
 
+# The same of filters and alts.
+NO_LIST_CASES = (
+    # an unknown verb, an argument too few or too many, spaces
+    b"filter 9 0 61 1", b"filterss 9 0 61 1", b"Filters 9 0 61 1", b"filters", b"filters 9", b"filters 9 0",
+    b"filters 9 0 61", b"filters 9 61 1", b"filters 9 0 61 1 2", b"filters 9 0 61 1 -", b"filters  9 0 61 1",
+    b"filters 9 0  1", b"filters 9 0 61 ", b"filters 9 0 61 1 ", b" filters 9 0 61 1", b"filters 9 0 61 1\r",
+    b"alt 9 0 61 1", b"altss 9 0 61 1", b"ALTS 9 0 61 1", b"alts", b"alts 9 0 61", b"alts 9 0 61 1 1",
+    b"alts 9 0 61  1", b"alts 9 0 - ", b"alts\t9 0 61 1",
+    # hex that is odd, upper case or none
+    b"filters 9 0 6 1", b"filters 9 0 6A 1", b"filters 9 0 PASS 1", b"filters 9 0 -- -", b"filters 9 0 . -",
+    b"alts 9 0 6 1", b"alts 9 0 3C3E 2", b"alts 9 0 <> 2", b"alts 9 0 61- 1",
+    # a number that is empty, has a sign or a leading zero, passes its type, or is none
+    b"filters 4097 0 61 1", b"filters 09 0 61 1", b"filters - 0 61 1", b"filters +9 0 61 1", b"filters 9 00 61 1",
+    b"filters 9 - 61 1", b"filters 9 -1 61 1", b"filters 9 18446744073709551616 61 1",
+    b"filters 18446744073709551625 0 61 1", b"alts 4097 0 61 1", b"alts 9 01 61 1", b"alts a 0 61 1", b"alts 9 a 61 1",
+    b"alts 9 18446744073709551616 61 1",
+    # ends
+    b"filters 9 0 61 ,", b"filters 9 0 61 1,", b"filters 9 0 61 ,1", b"filters 9 0 61 0,,1", b"filters 9 0 61 01",
+    b"filters 9 0 61 +1", b"filters 9 0 61 0;1", b"filters 9 0 61 -,1", b"filters 9 0 61 --", b"filters 9 0 61 0, 1",
+    b"filters 9 0 61 a", b"filters 9 0 61 18446744073709551616", b"alts 9 0 61 ,", b"alts 9 0 61 1,",
+    b"alts 9 0 61 0,01", b"alts 9 0 61 1,-", b"alts 9 0 61 -1", b"alts 9 0 61 1,18446744073709551616",
+    b"alts 9 0 61 0x1",
+    # one too many, the last of as many as may be none
+    b"filters 9 0 - 0" + b",0" * 1_024, b"alts 9 0 - 0" + b",0" * 1_024, b"alts 9 0 - 0" + b",0" * 1_022 + b",x",
+)
+
+
 def spoilt(lines, large):
     """Good lines with one byte put in, in every place, that makes each of them none."""
     for line, byte in itertools.product(lines, b"\x00\t\r \x7f\x80\xffxG" if large else b"\x00 x"):
@@ -1397,17 +1594,34 @@ def long_genotype_lines():
     yield ask("unequal", 64, 64, 64, b"1|" * 16_379 + b"1")
 
 
+def long_list_lines():
+    """The same of filters and alts, at large only."""
+    text = filler(32_753)
+    for verb, end in itertools.product(("filters", "alts"), (b"", b" ", b"\xff")):
+        whole = text[: len(text) - len(end)] + end
+        yield ask(verb, 4_096, 0, whole, (len(whole),))
+        yield ask(verb, 0, 0, whole, (1, len(whole)))
+    yield none(ask("filters", 4_096, 0, filler(32_758), (32_758,))[0])
+    yield none(ask("alts", 4_096, 0, filler(32_760), (32_760,))[0])
+    for verb in ("filters", "alts"):
+        yield ask(verb, 4_096, 0, b"a" * 30_000, tuple(range(1, 1_025)))
+        yield ask(verb, 4_096, 0, b"a" * 30_000, (*range(1, 1_024), 3_073))
+        yield ask(verb, 4_096, 0, b"a" * 30_000, (*range(1, 1_024), 3_074))
+
+
 def form(large):
     """Lines that are none and long lines, each before a case with an answer of its own: a shift shows at once."""
     good = (b"utf8 41", b"print 5 70", b"space -", b"decimal 2b37") if large else (b"utf8 41", b"print 5 70")
     more = (b"field id 61 0", b"join 9 0 6162 1,2", *((b"line 6109 0", b"place 61 0 1", b"pos 31") if large else ()))
     steps = (b"info 61 0", b"key 61 61", *((b"scan 61", b"value 613d 61", b"sample 61 0") if large else ()))
     calls = (b"read 2 30", b"write 4 4 2 0 0:0:1", *((b"readalt 2 30 41", b"unequal 1 1 1 30") if large else ()))
+    lists = (b"filters 2 0 61 1", *((b"alts 2 0 61 1",) if large else ()))
     lines = (
         *map(none, (*NO_CASES, *spoilt(good, large))), *long_lines(large),
         *map(none, (*NO_RECORD_CASES, *spoilt(more, large))), *long_record_lines(large),
         *map(none, (*NO_INFO_CASES, *spoilt(steps, large))), *long_info_lines(large),
         *map(none, (*NO_GENOTYPE_CASES, *spoilt(calls, large))), *(long_genotype_lines() if large else ()),
+        *map(none, (*NO_LIST_CASES, *spoilt(lists, large))), *(long_list_lines() if large else ()),
     )
     for index, case in enumerate(lines):
         yield case
@@ -1422,6 +1636,7 @@ def cases(size):
         texts(large, Dice(1)), decimals(large, Dice(2)), prints(large, Dice(3)), lines(large, Dice(4)),
         fields(large, Dice(5)), places(large), positions(large, Dice(6)), joins(large, Dice(7)),
         infos(large, Dice(8)), samples(large, Dice(9)), genotypes(large, Dice(10)), written_genotypes(large, Dice(11)),
+        entry_lists(large, Dice(12)),
     )
     yield from dict.fromkeys(itertools.chain(*areas))
     yield from form(large)

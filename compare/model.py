@@ -18,8 +18,8 @@ LARGEST_VERSION = 4_294_967_295
 LARGEST_BYTE = 255
 
 DONE, AT_END, EMPTY, LINE_ENDS, CUT, NOT_UTF8, BEYOND, KEY_ENDS, NO_KEY, VALUE_ENDS, NONE_SUCH = range(11)
-NO_ALLELES, BAD_NUMBER, NOT_IMPLIED, BAD_ENDS, TOO_SHORT, BAD_COLUMN, BAD_COUNT = 11, 12, 13, 16, 17, 18, 19
-ABOVE_ALT, BAD_POS = 20, 21
+NO_ALLELES, BAD_NUMBER, NOT_IMPLIED, BAD_FILTER, BAD_ALT = 11, 12, 13, 14, 15
+BAD_ENDS, TOO_SHORT, BAD_COLUMN, BAD_COUNT, ABOVE_ALT, BAD_POS = 16, 17, 18, 19, 20, 21
 UNEQUAL = BAD_ENDS
 
 FIELDS = (b"chrom", b"pos", b"id", b"ref", b"alt", b"qual", b"filter", b"info", b"format", b"samples")
@@ -353,6 +353,31 @@ def spelt_genotype(alleles, file_format):
     return b"".join(itertools.chain(*zip(marks, bodies)))
 
 
+def is_filter(entry):
+    return entry not in (b"", b".", b"0") and b";" not in entry
+
+
+def is_alt(entry):
+    if entry.startswith(b"<") and entry[1:].endswith(b">"):
+        inside = entry[1:-1]
+        return inside != b"" and not any(byte in inside for byte in b"<>,")
+    return entry != b"" and b"," not in entry
+
+
+def joined_entries(text, ends, separator, is_valid, bad):
+    """The entries of a list with a separator between them, `.` for none; or the numbers of a refusal."""
+    entries = list_entries(text, ends)
+    if entries is None:
+        return (BAD_ENDS,)
+    for index, entry in enumerate(entries):
+        characters = points(entry)
+        if characters is None:
+            return NOT_UTF8, index
+        if not is_valid(entry) or any(map(is_white_space, characters)):
+            return bad, index
+    return separator.join(entries) if entries else b"."
+
+
 # ---- answers
 
 
@@ -547,6 +572,14 @@ def write_unequal(numbers, missing, phased, length):
     return write(4, 4, length, 0, [(0, 0, 0)] * numbers)
 
 
+def filters(length, at, text, ends):
+    return laid_out(length, at, joined_entries(text, ends, b";", is_filter, BAD_FILTER))
+
+
+def alts(length, at, text, ends):
+    return laid_out(length, at, joined_entries(text, ends, b",", is_alt, BAD_ALT))
+
+
 # Each verb: what answers it, and the readers of its arguments; last, where there is one, that of all further arguments.
 VERBS = {
     b"utf8": (utf8, (hexed,)),
@@ -576,6 +609,8 @@ VERBS = {
     b"write": (write, (version, version, room, number), alleles_of_bytes),
     b"writeunequal": (write_unequal, (row_length, row_length, row_length, room)),
     b"writealleles": (write, (version, version, room, number), alleles_of_structs),
+    b"filters": (filters, (room, number, hexed, list_ends)),
+    b"alts": (alts, (room, number, hexed, list_ends)),
 }
 
 
