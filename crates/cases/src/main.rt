@@ -7,6 +7,7 @@ mod leaves;
 mod lines;
 mod output;
 mod parts;
+mod rows;
 mod sampling;
 mod spellings;
 mod verbs;

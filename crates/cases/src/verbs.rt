@@ -9,6 +9,7 @@ use crate::output::Answer;
 use crate::output::Buffer;
 use crate::output::Place;
 use crate::output::put_byte;
+use crate::rows;
 use crate::sampling;
 use crate::spellings;
 use crate::words::Text;
@@ -49,7 +50,11 @@ fn ask(case: &[u8], text: &mut Text, out: &mut Buffer, at: Place) -> Answer {
     if let Answer::Given(_) = given {
         return given;
     }
-    spellings::answer(case, arguments, out, at)
+    let given = spellings::answer(case, arguments, out, at);
+    if let Answer::Given(_) = given {
+        return given;
+    }
+    rows::answer(case, arguments, text, out, at)
 }
 
 // The answer line of what is no case.

@@ -46,11 +46,11 @@ module _ (t : List ℕ) (m : ListMeant t) where
 
 -- a step that finds an allele
 module _ {t : List ℕ} {at k : ℕ} (g : Ahead t at k) {a : Allele} {next : ℕ} (f : Further t at a next) where
-  ahead-past : Ahead t next (k + 1)
+  pub ahead-past : Ahead t next (k + 1)
   unfolding gathered
   ahead-past = record { within = f .within; few = omega arith; meant = with-list a _ (rw (f .parts) at (g .meant)) }
 
-  left-past : leftOf t at k ≡ a ∷ leftOf t next (k + 1)
+  pub left-past : leftOf t at k ≡ a ∷ leftOf t next (k + 1)
   unfolding gathered
   left-past = rw (f .parts) (with-cons a _ (rw (f .parts) at (g .meant)))
 

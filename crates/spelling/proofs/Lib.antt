@@ -14,3 +14,5 @@ pub mod Exact
 pub mod RoundTrip
 pub mod Impostors
 pub mod EndToEnd
+pub mod TallySteps
+pub mod ListLaws

@@ -25,12 +25,12 @@ use Rattle.spelling.proofs.TallyLaws.{begin-is, short-not, short-fits, 
 -- ---- a list whose missing alleles have the number 0
 
 -- after alleles with the first phasing f, later ones phased by l, and a text of n bytes
-record Gathered (t : Tally) (f l : Bool) (room n : ℕ) : Type 0 where
-  sound : t .sound ≡ true
-  first : t .first ≡ f
-  later : t .later ≡ l
-  fits : t .fits ≡ leb n room
-  left : n ≤ room → t .left ≡ room - n
+pub record Gathered (t : Tally) (f l : Bool) (room n : ℕ) : Type 0 where
+  pub sound : t .sound ≡ true
+  pub first : t .first ≡ f
+  pub later : t .later ≡ l
+  pub fits : t .fits ≡ leb n room
+  pub left : n ≤ room → t .left ≡ room - n
 
 gather-short : {t : Tally} {f l : Bool} {room n : ℕ} (m : ℕ) → Gathered t f l room n → Gathered (shortened t m) f l room (n + m)
 gather-short {t} {f} {l} {room} {n} m g = by (decLe n room) (decLe m (t .left))
@@ -89,7 +89,7 @@ gather-from (a ∷ as′) k {l = l} g z e =
     rw (phased-more a as′, ← and-assoc l (a .phased) (allPhased as′), list-length false a as′, ← add-assoc)
     (gather-from as′ (k + 1) (gather-later a k g (s .0) z) (λ y. omega arith) (s .1))
 
-gather-all : (a : Allele) (as′ : List Allele) (room : ℕ) → firstUnsound 0 (a ∷ as′) ≡ none
+pub gather-all : (a : Allele) (as′ : List Allele) (room : ℕ) → firstUnsound 0 (a ∷ as′) ≡ none
     → Gathered (tallyOf room (a ∷ as′)) (a .phased) (allPhased as′) room (length (listText true (a ∷ as′)))
 unfolding tallyOf tallyFrom
 gather-all a as′ room e =

@@ -1,0 +1,21 @@
+-- What the writer answers, and what it leaves in the output: by the definitions of `spelling` (docs/RULES.md, "Genotypes").
+-- Assumes nothing.
+use Prim.Native.Nat.{ℕ}
+use mathlib.Core.Path.{_≡_}
+use mathlib.Core.List.{List}
+use lib.Dec.{eqb}
+use Rattle.text.specs.Pick.{pick}
+use Rattle.text.specs.Answer.{numberOf}
+use Rattle.text.specs.Over.{overAt}
+use Rattle.genotype.specs.declared.allele.Allele.{Allele}
+use Rattle.spelling.specs.Spelling.{from44, spell}
+use Rattle.spelling.specs.Write.{listAnswer, textOf}
+use Rattle.spelling.specs.Paper.{writePaper}
+use Rattle.spelling.specs.Demands.{Fitting}
+use Rattle.spelling.specs.declared.write.Write.{Write}
+
+-- only an answer that is done changes the output; a record's number has at most 64 bits, so what is written reads back
+pub record WritesAlleles (as′ : List Allele) (major minor : ℕ) (out : List ℕ) (at : ℕ) (r : Write) (out′ : List ℕ) : Type 0 where
+  pub answer : writePaper r ≡ listAnswer as′ (from44 major minor) out at
+  pub bytes : out′ ≡ pick (eqb (numberOf (listAnswer as′ (from44 major minor) out at)) 0) (overAt at (textOf (spell (from44 major minor) as′)) out) out
+  pub small : Fitting as′

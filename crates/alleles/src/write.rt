@@ -1,0 +1,128 @@
+// Writing a row of alleles.
+use genotype::allele::Allele;
+use spelling::put::put_allele;
+use spelling::tally::Plan;
+use spelling::tally::Tally;
+use spelling::tally::add;
+use spelling::tally::begin;
+use spelling::tally::plan_for;
+use spelling::write::Write;
+ghost use mathlib.Core.Path.{_≡_};
+ghost use Prim.Native.Nat.{_≤_};
+ghost use Rattle.spelling.specs.Spelling.{from44};
+ghost use Rattle.spelling.specs.Tally.{tallied, tallyOf};
+ghost use Rattle.spelling.specs.Demands.{Fitting};
+ghost use Rattle.alleles.specs.Decide.{roomFrom, refusal, decided};
+ghost use Rattle.alleles.specs.Put.{putOne, putAll};
+ghost use Rattle.alleles.specs.Write.{WritesAlleles};
+
+// What is to be done with a row: whether it is written, whether its first allele has no mark, and the answer.
+struct Decision {
+    write: bool,
+    bare: bool,
+    answer: Write,
+}
+
+// The room from a place on: none where the place lies beyond the output.
+fn room_from(len: usize, at: usize) -> usize
+    ensures { λ r. ⌜ r ≡ roomFrom len at ⌝ }
+{
+    if at > len {
+        return 0;
+    }
+    len - at
+}
+
+fn refuse(answer: Write) -> Decision
+    ensures { λ r. ⌜ r ≡ refusal answer ⌝ }
+{
+    Decision {
+        write: false,
+        bare: false,
+        answer,
+    }
+}
+
+// By the tally of a row of `count` records, for an output of `len` bytes: 6 first. What is written takes the room that is not
+// left, and a byte more with the first mark.
+fn decide(tally: Tally, count: usize, major: u32, minor: u32, len: usize, at: usize) -> Decision
+    ensures { λ r. ⌜ r ≡ decided tally count (from44 major minor) len at ⌝ }
+{
+    if at > len {
+        return refuse(Write::Beyond);
+    }
+    let taken = room_from(room_from(len, at), tally.left);
+    match plan_for(tally, count, major, minor) {
+        Plan::Bare => Decision {
+            write: true,
+            bare: true,
+            answer: Write::Done(taken),
+        },
+        Plan::Marked => Decision {
+            write: true,
+            bare: false,
+            answer: Write::Done(taken + 1),
+        },
+        Plan::Empty => refuse(Write::Empty),
+        Plan::Bad(k) => refuse(Write::Bad(k)),
+        Plan::Phasing => refuse(Write::Phasing),
+        Plan::Short => refuse(Write::Short),
+    }
+}
+
+// The tally after record i. A record's number has at most 64 bits.
+fn count_one(tally: Tally, a: Allele, i: usize) -> Tally
+    ensures { λ r. ⌜ r ≡ tallied tally a i ⌝ }
+    ensures { λ r. ⌜ a .number ≤ 18446744073709551615 ⌝ }
+{
+    add(tally, a, i)
+}
+
+// The tally of the whole row.
+fn tally_row(row: &[Allele], room: usize) -> Tally
+    ensures { λ r. ⌜ (r ≡ tallyOf room (now (row .entry))) × Fitting (now (row .entry)) ⌝ }
+{
+    let mut tally = begin(room);
+    let mut i = 0;
+    while i < row.len() {
+        tally = count_one(tally, row[i], i);
+        i += 1;
+    }
+    tally
+}
+
+// Writes record i at a place, where the row is written.
+fn put_one(out: &mut [u8], at: usize, a: Allele, decision: Decision, i: usize) -> usize
+    ensures { λ r. ⌜ (r ≡ putOne (now (out .entry)) at a decision i .next) × (now (out .exit) ≡ putOne (now (out .entry)) at a decision i .out) ⌝ }
+{
+    if !decision.write {
+        return at;
+    }
+    if i == 0 {
+        return put_allele(a, decision.bare, out, at);
+    }
+    put_allele(a, false, out, at)
+}
+
+// Writes the whole row from a place on, where it is written.
+fn put_row(out: &mut [u8], from: usize, row: &[Allele], decision: Decision) -> usize
+    ensures { λ r. ⌜ (r ≡ putAll (now (row .entry)) decision (now (out .entry)) from .next) × (now (out .exit) ≡ putAll (now (row .entry)) decision (now (out .entry)) from .out) ⌝ }
+{
+    let mut at = from;
+    let mut i = 0;
+    while i < row.len() {
+        at = put_one(out, at, row[i], decision, i);
+        i += 1;
+    }
+    at
+}
+
+// Writes the shortest spelling that a file format permits, from the place `at` on.
+pub fn write_alleles(row: &[Allele], major: u32, minor: u32, out: &mut [u8], at: usize) -> Write
+    ensures { λ r. ⌜ WritesAlleles (now (row .entry)) major minor (now (out .entry)) at r (now (out .exit)) ⌝ }
+{
+    let tally = tally_row(row, room_from(out.len(), at));
+    let decision = decide(tally, row.len(), major, minor, out.len(), at);
+    put_row(out, at, row, decision);
+    decision.answer
+}
