@@ -31,30 +31,30 @@ use Rattle.alleles.proofs.Putting.{put-more, put-end}
 -- ---- the records, one after the other
 
 module _ (l : List ℕ) (at : ℕ) (a : Allele) (d : Decision) (i : ℕ) where
-  put-not : d .write ≡ false → putOne l at a d i ≡ record { next = at; out = l }
+  one-none : d .write ≡ false → putOne l at a d i ≡ record { next = at; out = l }
   unfolding putOne
-  put-not e = rw e
+  one-none e = rw e
 
-  put-here : {lead : Bool} → d .write ≡ true → (d .bare && eqb i 0) ≡ lead → at + length (alleleText lead a) ≤ length l
+  one-text : {lead : Bool} → d .write ≡ true → (d .bare && eqb i 0) ≡ lead → at + length (alleleText lead a) ≤ length l
       → putOne l at a d i ≡ record { next = at + length (alleleText lead a); out = overAt at (alleleText lead a) l }
   unfolding putOne putText
-  put-here w e h = rw (w, e, fits-at _ at l h)
+  one-text w e h = rw (w, e, fits-at _ at l h)
 
 module _ (i : ℕ) (a : Allele) (as′ : List Allele) (d : Decision) (out : List ℕ) (at : ℕ) where
-  put-then : {w : Wrote} → putOne out at a d i ≡ w → putFrom i (a ∷ as′) d out at .out ≡ putFrom (i + 1) as′ d (w .out) (w .next) .out
-  put-then e = ap (λ (u : Wrote). u .out) (put-more d i at out a as′) ∙ ap (λ (u : Wrote). putFrom (i + 1) as′ d (u .out) (u .next) .out) e
+  from-more : {w : Wrote} → putOne out at a d i ≡ w → putFrom i (a ∷ as′) d out at .out ≡ putFrom (i + 1) as′ d (w .out) (w .next) .out
+  from-more e = ap (λ (u : Wrote). u .out) (put-more d i at out a as′) ∙ ap (λ (u : Wrote). putFrom (i + 1) as′ d (u .out) (u .next) .out) e
 
 -- nothing is written of a row that is refused
-put-none : (as′ : List Allele) (i : ℕ) (d : Decision) (out : List ℕ) (at : ℕ) → d .write ≡ false → putFrom i as′ d out at .out ≡ out
-put-none [] i d out at e = ap (λ (u : Wrote). u .out) (put-end d i at out)
-put-none (a ∷ as′) i d out at e = put-then i a as′ d out at (put-not out at a d i e) ∙ put-none as′ (i + 1) d out at e
+from-none : (as′ : List Allele) (i : ℕ) (d : Decision) (out : List ℕ) (at : ℕ) → d .write ≡ false → putFrom i as′ d out at .out ≡ out
+from-none [] i d out at e = ap (λ (u : Wrote). u .out) (put-end d i at out)
+from-none (a ∷ as′) i d out at e = from-more i a as′ d out at (one-none out at a d i e) ∙ from-none as′ (i + 1) d out at e
 
 -- the text of the list, where it fits
-put-text : (as′ : List Allele) (i : ℕ) (d : Decision) (out : List ℕ) (at : ℕ) {lead : Bool} → d .write ≡ true → (d .bare && eqb i 0) ≡ lead
+from-text : (as′ : List Allele) (i : ℕ) (d : Decision) (out : List ℕ) (at : ℕ) {lead : Bool} → d .write ≡ true → (d .bare && eqb i 0) ≡ lead
     → at + length (listText lead as′) ≤ length out → putFrom i as′ d out at .out ≡ overAt at (listText lead as′) out
-put-text [] i d out at {lead} w e h = rw (list-none lead) (ap (λ (u : Wrote). u .out) (put-end d i at out) ∙ sym (overAt-nil at out))
-put-text (a ∷ as′) i d out at {lead} w e h =
-    put-then i a as′ d out at (put-here out at a d i w e fits) ∙ put-text as′ (i + 1) d (overAt at vs out) (at + length vs) w later more
+from-text [] i d out at {lead} w e h = rw (list-none lead) (ap (λ (u : Wrote). u .out) (put-end d i at out) ∙ sym (overAt-nil at out))
+from-text (a ∷ as′) i d out at {lead} w e h =
+    from-more i a as′ d out at (one-text out at a d i w e fits) ∙ from-text as′ (i + 1) d (overAt at vs out) (at + length vs) w later more
     ∙ sym (overAt-append at vs (listText false as′) out fits) ∙ ap (λ (u : List ℕ). overAt at u out) (sym (list-more lead a as′))
   where
     vs : List ℕ
@@ -72,11 +72,11 @@ put-text (a ∷ as′) i d out at {lead} w e h =
 module _ (as′ : List Allele) (d : Decision) (out : List ℕ) (at : ℕ) where
   all-none : d .write ≡ false → putAll as′ d out at .out ≡ out
   unfolding putAll
-  all-none e = put-none as′ 0 d out at e
+  all-none e = from-none as′ 0 d out at e
 
   all-text : {bare : Bool} → d .write ≡ true → d .bare ≡ bare → at + length (listText bare as′) ≤ length out → putAll as′ d out at .out ≡ overAt at (listText bare as′) out
   unfolding putAll
-  all-text {bare} w e h = put-text as′ 0 d out at w (rw e (and-true bare)) h
+  all-text {bare} w e h = from-text as′ 0 d out at w (rw e (and-true bare)) h
 
 -- ---- the outcome
 

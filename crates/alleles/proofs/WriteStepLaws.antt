@@ -81,7 +81,7 @@ module _ (t : Tally) (count : ℕ) (late : Bool) (len at : ℕ) where
 -- ---- one record
 
 module _ {vs : List ℕ} {at : ℕ} {l : List ℕ} {r : ℕ} {l′ : List ℕ} (w : PutsAt vs at l r l′) where
-  pub put-text : (r ≡ putText l at vs .next) × (l′ ≡ putText l at vs .out)
+  put-text : (r ≡ putText l at vs .next) × (l′ ≡ putText l at vs .out)
   unfolding putText
   put-text = (w .place ∙ next (fitsAt vs at l), w .bytes ∙ out (fitsAt vs at l))
     where

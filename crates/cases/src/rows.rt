@@ -122,7 +122,8 @@ fn read_checked(s: &[u8], middle: usize, end: usize, from: usize) -> Filled {
 fn put_filled(filled: Filled, from: usize, out: &mut Buffer, at: Place) -> Place {
     let answer = filled.answer;
     let next = put_said(out, at, genotypes::said(answer));
-    then_row(filled.row, from, out, next)
+    let row = filled.row;
+    then_row(row, from, out, next)
 }
 
 // The records from `from` on, or `-` for none.
@@ -221,14 +222,9 @@ fn put_written(
     out: &mut Buffer,
     at: Place,
 ) -> Place {
-    let write = write_own(
-        listed.row,
-        listed.from,
-        format.major,
-        format.minor,
-        lent,
-        from,
-    );
+    let row = listed.row;
+    let first = listed.from;
+    let write = write_own(row, first, format.major, format.minor, lent, from);
     let next = put_said(out, at, spellings::said(write));
     then_hex(out, next, lent)
 }

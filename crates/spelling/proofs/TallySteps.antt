@@ -53,7 +53,7 @@ some-text late e = let s = sym (spell-none late) ∙ e in let z : _≡_ {A = ℕ
 module _ (late : Bool) (a : Allele) (as′ : List Allele) (room : ℕ) where
   left-after : {vs : List ℕ} → spell late (a ∷ as′) ≡ text vs → length (listText true (a ∷ as′)) ≤ room
       → room - tallyOf room (a ∷ as′) .left ≡ length (listText true (a ∷ as′))
-  left-after {vs} e h = by (firstUnsound 0 (a ∷ as′)) refl
+  left-after e h = by (firstUnsound 0 (a ∷ as′)) refl
     where
       by : (u : Option ℕ) → firstUnsound 0 (a ∷ as′) ≡ u → room - tallyOf room (a ∷ as′) .left ≡ length (listText true (a ∷ as′))
       by none f = let g = gather-all a as′ room f .left h in omega arith
