@@ -4,7 +4,6 @@ use crate::step::Step;
 use crate::step::step_at;
 use lists::alternate_bases::alt_count;
 ghost use mathlib.Core.Path.{_≡_};
-ghost use Prim.Native.Nat.{_≤_};
 ghost use lib.ListN.{length};
 ghost use Rattle.text.specs.Over.{over};
 ghost use Rattle.lists.specs.AlternateBases.{altCount};

@@ -6,10 +6,9 @@ use pieces::step;
 use pieces::step::piece_at;
 use text::same::same_bytes;
 ghost use mathlib.Core.Path.{_≡_};
-ghost use mathlib.Core.List.{_∷_};
 ghost use Prim.Native.Nat.{_+_, _≤_, _<_};
 ghost use lib.ListN.{length, drop};
-ghost use Rattle.genotype.specs.Reading.{headOf, impliedBy, bodied, alleleIn, stepAnswer, alleleAnswer};
+ghost use Rattle.genotype.specs.Reading.{headOf, impliedBy, bodied, stepAnswer, alleleAnswer};
 ghost use Rattle.genotype.specs.Paper.{stepPaper};
 
 // What a step from a place finds.
