@@ -7,15 +7,12 @@ pub mod GivenBack
 pub mod TurnLaws
 pub mod Turns
 pub mod FillLaws
-pub mod ReadDetermined
 pub mod ReadDemands
 pub mod OwnReadLaws
-pub mod OwnReadDetermined
 pub mod WriteStepLaws
 pub mod Tallying
 pub mod Putting
 pub mod WriteLaws
-pub mod WriteDetermined
 pub mod WriteDemands
 pub mod OwnWriteLaws
-pub mod OwnWriteDetermined
+pub mod Determined
