@@ -931,7 +931,7 @@ def many_alleles(large):
 
 def genotype_texts(large):
     """Texts for both readers into a row that is always long enough, and one that is not always."""
-    for text in (*GENOTYPES, *short_texts(b"01.|/+", 5 if large else 4)):
+    for text in (*GENOTYPES, *short_texts(b"01.|/+", 5)):
         yield from both_readers(3, text)
         if large:
             yield from both_readers(1, text)
