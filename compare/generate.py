@@ -662,7 +662,7 @@ def short_columns(large):
     for column in short_texts(b"a=;", 7):
         for at in range(len(column) + 2):
             yield ask("info", column, at)
-    for column in short_texts(b"a=;", 7 if large else 6):
+    for column in short_texts(b"a=;", 7):
         yield ask("scan", column)
         yield ask("count", column)
         for key in (b"a", b"aa", b"", b"="):
@@ -1028,13 +1028,16 @@ def most_needed(alleles):
 
 
 def phasings(large):
-    """Every phasing of up to four alleles (five at large), for each file format; with numbers and with missing ones."""
+    """Every phasing of up to four alleles (five at large), for each file format, and into every room for the first five;
+    with numbers and with missing ones."""
     for count in range(6 if large else 5):
         for phased in itertools.product((0, 1), repeat=count):
             numbers = [(index + 1, 0, mark) for index, mark in enumerate(phased)]
             mixed = [(0, 1, mark) if index % 2 else (index, 0, mark) for index, mark in enumerate(phased)]
             for file_format in FILE_FORMATS:
                 yield from both_writers(file_format, 9, 1, numbers)
+            for file_format, room in itertools.product(FILE_FORMATS[:5], range(most_needed(numbers) + 2)):
+                yield from both_writers(file_format, room, 0, numbers)
             for file_format in FILE_FORMATS if large else (FORMAT_4_3, FORMAT_4_4):
                 yield from both_writers(file_format, 10, 0, mixed)
 
