@@ -1,0 +1,24 @@
+-- The table holds by computing each answer, for which the definitions of the crates below are unfolded. Assumes nothing.
+use mathlib.Core.Path.{refl}
+use Rattle.text.specs.Utf8 as U
+use Rattle.text.specs.Space as P
+use Rattle.text.specs.Same.{same}
+use Rattle.text.specs.Range.{cut}
+use Rattle.text.specs.Over.{roomAnswer}
+use Rattle.decimal.specs.Decimal as D
+use Rattle.decimal.specs.Shortest.{shortest}
+use Rattle.pieces.specs.Pieces as C
+use Rattle.line.specs.Pos as L
+use Rattle.lists.specs.Judge as J
+use Rattle.lists.specs.Write as F
+use Rattle.genotype.specs.Reading as R
+use Rattle.genotype.specs.Answers as A
+use Rattle.genotype.specs.Means.{allPhased}
+use Rattle.spelling.specs.Spelling as S
+use Rattle.spelling.specs.Write as W
+use Rattle.info.specs.Info as I
+use Rattle.examples.specs.Table as T
+
+pub holds : T.Holds
+unfolding T.table T.bytes T.answerTo T.questionOf T.replyOf T.entryReply T.bytesAt T.readReply T.spelledReply T.filtersReply I.stepAnswer I.firstAnswer I.pairOf I.pairIn C.split C.longer C.joined C.countOf cut R.readingOf R.listOf R.partsOf R.impliedOf R.impliedBy R.piecesOf R.isMark R.headOf R.markedPieces R.numbered R.bodied R.alleleIn R.with R.gathered same D.valueOf D.isDigit A.readAnswer A.fitAnswer S.spell S.from44 S.judged S.shaped S.firstUnsound S.isSound S.listText S.alleleText S.bodyText allPhased shortest W.spelledAnswer W.textOf roomAnswer J.entryAnswer J.charsAnswer J.fine J.altFine J.filterFine J.symbolFine J.insideFine J.isSome J.lacks J.endsIn U.charsOf U.charsFrom U.charSize U.leadOf U.leadIn U.table U.within U.sizeBy U.follows U.second U.further U.before P.anySpace P.isSpace P.inAny P.spaces P.codePoint F.entriesAnswer F.listText L.posAnswer L.isByte L.positive
+holds = refl
