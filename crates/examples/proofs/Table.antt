@@ -1,4 +1,5 @@
--- The table holds by computing each answer, for which the definitions of the crates below are unfolded. Assumes nothing.
+-- The table holds by computing each answer, so the definitions of the crates below are unfolded: here alone, since computing is
+-- the point. Assumes nothing.
 use mathlib.Core.Path.{refl}
 use Rattle.text.specs.Utf8 as U
 use Rattle.text.specs.Space as P
@@ -20,5 +21,16 @@ use Rattle.info.specs.Info as I
 use Rattle.examples.specs.Table as T
 
 pub holds : T.Holds
-unfolding T.table T.bytes T.answerTo T.questionOf T.replyOf T.entryReply T.bytesAt T.readReply T.spelledReply T.filtersReply I.stepAnswer I.firstAnswer I.pairOf I.pairIn C.split C.longer C.joined C.countOf cut R.readingOf R.listOf R.partsOf R.impliedOf R.impliedBy R.piecesOf R.isMark R.headOf R.markedPieces R.numbered R.bodied R.alleleIn R.with R.gathered same D.valueOf D.isDigit A.readAnswer A.fitAnswer S.spell S.from44 S.judged S.shaped S.firstUnsound S.isSound S.listText S.alleleText S.bodyText allPhased shortest W.spelledAnswer W.textOf roomAnswer J.entryAnswer J.charsAnswer J.fine J.altFine J.filterFine J.symbolFine J.insideFine J.isSome J.lacks J.endsIn U.charsOf U.charsFrom U.charSize U.leadOf U.leadIn U.table U.within U.sizeBy U.follows U.second U.further U.before P.anySpace P.isSpace P.inAny P.spaces P.codePoint F.entriesAnswer F.listText L.posAnswer L.isByte L.positive
+unfolding
+    T.table T.bytes T.answerTo T.questionOf T.replyOf T.entryReply T.bytesAt T.readReply T.spelledReply T.filtersReply
+    U.charsOf U.charsFrom U.charSize U.leadOf U.leadIn U.table U.within U.sizeBy U.follows U.second U.before
+    P.anySpace P.isSpace P.inAny P.spaces P.codePoint same cut roomAnswer
+    D.valueOf D.isDigit shortest
+    C.split C.longer C.joined C.countOf
+    L.posAnswer L.isByte L.positive
+    J.entryAnswer J.charsAnswer J.fine J.altFine J.filterFine J.symbolFine J.insideFine J.isSome J.lacks J.endsIn F.entriesAnswer
+    R.readingOf R.listOf R.partsOf R.impliedOf R.impliedBy R.piecesOf R.isMark R.headOf R.markedPieces R.numbered R.bodied
+    R.alleleIn R.with R.gathered A.readAnswer A.fitAnswer allPhased
+    S.spell S.from44 S.judged S.shaped S.firstUnsound S.isSound S.listText S.alleleText S.bodyText W.spelledAnswer W.textOf
+    I.stepAnswer I.firstAnswer I.pairOf I.pairIn
 holds = refl
