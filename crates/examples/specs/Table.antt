@@ -65,15 +65,15 @@ unfoldable pub entryReply : List ℕ → Answer → Reply
 entryReply t (says n []) = entry (says n []) []
 entryReply t (says n (next ∷ places)) = entry (says n (next ∷ places)) (bytesAt t places)
 
--- a row as long as the list
+-- given a row as long as the list
 unfoldable pub readReply : Reading → Reply
 readReply r = alleles (readAnswer r (length (listOf r))) (listOf r)
 
--- an output as long as the text
+-- given an output as long as the text
 unfoldable pub spelledReply : Spelled → Reply
 spelledReply s = written (spelledAnswer s (textOf s)) (textOf s)
 
--- the same
+-- given an output as long as the text
 unfoldable pub filtersReply : List (List ℕ) → Reply
 filtersReply es = plain (entriesAnswer K.Filters es (listText K.Filters es))
 
@@ -108,11 +108,11 @@ unfoldable pub table : List (List Example)
 table =
     -- 1. the key, and an empty value
     (infoAt "a=" 0 gives entry (says 0 (2 ∷ 0 ∷ 1 ∷ 2 ∷ 0 ∷ [])) (bytes "a" ∷ bytes "" ∷ []) ∷ [])
-    -- 2.
+    -- 2. the `;` after a key is the last byte
     ∷ (infoAt "a;" 0 gives entry (says 7 (2 ∷ [])) [] ∷ [])
-    -- 3.
+    -- 3. the `;` after a value is the last byte
     ∷ (infoAt "a=1;" 0 gives entry (says 9 (4 ∷ [])) [] ∷ [])
-    -- 4. the next place is 1
+    -- 4. an empty key: the next place is 1
     ∷ (infoAt ";;b" 0 gives entry (says 8 (1 ∷ [])) [] ∷ [])
     -- 5. a value may hold `=`
     ∷ (infoAt "a=b=c" 0 gives entry (says 0 (5 ∷ 0 ∷ 1 ∷ 2 ∷ 3 ∷ [])) (bytes "a" ∷ bytes "b=c" ∷ []) ∷ [])
