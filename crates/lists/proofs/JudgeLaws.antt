@@ -97,29 +97,36 @@ ends-no : (t : List ℕ) {b : ℕ} → 0 < length t → (getD t (length t - 1) 0
 unfolding endsIn
 ends-no t {b} h n = rw (last-is t h) (same-not _ (b ∷ []) (λ e. n (cc)))
 
-pub symbol-short : (t : List ℕ) → length t < 2 → true ≡ symbolFine t
+pub symbol-none : (t : List ℕ) → length t ≡ 0 → true ≡ symbolFine t
 unfolding symbolFine
-symbol-short [] h = refl
-symbol-short (b ∷ []) h = rw (ends-none 62, and-false)
-symbol-short (b ∷ c ∷ u) h = absurd (omega arith)
+symbol-none [] h = refl
+symbol-none (b ∷ t) h = absurd (omega arith)
 
-pub symbol-plain : (t : List ℕ) → 2 ≤ length t → (getD t 0 0 ≡ 60 → ⊥) → true ≡ symbolFine t
+pub symbol-plain : (t : List ℕ) → (getD t 0 0 ≡ 60 → ⊥) → true ≡ symbolFine t
 unfolding symbolFine
-symbol-plain [] h n = refl
-symbol-plain (b ∷ t) h n = rw (ne-eqb b 60 n)
+symbol-plain [] n = refl
+symbol-plain (b ∷ t) n = rw (ne-eqb b 60 n)
 
-pub symbol-open : (t : List ℕ) → 2 ≤ length t → (getD t (length t - 1) 0 ≡ 62 → ⊥) → true ≡ symbolFine t
+-- `<` alone, and what does not end with `>`
+pub symbol-open : (t : List ℕ) → (getD t (length t - 1) 0 ≡ 62 → ⊥) → true ≡ symbolFine t
 unfolding symbolFine
-symbol-open [] h n = refl
-symbol-open (b ∷ t) h n =
-    let k : 0 < length t = omega arith in
-    rw (ends-no t k (λ e. n (last-tail b t k ∙ e)), and-false)
+symbol-open [] n = refl
+symbol-open (b ∷ []) n = rw (ends-none 62, and-false)
+symbol-open (b ∷ c ∷ t) n =
+    rw (ends-no (c ∷ t) (omega arith) (λ e. n (last-tail b (c ∷ t) (omega arith) ∙ e)), and-false)
 
-pub symbol-inside : (t : List ℕ) {r : Bool} → 2 ≤ length t → getD t 0 0 ≡ 60 → getD t (length t - 1) 0 ≡ 62
+-- the byte that begins it is not the one that ends it
+pub symbol-two : (t : List ℕ) → getD t 0 0 ≡ 60 → getD t (length t - 1) 0 ≡ 62 → 1 ≤ length t - 1
+symbol-two [] o e = absurd (omega arith)
+symbol-two (b ∷ []) o e = absurd (omega arith)
+symbol-two (b ∷ c ∷ t) o e = omega arith
+
+pub symbol-inside : (t : List ℕ) {r : Bool} → getD t 0 0 ≡ 60 → getD t (length t - 1) 0 ≡ 62
     → r ≡ insideFine (take (length t - 1 - 1) (drop 1 t)) → r ≡ symbolFine t
 unfolding symbolFine
-symbol-inside [] h o e f = absurd (omega arith)
-symbol-inside (b ∷ t) h o e f =
+symbol-inside [] o e f = absurd (omega arith)
+symbol-inside (b ∷ t) o e f =
+    let m = symbol-two (b ∷ t) o e in
     let k : 0 < length t = omega arith in
     let n : suc (length t) - 1 - 1 ≡ length t - 1 = omega arith in
     rw (eq-eqb b 60 o, ends-yes t k (sym (last-tail b t k) ∙ e)) (f ∙ ap (λ (m : ℕ). insideFine (take m t)) n)
@@ -176,4 +183,4 @@ module _ (t : List ℕ) {r : Space} {b : Bool} (e : spacePaper r ≡ spaceAnswer
   alt-bad g h = judge-bad K.Alts t e f (sym g ∙ h)
 
 pub ruleset laws =
-    (filter-empty, filter-dot, filter-zero, filter-rest, inside-empty, inside-open, inside-rest, symbol-short, symbol-plain, symbol-open, symbol-inside, alt-empty, alt-comma, alt-symbol, judge-broken, judge-held, filter-fine, filter-bad, alt-fine, alt-bad)
+    (filter-empty, filter-dot, filter-zero, filter-rest, inside-empty, inside-open, inside-rest, symbol-none, symbol-plain, symbol-open, symbol-two, symbol-inside, alt-empty, alt-comma, alt-symbol, judge-broken, judge-held, filter-fine, filter-bad, alt-fine, alt-bad)

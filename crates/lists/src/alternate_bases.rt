@@ -33,21 +33,21 @@ fn is_inside(inside: &[u8]) -> bool
     count_byte(inside, b'>') == 0
 }
 
-// Whether an entry that begins with `<` and, past that byte, ends with `>` has such an inside. `<` alone has no past.
+// Whether an entry that begins with `<` and ends with `>` has such an inside. Any other need not, as `<` alone.
 fn is_symbol(alt: &[u8]) -> bool
     ensures { λ r. ⌜ r ≡ symbolFine (now (alt .entry)) ⌝ }
 {
-    if alt.len() < 2 {
+    if alt.len() == 0 {
         return true;
     }
     if alt[0] != b'<' {
         return true;
     }
     let end = alt.len() - 1;
-    if alt[end] != b'>' {
-        return true;
+    if alt[end] == b'>' {
+        return is_inside(&alt[1..end]);
     }
-    is_inside(&alt[1..end])
+    true
 }
 
 // What the bytes of an ALT entry say: it is not empty, holds no comma, and is no bad symbol.

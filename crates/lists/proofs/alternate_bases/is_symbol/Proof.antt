@@ -1,4 +1,4 @@
--- `lists::alternate_bases::is_symbol` meets its contract: the last byte of the entry is the last past its first, where it has two bytes. Assumes nothing.
+-- `lists::alternate_bases::is_symbol` meets its contract: an entry that begins with `<` and ends with `>` has two bytes, so its last byte is the last past its first. Assumes nothing.
 use borrow.Author.Needs.{needs}
 use Rattle.lists.proofs.JudgeLaws.{laws}
 use Rattle.lists.proofs.alternate_bases.is_symbol.Statement.{statement}
@@ -19,9 +19,6 @@ sub-end c = search (needs, laws)
 shared-slice-read-if3 : tie.Need-shared-slice-read-if3
 shared-slice-read-if3 c = search (needs, laws)
 
-returns-3 : tie.Need-returns-3
-returns-3 c = search (needs, laws)
-
 sub-is-inside : tie.Need-sub-is-inside
 sub-is-inside c = search (needs, laws)
 
@@ -33,6 +30,9 @@ part-is-inside-end c = search (needs, laws)
 
 is-inside-requires : tie.Need-is-inside-requires
 is-inside-requires c κs = search (needs, laws)
+
+returns-3 : tie.Need-returns-3
+returns-3 c = search (needs, laws)
 
 returns-4 : tie.Need-returns-4
 returns-4 c = search (needs, laws)
@@ -46,9 +46,9 @@ is-symbol-spec =
     returns-2
     sub-end
     shared-slice-read-if3
-    returns-3
     sub-is-inside
     part-is-inside-start
     part-is-inside-end
     is-inside-requires
+    returns-3
     returns-4)
