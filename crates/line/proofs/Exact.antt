@@ -35,7 +35,7 @@ judged : (k from : ℕ) (cs : List (List ℕ)) (e : Ending) (past : ℕ) → Jud
 unfolding verdict
 judged k from [] e past = no-fault
 judged k from (c ∷ []) e past = judged-last k c e past
-judged k from (c ∷ d ∷ cs) e past = judged-test (isEmpty c) 2 (from + 1) (omega arith) (omega arith) (judged (k + 1) (from + length c + 1) (d ∷ cs) e past)
+judged k from (c ∷ d ∷ cs) e past = judged-test (isEmpty c) 2 _ (omega arith) (omega arith) (judged (k + 1) (from + length c + 1) (d ∷ cs) e past)
 
 -- ---- good columns
 

@@ -17,7 +17,7 @@ use Rattle.pieces.specs.Pieces.{split}
 use Rattle.pieces.specs.Demands.{Free}
 use Rattle.pieces.proofs.PieceLaws.{free-nil, free-cons, free-head, free-tail, split-whole, split-append, split-nil}
 use Rattle.line.specs.Line.{Ending, feed, return-feed, endingBytes, Line, line, endsInReturn, fed, lineOf, fine, refused, required, isEmpty, lastVerdict, verdict}
-use Rattle.line.specs.Inner.{Clear, Stopped, StopsAt, TextEnd, none, bare, return, denied, judgement, judgementOf, judgedPaper}
+use Rattle.line.specs.Inner.{Clear, Stopped, StopsAt, TextEnd, input, none, bare, return, denied, judgement, judgementOf, judgedPaper}
 use Rattle.line.specs.declared.read.Stop.{Stop}
 use Rattle.line.specs.declared.read.Stop.the-variants as S
 use Rattle.line.specs.declared.read.Judged.{Judged}
@@ -82,17 +82,27 @@ pub required-high : (k : ℕ) → 7 < k → eqb k 9 ≡ required k
 unfolding required
 required-high k h = rw (lt-leb _ _ h)
 
--- ---- where a text ends before an LF
+-- ---- where a text ends before an LF, or at the end of the input
 
-module _ {s : List ℕ} {start feed : ℕ} where
-  pub end-none : feed ≡ start → TextEnd s start feed feed
+module _ {s : List ℕ} {start stop : ℕ} where
+  pub end-input : stop ≡ length s → TextEnd s start stop stop
+  end-input e = input e
+
+  pub end-none : stop ≡ start → TextEnd s start stop stop
   end-none e = none (sym e)
 
-  pub end-return : (start ≤ feed) × (feed < length s) → (feed ≡ start → ⊥) → getD s (feed - 1) 0 ≡ 13 → TextEnd s start feed (feed - 1)
-  end-return h n e = return (omega arith) e
+  pub end-return : (start ≤ stop) × (stop ≤ length s) → (stop ≡ length s → ⊥) → (stop ≡ start → ⊥) → getD s (stop - 1) 0 ≡ 13 → TextEnd s start stop (stop - 1)
+  end-return h m n e = return (omega arith) (omega arith) e
 
-  pub end-bare : (start ≤ feed) × (feed < length s) → (feed ≡ start → ⊥) → (getD s (feed - 1) 0 ≡ 13 → ⊥) → TextEnd s start feed feed
+  pub end-bare : (start ≤ stop) × (stop ≤ length s) → (stop ≡ start → ⊥) → (getD s (stop - 1) 0 ≡ 13 → ⊥) → TextEnd s start stop stop
   end-bare h n e = bare (omega arith) e
+
+-- the end of the input strips nothing
+input-end : (s : List ℕ) {start end : ℕ} → TextEnd s start (length s) end → end ≡ length s
+input-end s (input e) = refl
+input-end s (none e) = refl
+input-end s (bare h n) = refl
+input-end s (return h l e) = absurd (omega arith)
 
 -- ---- a part of the input as a text
 
@@ -147,9 +157,10 @@ module _ (s : List ℕ) (k start : ℕ) (h : start ≤ length s) (g : Clear s st
   unfolding judgedPaper judgement isEmpty
   cut-empty e = rw (cut-judged, e, drop-length s, or-true (required k))
 
-  pub cut-fine : {q : Bool} → q ≡ required k → q ≡ false → (start ≡ length s → ⊥) → judgedPaper (J.Fine (length s) (length s)) ≡ judgementOf k start (lineOf (drop start s))
+  pub cut-fine : {q : Bool} {end : ℕ} → q ≡ required k → q ≡ false → (start ≡ length s → ⊥) → TextEnd s start (length s) end
+      → judgedPaper (J.Fine end (length s)) ≡ judgementOf k start (lineOf (drop start s))
   unfolding judgedPaper judgement isEmpty
-  cut-fine e t n = rw (cut-judged, ← e, t, here s start (omega arith))
+  cut-fine e t n z = rw (cut-judged, ← e, t, here s start (omega arith), input-end s z)
 
 -- ---- the last column, ended by an LF
 
@@ -225,14 +236,16 @@ module _ (s : List ℕ) (k start feed : ℕ) (g : Stopped s start feed 10) where
   -- the text ends where the code says
   end-length : {end : ℕ} → TextEnd s start feed end → length (stripped column) ≡ end - start
   unfolding column
+  end-length (input e) = absurd (let w = g .within in omega arith)
   end-length (none e) = let l = part-length s g in strip-bare column (return-none column (omega arith)) ∙ l
   end-length (bare h n) = let l = part-length s g in strip-bare column (column-ends h ∙ ne-eqb _ _ n) ∙ l
-  end-length (return h e) = let l = part-length s g in let m = strip-return column (column-ends h ∙ eq-eqb _ _ e) in omega arith
+  end-length (return h w e) = let l = part-length s g in let m = strip-return column (column-ends h ∙ eq-eqb _ _ e) in omega arith
 
   end-after : {end : ℕ} → TextEnd s start feed end → start ≤ end
+  end-after (input e) = g .after
   end-after (none e) = omega arith
   end-after (bare h n) = omega arith
-  end-after (return h e) = omega arith
+  end-after (return h w e) = omega arith
 
   module _ {q : Bool} (e : q ≡ required k) where
     pub fed-required : q ≡ true → judgedPaper (J.Fed (feed + 1)) ≡ judgementOf k start (lineOf (drop start s))
@@ -331,4 +344,4 @@ module _ {s : List ℕ} {at k start tab : ℕ} (g : Going s at k start) (h : Sto
       }
 
 pub ruleset laws =
-    (search-first, search-turn, search-found, search-past, stop-tab, stop-feed, stop-input, required-low, required-high, end-none, end-return, end-bare, cut-required, cut-empty, cut-fine, fed-required, fed-empty, fed-fine, judge-first, judge-last, judge-empty, judge-turn)
+    (search-first, search-turn, search-found, search-past, stop-tab, stop-feed, stop-input, required-low, required-high, end-input, end-none, end-return, end-bare, cut-required, cut-empty, cut-fine, fed-required, fed-empty, fed-fine, judge-first, judge-last, judge-empty, judge-turn)

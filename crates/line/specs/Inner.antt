@@ -30,11 +30,12 @@ StopsAt s from (S.Tab i) = Stopped s from i 9
 StopsAt s from (S.Feed i) = Stopped s from i 10
 StopsAt s from S.Input = Clear s from (length s)
 
--- where the text of a column that an LF at `feed` ends has its end
-pub data TextEnd (s : List ℕ) (start feed : ℕ) : ℕ → Type 0 where
-  none : start ≡ feed → TextEnd s start feed feed
-  bare : start < feed → (getD s (feed - 1) 0 ≡ 13 → ⊥) → TextEnd s start feed feed
-  return : start < feed → getD s (feed - 1) 0 ≡ 13 → TextEnd s start feed (feed - 1)
+-- where the text of a column that stops at an LF, or at the end of the input, has its end
+pub data TextEnd (s : List ℕ) (start stop : ℕ) : ℕ → Type 0 where
+  input : stop ≡ length s → TextEnd s start stop stop
+  none : start ≡ stop → TextEnd s start stop stop
+  bare : start < stop → (getD s (stop - 1) 0 ≡ 13 → ⊥) → TextEnd s start stop stop
+  return : start < stop → stop < length s → getD s (stop - 1) 0 ≡ 13 → TextEnd s start stop (stop - 1)
 
 -- ---- how a line's columns are judged
 

@@ -90,18 +90,22 @@ fn is_required(k: usize) -> bool
     k == 9
 }
 
-// Where a text that an LF ends has its end: before the LF, and before one CR that stands there.
-fn text_end(s: &[u8], start: usize, feed: usize) -> usize
-    requires { ⌜ (start ≤ feed) × (feed < length (now s)) ⌝ }
-    ensures { λ r. ⌜ TextEnd (now (s .entry)) start feed r ⌝ }
+// Where the text of a column that starts at `start` and stops at an LF, or at the end of the input, has its end: before
+// an LF, and before one CR that stands there. At the end of the input a CR belongs to the text.
+fn text_end(s: &[u8], start: usize, stop: usize) -> usize
+    requires { ⌜ (start ≤ stop) × (stop ≤ length (now s)) ⌝ }
+    ensures { λ r. ⌜ TextEnd (now (s .entry)) start stop r ⌝ }
 {
-    if feed == start {
-        return feed;
+    if stop == s.len() {
+        return stop;
     }
-    if s[feed - 1] == 13 {
-        return feed - 1;
+    if stop == start {
+        return stop;
     }
-    feed
+    if s[stop - 1] == 13 {
+        return stop - 1;
+    }
+    stop
 }
 
 // The last column of a line, number k, which an LF ends.
@@ -132,7 +136,8 @@ fn judge_cut(s: &[u8], k: usize, start: usize) -> Judged
     if start == s.len() {
         return Judged::Cut(start);
     }
-    Judged::Fine(s.len(), s.len())
+    let end = text_end(s, start, s.len());
+    Judged::Fine(end, s.len())
 }
 
 // Judges the columns of the line at a place, from the left.

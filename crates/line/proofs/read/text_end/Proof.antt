@@ -7,21 +7,24 @@ use Rattle.line.proofs.read.text_end.Tie as tie
 returns : tie.Need-returns
 returns c = search (needs, laws)
 
-sub-if2 : tie.Need-sub-if2
-sub-if2 c = search (needs, laws)
+returns-2 : tie.Need-returns-2
+returns-2 c = search (needs, laws)
 
-shared-slice-read-if2 : tie.Need-shared-slice-read-if2
-shared-slice-read-if2 c = search (needs, laws)
+sub-if3 : tie.Need-sub-if3
+sub-if3 c = search (needs, laws)
+
+shared-slice-read-if3 : tie.Need-shared-slice-read-if3
+shared-slice-read-if3 c = search (needs, laws)
 
 sub-result : tie.Need-sub-result
 sub-result c = search (needs, laws)
 
-returns-2 : tie.Need-returns-2
-returns-2 c = search (needs, laws)
-
 returns-3 : tie.Need-returns-3
 returns-3 c = search (needs, laws)
 
+returns-4 : tie.Need-returns-4
+returns-4 c = search (needs, laws)
+
 pub text-end-spec : {M : Type 1} → statement M
 text-end-spec =
-    tie.close (tie.spec returns sub-if2 shared-slice-read-if2 sub-result returns-2 returns-3)
+    tie.close (tie.spec returns returns-2 sub-if3 shared-slice-read-if3 sub-result returns-3 returns-4)
