@@ -1,0 +1,7 @@
+pub mod Listing
+pub mod Output
+pub mod Turn
+pub mod Kept
+pub mod Paper
+pub mod Inner
+pub mod Demands
