@@ -10,5 +10,6 @@ pub mod One
 pub mod WindowLaws
 pub mod Window
 pub mod MovesOn
+pub mod WholeLaws
 pub mod Impostors
 pub mod Determined

@@ -82,6 +82,16 @@ module _ (s : List ℕ) (from : ℕ) (c : List ℕ) (b : ℕ) (r : List ℕ) (e 
   behind-rest : drop (from + length c + 1) s ≡ r
   behind-rest = rw (add-assoc, ← drop-drop (length c + 1) from s, e) (drop-append-add c (b ∷ r) 1)
 
+-- the LF behind a text free of LF is the first
+pub first-fed : (s : List ℕ) (at : ℕ) (t rest : List ℕ) → Free 10 t → drop at s ≡ t ++ 10 ∷ rest → FirstFeed s at (at + length t)
+first-fed s at t rest f d =
+    record {
+      after = omega arith;
+      within = behind-within s at t 10 rest d;
+      is = behind s at t 10 rest d;
+      first = free-there s at t (10 ∷ rest) d 10 f;
+    }
+
 -- ---- no tab has ended an empty column
 
 -- up to the place, at which a column starts
@@ -273,13 +283,7 @@ module _ {s : List ℕ} {at : ℕ} (h : at < length s) where
   fed-goes t rest f d = rw (d, line-feed t rest f) (by (before-feed t rest))
     where
       it : FirstFeed s at (at + length t)
-      it =
-          record {
-            after = omega arith;
-            within = behind-within s at t 10 rest d;
-            is = behind s at t 10 rest d;
-            first = free-there s at t (10 ∷ rest) d 10 f;
-          }
+      it = first-fed s at t rest f d
 
       by : {l : Line} → BeforeFeed t rest l → Moved s at (lineAnswer at l)
       by plain =

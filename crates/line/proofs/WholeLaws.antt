@@ -1,0 +1,75 @@
+-- What a line before an LF is doesn't turn on what follows the LF; so a buffer that holds a text and its LF is a window for it, and answers alike.
+-- Assumes nothing.
+use Prim.Native.Nat.{ℕ, suc, _+_, _-_}
+use mathlib.Core.Path.{_≡_, refl, sym, ap, _∙_}
+use mathlib.Core.Bool.{Bool, true, false}
+use mathlib.Core.List.{List, [], _∷_, _++_, dropLast}
+use native.Mathlib.Omega.{arith}
+use native.Mathlib.Numerals.{add-one}
+use lib.ListN.{length, take, drop, length-append, length-drop}
+use lib.Seq.{take-at, append-snoc}
+use Rattle.text.specs.Pick.{pick}
+use Rattle.text.specs.Answer.{Answer, says, numberOf, valuesOf}
+use Rattle.pieces.specs.Demands.{Free}
+use Rattle.line.specs.Line.{Ending, nothing, feed, return-feed, endingBytes, line, endsInReturn, fed}
+use Rattle.line.specs.Demands.{moved, Window, through-feed}
+use Rattle.line.proofs.ColumnLaws.{return-is}
+use Rattle.line.proofs.MovesOn.{first-fed}
+
+-- ---- the line before an LF
+
+-- its text and ending, whatever follows, which together are the bytes through the LF
+pub record FedLine (t : List ℕ) : Type 0 where
+  pub text : List ℕ
+  pub ending : Ending
+  pub is : (rest : List ℕ) → fed t rest ≡ line text ending rest
+  pub long : length text + length (endingBytes ending) ≡ length t + 1
+  pub some : ending ≡ nothing → ⊥
+
+pub fed-line : (t : List ℕ) → FedLine t
+unfolding fed endingBytes
+fed-line t = by (endsInReturn t) refl
+  where
+    by : (c : Bool) → endsInReturn t ≡ c → FedLine t
+    by true e =
+        record {
+          text = dropLast t;
+          ending = return-feed;
+          is = λ rest. rw e;
+          long = let l = simp length-append at (ap length (return-is t e)) in omega arith;
+          some = λ z. (let q : _≡_ {A = ℕ} 0 1 = cc in omega arith);
+        }
+    by false e =
+        record { text = t; ending = feed; is = λ rest. rw e; long = refl; some = λ z. (let q : _≡_ {A = ℕ} 0 1 = cc in omega arith) }
+
+-- the end of the input has no bytes
+pub nothing-bytes : endingBytes nothing ≡ []
+unfolding endingBytes
+nothing-bytes = refl
+
+-- ---- a buffer that holds it
+
+pub window-fed : (s : List ℕ) (at : ℕ) (w : List ℕ) (p : ℕ) (t x y : List ℕ) → Free 10 t → drop p w ≡ t ++ 10 ∷ x → drop at s ≡ t ++ 10 ∷ y
+    → Window s at w p
+window-fed s at w p t x y f d e =
+    let n : at + length t + 1 - at ≡ length t + 1 = omega arith in
+    through-feed (first-fed s at t y f e) (omega (arith, length-drop p w, simp length-append at (ap length d)))
+    (rw n (begun x d ∙ sym (begun y e)))
+  where
+    begun : {l : List ℕ} (r : List ℕ) → l ≡ t ++ 10 ∷ r → take (length t + 1) l ≡ t ++ 10 ∷ []
+    begun r q = rw (q, ← append-snoc t 10 r) (take-at (t ++ 10 ∷ []) r (length t + 1) (simp length-append))
+
+-- ---- answers that are one when moved
+
+-- have one number
+pub moved-number : (d e : ℕ) (a b : Answer) → moved d a ≡ moved e b → numberOf a ≡ numberOf b
+unfolding moved
+moved-number d e (says n []) (says m []) q = cc
+moved-number d e (says n []) (says m (y ∷ ys)) q = cc
+moved-number d e (says n (x ∷ xs)) (says m []) q = cc
+moved-number d e (says n (x ∷ xs)) (says m (y ∷ ys)) q = cc
+
+-- and their next places differ as they were moved
+pub moved-next : (d e : ℕ) (a b : Answer) {x y : ℕ} {xs ys : List ℕ} → valuesOf a ≡ x ∷ xs → valuesOf b ≡ y ∷ ys → moved d a ≡ moved e b → x + d ≡ y + e
+unfolding moved
+moved-next d e (says n vs) (says m us) p q r = let z = rw (p, q) at r in cc
