@@ -1,1 +1,5 @@
 pub mod Windows
+pub mod LineLaws
+pub mod FoundLaws
+pub mod Every
+pub mod Single
