@@ -3,3 +3,4 @@ pub mod LineLaws
 pub mod FoundLaws
 pub mod Every
 pub mod Single
+pub mod Turns
