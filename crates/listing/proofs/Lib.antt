@@ -4,3 +4,5 @@ pub mod FoundLaws
 pub mod Every
 pub mod Single
 pub mod Turns
+pub mod StreamLaws
+pub mod Streams
