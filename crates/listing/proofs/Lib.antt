@@ -6,3 +6,4 @@ pub mod Single
 pub mod Turns
 pub mod StreamLaws
 pub mod Streams
+pub mod Impostors
