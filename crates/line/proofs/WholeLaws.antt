@@ -1,14 +1,12 @@
 -- What a line before an LF is doesn't turn on what follows the LF; so a buffer that holds a text and its LF is a window for it, and answers alike.
 -- Assumes nothing.
-use Prim.Native.Nat.{ℕ, suc, _+_, _-_}
+use Prim.Native.Nat.{ℕ, _+_, _-_}
 use mathlib.Core.Path.{_≡_, refl, sym, ap, _∙_}
 use mathlib.Core.Bool.{Bool, true, false}
 use mathlib.Core.List.{List, [], _∷_, _++_, dropLast}
 use native.Mathlib.Omega.{arith}
-use native.Mathlib.Numerals.{add-one}
 use lib.ListN.{length, take, drop, length-append, length-drop}
 use lib.Seq.{take-at, append-snoc}
-use Rattle.text.specs.Pick.{pick}
 use Rattle.text.specs.Answer.{Answer, says, numberOf, valuesOf}
 use Rattle.pieces.specs.Demands.{Free}
 use Rattle.line.specs.Line.{Ending, nothing, feed, return-feed, endingBytes, line, endsInReturn, fed}

@@ -1,14 +1,14 @@
 -- The size and columns of a line, by whether it has an LF, and what the line at a place of a window says of the line of the input there.
 -- Assumes nothing.
-use Prim.Native.Nat.{ℕ, suc, _+_, _<_, _≤_}
-use mathlib.Core.Path.{_≡_, refl, sym, ap, _∙_}
-use mathlib.Core.Bool.{Bool, true, false, true≢false, false≢true}
-use mathlib.Core.List.{List, [], _∷_, _++_, append-assoc}
+use Prim.Native.Nat.{ℕ, _+_, _<_, _≤_}
+use mathlib.Core.Path.{_≡_, refl, sym, _∙_}
+use mathlib.Core.Bool.{Bool, true, false, true≢false}
+use mathlib.Core.List.{List, _∷_, _++_, append-assoc}
 use native.Mathlib.Omega.{arith}
 use lib.ListN.{length, drop, length-append, length-drop}
 use Rattle.pieces.specs.Demands.{Free}
 use Rattle.pieces.proofs.PieceLaws.{free-append}
-use Rattle.line.specs.Line.{Ending, nothing, feed, return-feed, Line, line, lineOf}
+use Rattle.line.specs.Line.{Ending, nothing, feed, return-feed, line, lineOf}
 use Rattle.line.specs.Demands.{Window, to-end}
 use Rattle.line.proofs.LineLaws.{AtFeed, none, one, at-feed}
 use Rattle.line.proofs.ColumnLaws.{line-end, line-feed}

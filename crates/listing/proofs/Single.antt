@@ -1,8 +1,8 @@
 -- At each place at most one step leads on, and at most one row is found; so two listings agree step by step. Assumes nothing.
 use Prim.Native.Nat.{ℕ}
-use mathlib.Core.Path.{_≡_, refl, sym, ap, _∙_}
+use mathlib.Core.Path.{_≡_, refl, sym, _∙_}
 use mathlib.Core.Bool.{true≢false}
-use mathlib.Core.List.{List, _∷_}
+use mathlib.Core.List.{List}
 use Rattle.text.specs.Answer.{Answer}
 use Rattle.listing.specs.Listing.{Leads, none, one, Rows, end, row}
 use Rattle.listing.specs.Demands.{Single}

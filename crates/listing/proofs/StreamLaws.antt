@@ -1,27 +1,26 @@
 -- What one turn over a window says of the whole input, definition by definition: where it goes on, and what it gives. Assumes nothing.
 use Prim.Native.Nat.{ℕ, zero, suc, _+_, _<_, _≤_}
-use mathlib.Core.Path.{_≡_, refl, sym, ap, _∙_}
+use mathlib.Core.Path.{_≡_, refl, sym, _∙_}
 use mathlib.Core.Bool.{Bool, true, false}
-use mathlib.Core.List.{List, [], _∷_, _++_}
+use mathlib.Core.List.{List, [], _∷_}
 use native.Mathlib.Omega.{arith}
-use native.Mathlib.Nat.{add-assoc}
 use lib.ListN.{length, drop}
 use lib.Dec.{ltb, eqb}
 use borrow.Author.Tests.{ltb-true, ltb-false, eqb-true, eqb-false}
 use Rattle.text.specs.Pick.{pick}
-use Rattle.text.specs.Answer.{Answer, says, numberOf, valuesOf}
+use Rattle.text.specs.Answer.{Answer, says, numberOf}
 use Rattle.line.specs.Line.{Line, lineOf, readAnswer}
-use Rattle.line.specs.Demands.{moved, MovesOn, Windowed}
+use Rattle.line.specs.Demands.{MovesOn, Windowed}
 use Rattle.line.proofs.MovesOn.{moves-on}
 use Rattle.line.proofs.Window.{windowed}
 use Rattle.line.proofs.WholeLaws.{moved-number, moved-next}
-use Rattle.listing.specs.Listing.{sizeOf, columnsOf, countsOf, longest, foundAt, rowOf, nextOf, beginsHash}
+use Rattle.listing.specs.Listing.{sizeOf, columnsOf, longest, foundAt, rowOf, nextOf, beginsHash}
 use Rattle.listing.specs.Turn.{Move, beyond, more, ended, on, gives, isWhole, passMove, leadMove, readMove, lineMove, phaseMove, turnMove}
 use Rattle.listing.specs.Demands.{Holds}
 use Rattle.listing.specs.declared.turn.Phase.{Phase}
 use Rattle.listing.specs.declared.turn.Phase.the-variants as P
 use Rattle.listing.proofs.Windows.{left-from, left-last}
-use Rattle.listing.proofs.LineLaws.{WholeLine, PartLine, whole-line, part-line}
+use Rattle.listing.proofs.LineLaws.{WholeLine, whole-line, part-line}
 use Rattle.listing.proofs.FoundLaws.{next-first, found-long, found-read}
 
 -- ---- what is said of the input

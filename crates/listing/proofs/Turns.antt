@@ -13,7 +13,7 @@ use Rattle.text.specs.Pick.{pick}
 use Rattle.text.specs.Answer.{Answer, says, numberOf}
 use Rattle.line.specs.Line.{lineOf, readAnswer}
 use Rattle.listing.specs.Listing.{sizeOf, longest, rowOf, nextOf, beginsHash}
-use Rattle.listing.specs.Turn.{Move, more, ended, on, gives, isWhole, passMove, leadMove, readMove, lineMove, phaseMove, turnMove}
+use Rattle.listing.specs.Turn.{more, ended, on, gives, isWhole, passMove, leadMove, readMove, lineMove, phaseMove, turnMove}
 use Rattle.listing.specs.Demands.{rank, Further, Turned, Turns}
 use Rattle.listing.specs.declared.turn.Phase.{Phase}
 use Rattle.listing.specs.declared.turn.Phase.the-variants as P

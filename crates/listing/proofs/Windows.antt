@@ -1,13 +1,12 @@
 -- What the input holds from a place of a window on is the window from there on, then what follows it; both laws of buffers are that. Assumes nothing.
 use Prim.Native.Nat.{ℕ, _+_, _-_, _≤_}
-use mathlib.Core.Path.{_≡_, refl, sym, ap, _∙_}
-use mathlib.Core.Bool.{Bool, true, false, _&&_, false≢true}
-use mathlib.Core.List.{List, [], _∷_, _++_, append-nil}
+use mathlib.Core.Path.{_≡_, sym, ap, _∙_}
+use mathlib.Core.Bool.{Bool, true, false≢true}
+use mathlib.Core.List.{List, _++_, append-nil}
 use native.Mathlib.Omega.{arith}
 use lib.ListN.{length, take, drop, length-append, length-take, length-drop, take-append-drop, drop-of-length-le}
 use lib.Seq.{take-append-seam, take-add, drop-append-le, drop-drop}
 use borrow.Author.Tests.{le-leb}
-use Rattle.text.specs.Over.{over}
 use Rattle.text.proofs.Lists.{drop-take, take-over}
 use Rattle.listing.specs.Kept.{between, inOrder, keptBytes}
 use Rattle.listing.specs.Demands.{Holds, KeepsWindow, Grows}
