@@ -18,6 +18,10 @@ use Rattle.listing.specs.Turn.{isWhole}
 use Rattle.listing.specs.Demands.{Holds}
 use Rattle.listing.proofs.Windows.{left-from, left-last}
 
+-- the place past the line that starts, or goes on, at a place
+abbrev pub pastLine : List ℕ → ℕ → ℕ
+pastLine s at = at + sizeOf (lineOf (drop at s))
+
 -- ---- a line without LF
 
 module _ (u : List ℕ) (f : Free 10 u) where
@@ -88,14 +92,14 @@ pub record WholeLine (s : List ℕ) (at : ℕ) (w : List ℕ) (p : ℕ) : Type 0
 
 -- any other ends with the window, which is not the last, and the input's goes on there
 pub record PartLine (s : List ℕ) (base : ℕ) (w : List ℕ) (p : ℕ) : Type 0 where
-  pub end : p + sizeOf (lineOf (drop p w)) ≡ length w
+  pub end : pastLine w p ≡ length w
   pub size : sizeOf (lineOf (drop (base + p) s)) ≡ sizeOf (lineOf (drop p w)) + sizeOf (lineOf (drop (base + length w) s))
 
 -- in any window
-pub open-end : (last : Bool) (w : List ℕ) (p : ℕ) → p ≤ length w → isWhole last (lineOf (drop p w)) ≡ false → (last ≡ false) × (p + sizeOf (lineOf (drop p w)) ≡ length w)
+pub open-end : (last : Bool) (w : List ℕ) (p : ℕ) → p ≤ length w → isWhole last (lineOf (drop p w)) ≡ false → (last ≡ false) × (pastLine w p ≡ length w)
 open-end last w p l e = by (at-feed (drop p w))
   where
-    by : AtFeed (drop p w) → (last ≡ false) × (p + sizeOf (lineOf (drop p w)) ≡ length w)
+    by : AtFeed (drop p w) → (last ≡ false) × (pastLine w p ≡ length w)
     by (none f) = (sym (whole-open (drop p w) f last) ∙ e, omega (arith, size-open (drop p w) f, length-drop p w))
     by (one t rest f d) = absurd (true≢false (sym (whole-feed t f rest last) ∙ rw (← d) e))
 

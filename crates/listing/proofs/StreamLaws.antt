@@ -20,14 +20,10 @@ use Rattle.listing.specs.Demands.{Holds}
 use Rattle.listing.specs.declared.turn.Phase.{Phase}
 use Rattle.listing.specs.declared.turn.Phase.the-variants as P
 use Rattle.listing.proofs.Windows.{left-from, left-last}
-use Rattle.listing.proofs.LineLaws.{WholeLine, whole-line, part-line}
+use Rattle.listing.proofs.LineLaws.{pastLine, WholeLine, whole-line, part-line}
 use Rattle.listing.proofs.FoundLaws.{next-first, found-long, found-read}
 
 -- ---- what is said of the input
-
--- the place past the line that goes on at a place
-abbrev pub pastLine : List ℕ → ℕ → ℕ
-pastLine s at = at + sizeOf (lineOf (drop at s))
 
 -- the line is passed over, or part of it
 pub data Passed (s : List ℕ) (at : ℕ) (within after : Phase) : Phase → ℕ → Type 0 where
@@ -81,10 +77,10 @@ module _ {s : List ℕ} (base : ℕ) {w : List ℕ} (p : ℕ) (l : WholeLine s (
 
 module _ {s : List ℕ} {base : ℕ} {w : List ℕ} {last : Bool} (h : Holds s base w last) (p : ℕ) (l : p ≤ length w) where
   -- passing over a line
-  past-all : isWhole last (lineOf (drop p w)) ≡ true → base + (p + sizeOf (lineOf (drop p w))) ≡ pastLine s (base + p)
+  past-all : isWhole last (lineOf (drop p w)) ≡ true → base + (pastLine w p) ≡ pastLine s (base + p)
   past-all e = omega (arith, whole-line h p l e .size)
 
-  past-part : isWhole last (lineOf (drop p w)) ≡ false → pastLine s (base + (p + sizeOf (lineOf (drop p w)))) ≡ pastLine s (base + p)
+  past-part : isWhole last (lineOf (drop p w)) ≡ false → pastLine s (base + (pastLine w p)) ≡ pastLine s (base + p)
   past-part e = let r = part-line h p l e in rw (r .end) (omega arith)
 
   pass-says : {phase : Phase} (within after : Phase)
@@ -94,10 +90,10 @@ module _ {s : List ℕ} {base : ℕ} {w : List ℕ} {last : Bool} (h : Holds s b
   pass-says {phase} within after say = by (isWhole last (lineOf (drop p w))) (eqb (sizeOf (lineOf (drop p w))) 0) refl
     where
       by : (c d : Bool) → isWhole last (lineOf (drop p w)) ≡ c
-          → Said s base (base + p) phase (pick c (on after (p + sizeOf (lineOf (drop p w)))) (pick d more (on within (p + sizeOf (lineOf (drop p w))))))
-      by true d e = say after (p + sizeOf (lineOf (drop p w))) (all (past-all e))
+          → Said s base (base + p) phase (pick c (on after (pastLine w p)) (pick d more (on within (pastLine w p))))
+      by true d e = say after (pastLine w p) (all (past-all e))
       by false true e = asked
-      by false false e = say within (p + sizeOf (lineOf (drop p w))) (part (past-part e))
+      by false false e = say within (pastLine w p) (part (past-part e))
 
   -- leading lines
   lead-says : (u : List ℕ) → drop p w ≡ u → Said s base (base + p) P.Lead (leadMove last p u)
@@ -125,7 +121,7 @@ module _ {s : List ℕ} {base : ℕ} {w : List ℕ} {last : Bool} (h : Holds s b
       by false e = found-long s (base + p) (omega (arith, part-line h p l e .size))
 
   long-says : longest < sizeOf (lineOf (drop p w)) → (c : Bool) → isWhole last (lineOf (drop p w)) ≡ c
-      → Said s base (base + p) P.Lines (gives (says 22 []) (pick c P.Lines P.Rest) (p + sizeOf (lineOf (drop p w))))
+      → Said s base (base + p) P.Lines (gives (says 22 []) (pick c P.Lines P.Rest) (pastLine w p))
   unfolding rowOf nextOf
   long-says b c e = by c e
     where
@@ -139,7 +135,7 @@ module _ {s : List ℕ} {base : ℕ} {w : List ℕ} {last : Bool} (h : Holds s b
       not-one z = let y = rw (too-long b) at z in omega arith
 
       by : (c : Bool) → isWhole last (lineOf (drop p w)) ≡ c
-          → Said s base (base + p) P.Lines (gives (says 22 []) (pick c P.Lines P.Rest) (p + sizeOf (lineOf (drop p w))))
+          → Said s base (base + p) P.Lines (gives (says 22 []) (pick c P.Lines P.Rest) (pastLine w p))
       by true e = rw row (given (found not-one (past-all e ∙ next)))
       by false e = rw row (given (amid not-one (past-part e ∙ next)))
 
@@ -175,7 +171,7 @@ module _ {s : List ℕ} {base : ℕ} {w : List ℕ} {last : Bool} (h : Holds s b
   line-says = by (ltb longest (sizeOf (lineOf (drop p w)))) (isWhole last (lineOf (drop p w))) refl refl
     where
       by : (c d : Bool) → ltb longest (sizeOf (lineOf (drop p w))) ≡ c → isWhole last (lineOf (drop p w)) ≡ d
-          → Said s base (base + p) P.Lines (pick c (gives (says 22 []) (pick d P.Lines P.Rest) (p + sizeOf (lineOf (drop p w)))) (pick d (readMove (lineOf (drop p w)) (readAnswer w p)) more))
+          → Said s base (base + p) P.Lines (pick c (gives (says 22 []) (pick d P.Lines P.Rest) (pastLine w p)) (pick d (readMove (lineOf (drop p w)) (readAnswer w p)) more))
       by true d c e = long-says (ltb-true _ _ c) d e
       by false true c e = read-says (ltb-false _ _ c) e
       by false false c e = asked

@@ -10,7 +10,8 @@ use Rattle.listing.specs.Turn.{on, ended, gives, turnMove}
 use Rattle.listing.specs.Demands.{Run, stops, waits, goes, prints, Streams}
 use Rattle.listing.specs.declared.turn.Phase.{Phase}
 use Rattle.listing.specs.declared.turn.Phase.the-variants as P
-use Rattle.listing.proofs.StreamLaws.{pastLine, Passed, all, part, Led, hash, other, Given, found, amid, Said, led, commented, rested, given, finished, turn-says}
+use Rattle.listing.proofs.LineLaws.{pastLine}
+use Rattle.listing.proofs.StreamLaws.{Passed, all, part, Led, hash, other, Given, found, amid, Said, led, commented, rested, given, finished, turn-says}
 
 -- ---- what is left to list
 
