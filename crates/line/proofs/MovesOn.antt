@@ -322,6 +322,9 @@ module _ (s : List ℕ) (at : ℕ) where
   placed false true p q = line-moves (ltb-true _ _ q) (at-feed (drop at s))
   placed false false p q = end-moves (omega (arith, ltb-false (length s) at p, ltb-false at (length s) q))
 
+  pub read-moved : Moved s at (readAnswer s at)
+  read-moved = placed (ltb (length s) at) (ltb at (length s)) refl refl
+
 pub moves-on : MovesOn readAnswer
 unfolding MovesOn
-moves-on s at = placed s at (ltb (length s) at) (ltb at (length s)) refl refl
+moves-on = read-moved

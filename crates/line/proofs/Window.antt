@@ -58,11 +58,11 @@ module _ (s : List ℕ) (at : ℕ) (w : List ℕ) (p : ℕ) where
   both-ends h l = rw (read-end w p l, read-end s at h, add-comm p at)
 
   -- a buffer that holds the line, or all that is left
-  both : Window s at w p → moved at (readAnswer w p) ≡ moved p (readAnswer s at)
-  both (through-feed {feed} f l e) =
+  pub window-read : Window s at w p → moved at (readAnswer w p) ≡ moved p (readAnswer s at)
+  window-read (through-feed {feed} f l e) =
       both-lines (omega arith) (omega arith)
       (through-same (feed + 1 - at) (drop p w) (drop at s) (take (feed - at) (drop at s)) (unfed f) (through f) e)
-  both (to-end h l e) = by (eqb at (length s)) refl
+  window-read (to-end h l e) = by (eqb at (length s)) refl
     where
       left : length w - p ≡ length s - at
       left = sym (length-drop p w) ∙ ap length e ∙ length-drop at s
@@ -76,4 +76,4 @@ module _ (s : List ℕ) (at : ℕ) (w : List ℕ) (p : ℕ) where
 
 pub windowed : Windowed readAnswer
 unfolding Windowed
-windowed = both
+windowed = window-read

@@ -9,16 +9,16 @@ use lib.ListN.{length, getD}
 use borrow.Author.Tests.{le-ltb, ne-eqb}
 use Rattle.text.specs.Answer.{Answer, numberOf}
 use Rattle.line.specs.Line.{Line, line, nothing, feed, return-feed, lineOf, readAnswer}
-use Rattle.line.specs.Demands.{FirstFeed, past-feed, at-end, GoesOn, stays-1, stays-6, line-0, line-5, feed-2, tab-2, feed-3, end-4, MovesOn}
+use Rattle.line.specs.Demands.{FirstFeed, past-feed, at-end, GoesOn, stays-1, stays-6, line-0, line-5, feed-2, tab-2, feed-3, end-4}
 use Rattle.line.proofs.LineLaws.{read-end}
-use Rattle.line.proofs.MovesOn.{moves-on}
+use Rattle.line.proofs.MovesOn.{read-moved}
 use Rattle.listing.specs.Listing.{sizeOf, longest, foundAt, rowOf, nextOf, beginsHash, Leads, none, one, Rows, row, Listing}
 use Rattle.listing.specs.Turn.{more, ended, on, gives, isWhole, leadMove, readMove, lineMove, phaseMove, turnMove}
 use Rattle.listing.specs.Demands.{Holds, Turning, Run, stops, goes, prints, Streams, Turns}
 use Rattle.listing.specs.declared.turn.Phase.{Phase}
 use Rattle.listing.specs.declared.turn.Phase.the-variants as P
 use Rattle.listing.proofs.LineLaws.{size-within}
-use Rattle.listing.proofs.FoundLaws.{next-first, read-next, read-ended, found-read, found-next}
+use Rattle.listing.proofs.FoundLaws.{next-first, read-next, read-ended, found-read}
 
 -- ---- asking for more
 
@@ -55,14 +55,15 @@ plain-end h (feed-3 f) = absurd (unfed f)
 plain-end h (end-4 n) = refl
 
 found-end : nextOf (foundAt zeros 0) ≡ 2
-unfolding MovesOn
 found-end =
-    let m = moves-on zeros 0 in
+    let m = read-moved zeros 0 in
     rw (found-read zeros 0 (omega (arith, size-within zeros)), next-first (readAnswer zeros 0) (m .values)) (plain-end (omega arith) (m .goes))
 
 -- it has at most one row
 one-row : {r q : Answer} {rows : List Answer} → Rows zeros 0 (r ∷ q ∷ rows) → ⊥
-one-row (row n (row m x)) = let f = found-next zeros 2 (omega arith) (rw found-end at m) in omega arith
+one-row (row n (row m x)) =
+    let none-left : numberOf (foundAt zeros 2) ≡ 1 = rw (found-read zeros 2 (omega (arith, size-within [])), read-end zeros 2 refl) in
+    rw found-end at m none-left
 
 not-two : {r q : Answer} {rows : List Answer} → Listing zeros (r ∷ q ∷ rows) → ⊥
 unfolding beginsHash

@@ -1,9 +1,10 @@
 pub mod Windows
 pub mod LineLaws
 pub mod FoundLaws
-pub mod Every
-pub mod Single
 pub mod Turns
+pub mod Runs
 pub mod StreamLaws
 pub mod Streams
+pub mod Every
+pub mod Single
 pub mod Impostors

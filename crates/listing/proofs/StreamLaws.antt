@@ -10,9 +10,8 @@ use borrow.Author.Tests.{ltb-true, ltb-false, eqb-true, eqb-false}
 use Rattle.text.specs.Pick.{pick}
 use Rattle.text.specs.Answer.{Answer, says, numberOf}
 use Rattle.line.specs.Line.{Line, lineOf, readAnswer}
-use Rattle.line.specs.Demands.{MovesOn, Windowed}
-use Rattle.line.proofs.MovesOn.{moves-on}
-use Rattle.line.proofs.Window.{windowed}
+use Rattle.line.proofs.MovesOn.{read-moved}
+use Rattle.line.proofs.Window.{window-read}
 use Rattle.line.proofs.WholeLaws.{moved-number, moved-next}
 use Rattle.listing.specs.Listing.{sizeOf, columnsOf, longest, foundAt, rowOf, nextOf, beginsHash}
 use Rattle.listing.specs.Turn.{Move, beyond, more, ended, on, gives, isWhole, passMove, leadMove, readMove, lineMove, phaseMove, turnMove}
@@ -62,15 +61,13 @@ row-same k l (says (suc n) vs) (says (suc m) us) c e = rw e
 
 module _ {s : List ℕ} (base : ℕ) {w : List ℕ} (p : ℕ) (l : WholeLine s (base + p) w p) where
   same-number : numberOf (readAnswer w p) ≡ numberOf (readAnswer s (base + p))
-  unfolding Windowed
-  same-number = moved-number (base + p) p (readAnswer w p) (readAnswer s (base + p)) (windowed s (base + p) w p (l .window))
+  same-number = moved-number (base + p) p (readAnswer w p) (readAnswer s (base + p)) (window-read s (base + p) w p (l .window))
 
   same-next : base + nextOf (readAnswer w p) ≡ nextOf (readAnswer s (base + p))
-  unfolding Windowed MovesOn
   same-next =
-      let m = moves-on w p in
-      let n = moves-on s (base + p) in
-      let e = moved-next (base + p) p (readAnswer w p) (readAnswer s (base + p)) (m .values) (n .values) (windowed s (base + p) w p (l .window)) in
+      let m = read-moved w p in
+      let n = read-moved s (base + p) in
+      let e = moved-next (base + p) p (readAnswer w p) (readAnswer s (base + p)) (m .values) (n .values) (window-read s (base + p) w p (l .window)) in
       omega (arith, next-first (readAnswer w p) (m .values), next-first (readAnswer s (base + p)) (n .values))
 
 -- ---- the turn
