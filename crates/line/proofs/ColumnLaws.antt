@@ -106,6 +106,10 @@ pub line-end : (c : List ℕ) → Free 10 c → lineOf c ≡ line c nothing []
 unfolding lineOf lineIn
 line-end c f = rw (split-whole c f)
 
+pub nothing-bytes : endingBytes nothing ≡ []
+unfolding endingBytes
+nothing-bytes = refl
+
 pub feed-bytes : endingBytes feed ≡ 10 ∷ []
 unfolding endingBytes
 feed-bytes = refl

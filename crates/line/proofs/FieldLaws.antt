@@ -40,6 +40,9 @@ module _ (s : List ℕ) (r : Range) where
       let g = and-eq-true-iff (leb (r .start) (length s)) (leb (r .len) (length s - r .start)) .0 h in
       record { starts = leb-true _ _ (g .0); left = leb-true _ _ (g .1) }
 
+  pub fits-within : r .start + r .len ≤ length s → fitsIn r s ≡ true
+  fits-within h = inside-fits (record { starts = omega arith; left = omega arith })
+
   pub place-far : length s < r .start → fieldPaper F.Beyond ≡ placeAnswer s r
   unfolding fieldPaper placeAnswer fitsIn
   place-far h = rw (lt-leb _ _ h)

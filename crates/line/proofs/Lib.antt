@@ -13,3 +13,4 @@ pub mod MovesOn
 pub mod WholeLaws
 pub mod Impostors
 pub mod Determined
+pub mod RecordLaws

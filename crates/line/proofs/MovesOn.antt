@@ -11,7 +11,7 @@ use lib.Seq.{getD-append-seam, getD-drop, drop-append-add, drop-drop, append-sno
 use lib.Dec.{ltb}
 use borrow.Author.Tests.{ltb-true, ltb-false}
 use Rattle.text.specs.Pick.{pick}
-use Rattle.text.specs.Answer.{says}
+use Rattle.text.specs.Answer.{says, numberOf}
 use Rattle.pieces.specs.Pieces.{split, joined}
 use Rattle.pieces.specs.Demands.{Free}
 use Rattle.pieces.proofs.PieceLaws.{first-free, split-nil, one-text, more-text, more-rest}
@@ -328,3 +328,17 @@ module _ (s : List ℕ) (at : ℕ) where
 pub moves-on : MovesOn readAnswer
 unfolding MovesOn
 moves-on = read-moved
+
+-- 6 only from a place beyond the input
+pub six-beyond : (s : List ℕ) (at : ℕ) → numberOf (readAnswer s at) ≡ 6 → length s < at
+six-beyond s at z = by (read-moved s at .goes) z
+  where
+    by : {n next : ℕ} → GoesOn s at n next → n ≡ 6 → length s < at
+    by (stays-1 h) e = absurd (omega arith)
+    by (stays-6 h) e = h
+    by (line-0 p) e = absurd (omega arith)
+    by (line-5 p) e = absurd (omega arith)
+    by (feed-2 p q) e = absurd (omega arith)
+    by (tab-2 p) e = absurd (omega arith)
+    by (feed-3 p) e = absurd (omega arith)
+    by (end-4 p) e = absurd (omega arith)

@@ -76,12 +76,12 @@ leading-length zero from (c ∷ cs) l = refl
 leading-length (suc n) from (c ∷ cs) l = let k = leading-length n (from + length c + 1) cs (omega arith) in omega arith
 
 -- the places of all columns are leading places
-column-leading : (from : ℕ) (cs : List (List ℕ)) → columnPlaces from cs ≡ leadingPlaces (length cs) from cs
+pub column-leading : (from : ℕ) (cs : List (List ℕ)) → columnPlaces from cs ≡ leadingPlaces (length cs) from cs
 unfolding columnPlaces leadingPlaces
 column-leading from [] = refl
 column-leading from (c ∷ cs) = rw (column-leading (from + length c + 1) cs)
 
-column-length : (from : ℕ) (cs : List (List ℕ)) → length (columnPlaces from cs) ≡ 2 * length cs
+pub column-length : (from : ℕ) (cs : List (List ℕ)) → length (columnPlaces from cs) ≡ 2 * length cs
 unfolding columnPlaces
 column-length from [] = refl
 column-length from (c ∷ cs) = let k = column-length (from + length c + 1) cs in omega arith
@@ -128,7 +128,7 @@ begins-only {t = t} {e = e} {rest = rest} q {cs} {f} {r} b =
     (sym (begins-split b) ∙ ap (split 9) x, (cc), (cc))
 
 -- the answer is 0 only from a place in the input
-zero-within : (s : List ℕ) (at : ℕ) → numberOf (readAnswer s at) ≡ 0 → at < length s
+pub zero-within : (s : List ℕ) (at : ℕ) → numberOf (readAnswer s at) ≡ 0 → at < length s
 unfolding readAnswer
 zero-within s at z = by (ltb (length s) at) (eqb at (length s)) refl refl z
   where

@@ -23,7 +23,7 @@ use Rattle.line.specs.declared.pos.Position.the-variants as P
 
 -- ---- the one byte
 
-byte-is : (b : ℕ) (t : List ℕ) → isByte b t ≡ true → t ≡ b ∷ []
+pub byte-is : (b : ℕ) (t : List ℕ) → isByte b t ≡ true → t ≡ b ∷ []
 unfolding isByte
 byte-is b [] h = absurd (false≢true h)
 byte-is b (a ∷ []) h = ap (λ (z : ℕ). z ∷ []) (eqb-true a b h)

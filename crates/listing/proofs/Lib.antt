@@ -8,3 +8,8 @@ pub mod Streams
 pub mod Every
 pub mod Single
 pub mod Impostors
+pub mod TurnLaws
+pub mod RowLaws
+pub mod KeepLaws
+pub mod PrintLaws
+pub mod Determined

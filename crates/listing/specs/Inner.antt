@@ -30,4 +30,6 @@ pub record ReadAt (w : List ℕ) (at next : ℕ) (r : Record) : Type 0 where
 -- bytes put behind the first `at` of a line l, of which there are n then
 pub record Put (at : ℕ) (s l : List ℕ) (n : ℕ) (l′ : List ℕ) : Type 0 where
   pub count : n ≡ at + length s
+  pub room : length l′ ≡ length l
+  pub within : n ≤ length l′
   pub begun : take n l′ ≡ take at l ++ s

@@ -20,12 +20,9 @@ pub struct Totals {
     pub refused: u64,
 }
 
-// Room for any line that is printed.
-type Line = [u8; 96];
-
 // Puts bytes into a line behind its first `at`, and answers how many there are then.
-fn put(line: &mut Line, at: usize, s: &[u8]) -> usize
-    requires { ⌜ at + length (now s) ≤ 96 ⌝ }
+fn put(line: &mut [u8], at: usize, s: &[u8]) -> usize
+    requires { ⌜ at + length (now s) ≤ length (now line) ⌝ }
     ensures { λ r. ⌜ Put at (now (s .entry)) (now (line .entry)) r (now (line .exit)) ⌝ }
 {
     let mut i = 0;
@@ -37,8 +34,8 @@ fn put(line: &mut Line, at: usize, s: &[u8]) -> usize
 }
 
 // Puts a space and a number, of which none has more than 20 digits.
-fn put_number(line: &mut Line, at: usize, n: u64) -> usize
-    requires { ⌜ at + 21 ≤ 96 ⌝ }
+fn put_number(line: &mut [u8], at: usize, n: u64) -> usize
+    requires { ⌜ at + 21 ≤ length (now line) ⌝ }
     ensures { λ r. ⌜ Put at (numbers (n ∷ [])) (now (line .entry)) r (now (line .exit)) ⌝ }
     ensures { λ r. ⌜ r ≤ at + 21 ⌝ }
 {

@@ -96,17 +96,17 @@ fn pass(w: &[u8], last: bool, at: usize, within: Phase, after: Phase) -> Turn
     requires { ⌜ at ≤ length (now w) ⌝ }
     ensures { λ r. ⌜ turnPaper r ≡ passMove last within after at (lineOf (drop at (now (w .entry)))) ⌝ }
 {
-    let end = reach_from(w, at);
-    match end {
+    let reach = reach_from(w, at);
+    match reach {
         Reach::Fed(next) => Turn::On(after, next),
-        Reach::Open(next) => {
+        Reach::Open(end) => {
             if last {
-                return Turn::On(after, next);
+                return Turn::On(after, end);
             }
-            if next == at {
+            if end == at {
                 return Turn::More;
             }
-            Turn::On(within, next)
+            Turn::On(within, end)
         }
     }
 }
@@ -201,17 +201,17 @@ fn read_at(w: &[u8], last: bool, at: usize) -> Turn
     requires { ⌜ at ≤ length (now w) ⌝ }
     ensures { λ r. ⌜ turnPaper r ≡ lineMove last (now (w .entry)) at (lineOf (drop at (now (w .entry)))) ⌝ }
 {
-    let end = reach_from(w, at);
-    match end {
+    let reach = reach_from(w, at);
+    match reach {
         Reach::Fed(next) => {
             if next - at > LONGEST {
                 return too_long(true, next);
             }
             read_whole(w, at)
         }
-        Reach::Open(next) => {
-            if next - at > LONGEST {
-                return too_long(last, next);
+        Reach::Open(end) => {
+            if end - at > LONGEST {
+                return too_long(last, end);
             }
             if last {
                 return read_whole(w, at);

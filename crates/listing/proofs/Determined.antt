@@ -1,0 +1,68 @@
+-- Two outcomes that the contract of `take_turn` allows are equal: a turn and its row can be read back from their paper. Assumes nothing.
+use Prim.Native.Nat.{ℕ}
+use mathlib.Core.Path.{_≡_, refl, sym, ap, _∙_}
+use mathlib.Core.Bool.{Bool}
+use mathlib.Core.List.{List, [], _∷_}
+use mathlib.Mathlib.Logic.Function.Defs.{LeftInverse·injective}
+use lib.ListN.{getD}
+use Rattle.text.specs.Answer.{Answer, says}
+use Rattle.listing.specs.Turn.{Move, beyond, more, ended, on, gives, turnMove}
+use Rattle.listing.specs.Paper.{refusalNumber, rowPaper, turnPaper}
+use Rattle.listing.specs.declared.turn.Phase.{Phase}
+use Rattle.listing.specs.declared.turn.Row.{Row}
+use Rattle.listing.specs.declared.turn.Row.the-variants as R
+use Rattle.listing.specs.declared.turn.Refusal.{Refusal}
+use Rattle.listing.specs.declared.turn.Refusal.the-variants as F
+use Rattle.listing.specs.declared.turn.Turn.{Turn}
+use Rattle.listing.specs.declared.turn.Turn.the-variants as T
+
+-- ---- a row
+
+-- by its number; 1 is none's
+rowIn : ℕ → List ℕ → Row
+rowIn n l = getD (read ∷ read ∷ R.Refused F.Empty ∷ R.Refused F.Fed ∷ R.Refused F.Cut ∷ R.Refused F.NotUtf8 ∷ []) n (R.Refused F.Long)
+  where
+    read : Row
+    read = R.Read (getD l 0 0) (getD l 1 0) (getD l 2 0)
+
+rowBack : Answer → Row
+rowBack (says n l) = rowIn n l
+
+refusal-back : (why : Refusal) → rowIn (refusalNumber why) [] ≡ R.Refused why
+unfolding rowIn refusalNumber
+refusal-back F.Empty = refl
+refusal-back F.Fed = refl
+refusal-back F.Cut = refl
+refusal-back F.NotUtf8 = refl
+refusal-back F.Long = refl
+
+row-back : (x : Row) → rowBack (rowPaper x) ≡ x
+unfolding rowBack rowIn rowPaper
+row-back (R.Read columns infos samples) = refl
+row-back (R.Refused why) = refusal-back why
+
+pub row-paper-injective : (r r′ : Row) → rowPaper r ≡ rowPaper r′ → r ≡ r′
+row-paper-injective = LeftInverse·injective rowBack rowPaper row-back
+
+-- ---- a turn
+
+turnBack : Move → Turn
+turnBack beyond = T.Beyond
+turnBack more = T.More
+turnBack ended = T.End
+turnBack (on phase next) = T.On phase next
+turnBack (gives a phase next) = T.Found (rowBack a) phase next
+
+turn-back : (x : Turn) → turnBack (turnPaper x) ≡ x
+unfolding turnBack turnPaper
+turn-back T.Beyond = refl
+turn-back T.More = refl
+turn-back T.End = refl
+turn-back (T.On phase next) = refl
+turn-back (T.Found row phase next) = ap (λ (r : Row). T.Found r phase next) (row-back row)
+
+pub turn-paper-injective : (r r′ : Turn) → turnPaper r ≡ turnPaper r′ → r ≡ r′
+turn-paper-injective = LeftInverse·injective turnBack turnPaper turn-back
+
+pub turn-determined : (last : Bool) (phase : Phase) (w : List ℕ) (at : ℕ) (r r′ : Turn) → turnPaper r ≡ turnMove last phase w at → turnPaper r′ ≡ turnMove last phase w at → r ≡ r′
+turn-determined last phase w at r r′ p q = turn-paper-injective r r′ (p ∙ sym q)

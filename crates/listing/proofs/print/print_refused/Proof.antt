@@ -1,0 +1,62 @@
+-- `listing::print::print_refused` meets its contract: the pieces, put one behind the other, are the row's bytes. Assumes nothing.
+use Rattle.listing.proofs.PrintLaws.{laws}
+use borrow.Author.Needs.{needs}
+use Rattle.listing.proofs.print.print_refused.Statement.{statement}
+use Rattle.listing.proofs.print.print_refused.Tie as tie
+
+slice-aggregate-put : tie.Need-slice-aggregate-put
+slice-aggregate-put c = search (needs, laws)
+
+slice-aggregate-put-2 : tie.Need-slice-aggregate-put-2
+slice-aggregate-put-2 c = search (needs, laws)
+
+put-requires : tie.Need-put-requires
+put-requires c κs = search (needs, laws)
+
+slice-aggregate-put-number : tie.Need-slice-aggregate-put-number
+slice-aggregate-put-number c = search (needs, laws)
+
+put-number-requires : tie.Need-put-number-requires
+put-number-requires c κs = search (needs, laws)
+
+slice-aggregate-put-3 : tie.Need-slice-aggregate-put-3
+slice-aggregate-put-3 c = search (needs, laws)
+
+slice-aggregate-put-4 : tie.Need-slice-aggregate-put-4
+slice-aggregate-put-4 c = search (needs, laws)
+
+put-requires-2 : tie.Need-put-requires-2
+put-requires-2 c κs = search (needs, laws)
+
+array-share-prefix-line : tie.Need-array-share-prefix-line
+array-share-prefix-line c = search (needs, laws)
+
+slice-aggregate-copy : tie.Need-slice-aggregate-copy
+slice-aggregate-copy c = search (needs, laws)
+
+copy-requires : tie.Need-copy-requires
+copy-requires c κs = search (needs, laws)
+
+same-length : tie.Need-same-length
+same-length c = search (needs, laws)
+
+returns : tie.Need-returns
+returns c = search (needs, laws)
+
+pub print-refused-spec : {M : Type 1} → statement M
+print-refused-spec =
+    tie.close
+    (tie.spec
+    slice-aggregate-put
+    slice-aggregate-put-2
+    put-requires
+    slice-aggregate-put-number
+    put-number-requires
+    slice-aggregate-put-3
+    slice-aggregate-put-4
+    put-requires-2
+    array-share-prefix-line
+    slice-aggregate-copy
+    copy-requires
+    same-length
+    returns)
