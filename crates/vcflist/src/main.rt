@@ -1,0 +1,10 @@
+// Lists the lines of a VCF file: reads standard input, and prints a line of findings for each line that it reads.
+mod input;
+mod list;
+mod output;
+
+fn main() {
+    let mut buffer = [0u8; 262144];
+    let mut out = [0u8; 65536];
+    list::list_all(&mut buffer, &mut out);
+}
