@@ -1,10 +1,10 @@
 -- The three ways of the reader, and the line that an input begins with, by where its first LF stands: each is the definition's clause. Assumes nothing.
-use Prim.Native.Nat.{ℕ, _+_, _<_}
-use mathlib.Core.Path.{_≡_, refl, sym, ap}
+use Prim.Native.Nat.{ℕ, _<_}
+use mathlib.Core.Path.{_≡_, refl, sym}
 use mathlib.Core.Bool.{Bool, true, false}
 use mathlib.Core.List.{List, [], _∷_, _++_, dropLast}
 use native.Mathlib.Omega.{arith}
-use lib.ListN.{length, getD, drop, length-append}
+use lib.ListN.{length, getD, drop}
 use borrow.Author.Tests.{lt-ltb, le-ltb, eq-eqb, ne-eqb}
 use Rattle.text.specs.Pick.{pick}
 use Rattle.text.specs.Answer.{says}
@@ -12,7 +12,7 @@ use Rattle.pieces.specs.Pieces.{split, joined}
 use Rattle.pieces.specs.Demands.{Free}
 use Rattle.pieces.proofs.PieceLaws.{split-nil, split-free, one-text, more-text}
 use Rattle.line.proofs.ColumnLaws.{return-is}
-use Rattle.line.specs.Line.{Ending, feed, return-feed, endingBytes, Line, line, endsInReturn, fed, lineOf, lineAnswer, readAnswer}
+use Rattle.line.specs.Line.{Line, line, feed, return-feed, endsInReturn, fed, lineOf, lineAnswer, readAnswer}
 
 -- ---- the reader at a place
 
@@ -58,9 +58,3 @@ before-feed t rest = by (endsInReturn t) refl
     by : (c : Bool) → endsInReturn t ≡ c → BeforeFeed t rest (pick c (line (dropLast t) return-feed rest) (line t feed rest))
     by true e = returned (sym (return-is t e))
     by false e = plain
-
--- with its ending it is as long as what stands before the LF, and the LF
-pub feed-size : {t rest u r : List ℕ} {e : Ending} → BeforeFeed t rest (line u e r) → length u + length (endingBytes e) ≡ length t + 1
-unfolding endingBytes
-feed-size plain = refl
-feed-size {u = u} (returned e) = let l = length-append u (13 ∷ []) in let m = ap length e in omega arith

@@ -116,12 +116,6 @@ cut-fits s x c e l n =
     let d = length-drop (x .start) s in
     omega arith
 
--- pieces of which the first is not empty, joined, are not empty
-joined-some : (b : ℕ) (ps : List (List ℕ)) → 0 < length (getD ps 0 []) → 0 < length (joined b ps)
-joined-some b [] h = absurd (omega arith)
-joined-some b (p ∷ []) h = rw joined-one h
-joined-some b (p ∷ q ∷ ps) h = rw (joined-more, length-append p (b ∷ joined b (q ∷ ps))) (omega arith)
-
 -- pieces of which none is empty, joined, have no fewer bytes than there are pieces
 joined-length : (b : ℕ) (ps : List (List ℕ)) → ((i : ℕ) → i < length ps → 0 < length (getD ps i [])) → length ps ≤ length (joined b ps)
 joined-length b [] h = rw (joined-none b) (omega arith)
@@ -135,7 +129,9 @@ joined-length b (p ∷ q ∷ ps) h =
 joined-back : (b : ℕ) (ps : List (List ℕ)) → ((i : ℕ) → i < length ps → 0 < length (getD ps i [])) → ((i : ℕ) → i < length ps → Free b (getD ps i []))
     → pieces b (joined b ps) ≡ ps
 joined-back b [] h f = rw (joined-none b) (pieces-none b [] refl)
-joined-back b (p ∷ ps) h f = pieces-some b (joined b (p ∷ ps)) (joined-some b (p ∷ ps) (h 0 (omega arith))) ∙ split-back b (p ∷ ps) (omega arith) f
+joined-back b (p ∷ ps) h f =
+    let l = joined-length b (p ∷ ps) h in
+    pieces-some b (joined b (p ∷ ps)) (omega arith) ∙ split-back b (p ∷ ps) (omega arith) f
 
 module _ {s : List ℕ} {at : ℕ} {r : Record} (g : Recorded s at r) where
   whole : g .text ++ (endingBytes (g .ending) ++ g .rest) ≡ drop at s
@@ -158,7 +154,7 @@ module _ {s : List ℕ} {at : ℕ} {r : Record} (g : Recorded s at r) where
       omega arith
 
   -- INFO is column 7
-  pub info-lies : Lies s (rangeOf r N.Info) (getD (split 9 (g .text)) 7 [])
+  info-lies : Lies s (rangeOf r N.Info) (getD (split 9 (g .text)) 7 [])
   unfolding rangeOf recordPlaces fieldOf
   info-lies =
       let n = eight in
@@ -166,6 +162,12 @@ module _ {s : List ℕ} {at : ℕ} {r : Record} (g : Recorded s at r) where
       let e : getD (recordPlaces r) 15 0 ≡ length (getD (split 9 (g .text)) 7 []) =
       ap (λ (l : List ℕ). getD l 15 0) (g .places) ∙ info-size at (split 9 (g .text)) (at + length (g .text)) (g .good .count) in
       record { fits = cut-fits s (r .info) (getD (split 9 (g .text)) 7 []) c e (g .good .full 7 (omega arith)); text = c }
+
+  further : (i : ℕ) → i < length (drop 9 (split 9 (g .text))) → 9 + i < length (split 9 (g .text))
+  further i l = let d = length-drop 9 (split 9 (g .text)) in omega arith
+
+  samples-full : (i : ℕ) → i < length (drop 9 (split 9 (g .text))) → 0 < length (getD (drop 9 (split 9 (g .text))) i [])
+  samples-full i l = rw (getD-drop 9 (split 9 (g .text)) i []) (g .good .full (9 + i) (further i l))
 
   -- the samples are the columns from 9 on, joined
   pub samples-lie : Lies s (rangeOf r N.Samples) (joined 9 (drop 9 (split 9 (g .text))))
@@ -183,26 +185,20 @@ module _ {s : List ℕ} {at : ℕ} {r : Record} (g : Recorded s at r) where
             text = rw (drop-of-length-le (split 9 (g .text)) {i = 9} (omega arith), joined-none 9, cut-is (r .samples .start) (r .samples .len) s, b);
           }
 
-      -- the first sample is not empty
-      first-full : 10 ≤ length (split 9 (g .text)) → 0 < length (getD (drop 9 (split 9 (g .text))) 0 [])
-      first-full h = rw (getD-drop 9 (split 9 (g .text)) 0 []) (g .good .full 9 (omega arith))
-
       some : 10 ≤ length (split 9 (g .text)) → Lies s (r .samples) (joined 9 (drop 9 (split 9 (g .text))))
       some h =
           let c = cut-is (r .samples .start) (r .samples .len) s ∙ cuts .samples h in
           let e : getD (recordPlaces r) 19 0 ≡ length (joined 9 (drop 9 (split 9 (g .text)))) =
           ap (λ (l : List ℕ). getD l 19 0) (g .places) ∙ samples-size at (split 9 (g .text)) (at + length (g .text)) h in
-          record { fits = cut-fits s (r .samples) (joined 9 (drop 9 (split 9 (g .text)))) c e (joined-some 9 (drop 9 (split 9 (g .text))) (first-full h)); text = c }
+          let l = joined-length 9 (drop 9 (split 9 (g .text))) samples-full in
+          let d = length-drop 9 (split 9 (g .text)) in
+          record { fits = cut-fits s (r .samples) (joined 9 (drop 9 (split 9 (g .text)))) c e (omega arith); text = c }
 
   -- from which they come back
   pub samples-back : pieces 9 (joined 9 (drop 9 (split 9 (g .text)))) ≡ drop 9 (split 9 (g .text))
   samples-back =
-      joined-back 9 (drop 9 (split 9 (g .text)))
-      (λ i l. rw (getD-drop 9 (split 9 (g .text)) i []) (g .good .full (9 + i) (further i l)))
+      joined-back 9 (drop 9 (split 9 (g .text))) samples-full
       (λ i l. rw (getD-drop 9 (split 9 (g .text)) i []) (split-free 9 (g .text) (9 + i) (further i l)))
-    where
-      further : (i : ℕ) → i < length (drop 9 (split 9 (g .text))) → 9 + i < length (split 9 (g .text))
-      further i l = let d = length-drop 9 (split 9 (g .text)) in omega arith
 
   -- the buffer has no fewer bytes than there are columns
   pub columns-within : length (split 9 (g .text)) ≤ length s

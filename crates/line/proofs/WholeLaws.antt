@@ -40,11 +40,6 @@ fed-line t = by (endsInReturn t) refl
     by false e =
         record { text = t; ending = feed; is = λ rest. rw e; long = refl; some = λ z. (let q : _≡_ {A = ℕ} 0 1 = cc in omega arith) }
 
--- the end of the input has no bytes
-pub nothing-bytes : endingBytes nothing ≡ []
-unfolding endingBytes
-nothing-bytes = refl
-
 -- ---- a buffer that holds it
 
 pub window-fed : (s : List ℕ) (at : ℕ) (w : List ℕ) (p : ℕ) (t x y : List ℕ) → Free 10 t → drop p w ≡ t ++ 10 ∷ x → drop at s ≡ t ++ 10 ∷ y

@@ -5,25 +5,25 @@ use mathlib.Core.Bool.{true, false, and-false}
 use mathlib.Core.List.{List}
 use native.Mathlib.Omega.{arith}
 use native.Mathlib.Nat.{add-comm}
-use lib.ListN.{length, getD, take, drop, set, length-drop, length-set}
+use lib.ListN.{length, getD, drop, set, length-drop, length-set}
 use lib.Seq.{getD-drop, getD-take, length-take-le, drop-drop, drop-set-lt}
 use lib.Dec.{leb}
 use borrow.Author.Tests.{le-leb, lt-leb}
-use Rattle.text.specs.Over.{over}
 use Rattle.text.proofs.CopyLaws.{Copying, copy-first, copy-turn, copy-past, writes-fits}
-use Rattle.listing.specs.Kept.{between, inOrder, keptAnswer, keptBytes}
+use Rattle.listing.specs.Kept.{inOrder, keptAnswer, keptBytes}
 use Rattle.listing.specs.Paper.{keptPaper, Keeps}
 use Rattle.listing.specs.declared.keep.Kept.the-variants.{Done, Beyond}
 
 -- ---- the bytes between two places
 
+abbrev between : ℕ → ℕ → List ℕ → List ℕ
+between from end l = take (end - from) (drop from l)
+
 module _ (from end : ℕ) (l : List ℕ) (p : from ≤ end) (q : end ≤ length l) where
   length-between : length (between from end l) ≡ end - from
-  unfolding between
   length-between = length-take-le (end - from) (drop from l) (simp length-drop (omega arith))
 
   getD-between : (i : ℕ) → i < end - from → getD (between from end l) i 0 ≡ getD l (from + i) 0
-  unfolding between
   getD-between i h = getD-take (end - from) (drop from l) i 0 h ∙ getD-drop from l i 0
 
   order : inOrder from end l ≡ true

@@ -11,8 +11,8 @@ use Rattle.pieces.proofs.PieceLaws.{free-append}
 use Rattle.line.specs.Line.{Ending, nothing, feed, return-feed, line, lineOf}
 use Rattle.line.specs.Demands.{Window, to-end}
 use Rattle.line.proofs.LineLaws.{AtFeed, none, one, at-feed}
-use Rattle.line.proofs.ColumnLaws.{line-end, line-feed}
-use Rattle.line.proofs.WholeLaws.{fed-line, nothing-bytes, window-fed}
+use Rattle.line.proofs.ColumnLaws.{nothing-bytes, line-end, line-feed}
+use Rattle.line.proofs.WholeLaws.{fed-line, window-fed}
 use Rattle.listing.specs.Listing.{sizeOf, columnsOf}
 use Rattle.listing.specs.Turn.{isWhole}
 use Rattle.listing.specs.Demands.{Holds}

@@ -9,14 +9,9 @@ use lib.ListN.{length}
 use lib.Seq.{take-length}
 use Rattle.text.specs.Answer.{Answer}
 use Rattle.listing.specs.Turn.{Move, beyond, more, ended, on, gives}
-use Rattle.listing.specs.Demands.{Holds, Turning, Run, stops, goes, prints, rank, Turns}
+use Rattle.listing.specs.Demands.{Holds, Turning, Run, stops, goes, prints, Ran, Runs, rank, Turns}
 use Rattle.listing.specs.declared.turn.Phase.{Phase}
 use Rattle.listing.specs.declared.turn.Phase.the-variants as P
-
--- some rows are given from a phase and a place on
-pub record Ran (turn : Turning) (s : List ℕ) (phase : Phase) (p : ℕ) : Type 0 where
-  pub rows : List Answer
-  pub run : Run turn s phase (0 + p) rows
 
 rank-most : (phase : Phase) → rank phase ≤ 2
 unfolding rank
@@ -33,8 +28,8 @@ abbrev left : List ℕ → Phase → ℕ → ℕ
 left s phase p = 3 * (length s - p) + rank phase
 
 module _ (turn : Turning) (t : Turns turn) (s : List ℕ) where
-  step : (phase : Phase) (p : ℕ) → p ≤ length s → ((then : Phase) (next : ℕ) → next ≤ length s → left s then next < left s phase p → Ran turn s then next)
-      → Ran turn s phase p
+  step : (phase : Phase) (p : ℕ) → p ≤ length s → ((then : Phase) (next : ℕ) → next ≤ length s → left s then next < left s phase p → Ran turn s then (0 + next))
+      → Ran turn s phase (0 + p)
   unfolding Turns
   step phase p l again = by (turn true phase s p) refl
     where
@@ -42,7 +37,7 @@ module _ (turn : Turning) (t : Turns turn) (s : List ℕ) where
       lower then next a b (inl m) = omega (arith, rank-most then)
       lower then next a b (inr m) = omega arith
 
-      by : (m : Move) → turn true phase s p ≡ m → Ran turn s phase p
+      by : (m : Move) → turn true phase s p ≡ m → Ran turn s phase (0 + p)
       by beyond e = absurd (t true phase s p l .inside e)
       by more e = absurd (true≢false (t true phase s p l .asks e .0))
       by ended e = record { rows = []; run = stops (all-held s) e }
@@ -55,10 +50,11 @@ module _ (turn : Turning) (t : Turns turn) (s : List ℕ) where
           let r = again then next (f .1) (lower then next (omega arith) (f .1) (inl (f .0))) in
           record { rows = a ∷ r .rows; run = prints (all-held s) e (r .run) }
 
-  ran-from : (n : ℕ) (phase : Phase) (p : ℕ) → p ≤ length s → left s phase p ≤ n → Ran turn s phase p
+  ran-from : (n : ℕ) (phase : Phase) (p : ℕ) → p ≤ length s → left s phase p ≤ n → Ran turn s phase (0 + p)
   ran-from zero phase p l h = step phase p l (λ then next a b. absurd (omega arith))
   ran-from (suc n) phase p l h = step phase p l (λ then next a b. ran-from n then next a (omega arith))
 
-  -- every input has a run
-  pub runs : Ran turn s P.Lead 0
-  runs = ran-from (left s P.Lead 0) P.Lead 0 (omega arith) (omega arith)
+-- so any turn that goes on has a run on every input
+pub runs : (turn : Turning) → Turns turn → Runs turn
+unfolding Runs
+runs turn t s = ran-from turn t s (left s P.Lead 0) P.Lead 0 (omega arith) (omega arith)

@@ -18,13 +18,12 @@ use Rattle.pieces.specs.declared.step.Step.{Step}
 use Rattle.pieces.specs.declared.step.Step.the-variants as S
 use Rattle.pieces.proofs.PieceLaws.{free-nil, split-nil, first-free, one-text, more-text}
 use Rattle.pieces.proofs.StepLaws.{Further, step-tells, further-fits}
-use Rattle.line.specs.Line.{nothing, feed, return-feed, Line, line, fed, lineOf, readAnswer}
-use Rattle.line.proofs.ColumnLaws.{nothing-bytes, line-end, line-feed}
-use Rattle.line.proofs.LineLaws.{BeforeFeed, plain, returned, before-feed, feed-size}
+use Rattle.line.specs.Line.{nothing, feed, return-feed, Line, line, lineOf, readAnswer}
 use Rattle.listing.specs.Listing.{sizeOf, longest, beginsHash}
 use Rattle.listing.specs.Turn.{isWhole, passMove, leadMove, readMove, lineMove, phaseMove, turnMove, gives}
 use Rattle.listing.specs.Paper.{refusalNumber, rowPaper, turnPaper}
 use Rattle.listing.specs.Inner.{Ends, Reaches}
+use Rattle.listing.proofs.LineLaws.{size-open, whole-open, size-feed, whole-feed}
 use Rattle.listing.specs.declared.turn.Phase.{Phase}
 use Rattle.listing.specs.declared.turn.Phase.the-variants as P
 use Rattle.listing.specs.declared.turn.Reach.{Reach}
@@ -36,30 +35,15 @@ use Rattle.listing.specs.declared.turn.Turn.the-variants as T
 
 -- ---- where a line ends
 
-before-size : {t rest : List ℕ} (l : Line) → BeforeFeed t rest l → sizeOf l ≡ length t + 1
-unfolding sizeOf
-before-size (line u e r) b = feed-size b
-
-before-whole : {t rest : List ℕ} {l : Line} → BeforeFeed t rest l → isWhole false l ≡ true
-unfolding isWhole
-before-whole plain = refl
-before-whole (returned e) = refl
-
 -- no LF from the place on
 open-ends : {w : List ℕ} {at : ℕ} → at ≤ length w → Free 10 (drop at w) → Ends w at (length w) false
-unfolding sizeOf isWhole
 open-ends {w} {at} h f =
-    let l = line-end (drop at w) f in
-    let n = length-drop at w in
-    record { size = rw (l, nothing-bytes) (omega arith); within = omega arith; whole = rw l }
+    record { size = omega (arith, size-open (drop at w) f, length-drop at w); within = omega arith; whole = whole-open (drop at w) f false }
 
 -- the first LF stands behind a text
 fed-ends : {w : List ℕ} {at : ℕ} (t rest : List ℕ) {next : ℕ} → Free 10 t → drop at w ≡ t ++ 10 ∷ rest → next ≡ at + length t + 1 → next ≤ length w → Ends w at next true
-fed-ends {w} {at} t rest f e n h =
-    let b = before-feed t rest in
-    let s = before-size (fed t rest) b in
-    let l : lineOf (drop at w) ≡ fed t rest = rw e (line-feed t rest f) in
-    record { size = rw l (omega arith); within = h; whole = rw l (before-whole b) }
+fed-ends t rest f e n h =
+    record { size = rw e (omega (arith, size-feed t f rest)); within = h; whole = rw e (whole-feed t f rest false) }
 
 module _ (w : List ℕ) (at : ℕ) {x : Step} (e : stepPaper x ≡ stepAnswer 10 w at) (h : at ≤ length w) where
   pub reach-more : {r : Range} {next : ℕ} → x ≡ S.More r next → Reaches w at (R.Fed next)
@@ -90,20 +74,20 @@ module _ (w : List ℕ) (at : ℕ) {x : Step} (e : stepPaper x ≡ stepAnswer 10
 
 -- ---- whether it is whole
 
-whole-fed : (last : Bool) (l : Line) → isWhole false l ≡ true → isWhole last l ≡ true
+stays-whole : (last : Bool) (l : Line) → isWhole false l ≡ true → isWhole last l ≡ true
 unfolding isWhole
-whole-fed true (line t nothing rest) e = refl
-whole-fed false (line t nothing rest) e = e
-whole-fed last (line t feed rest) e = refl
-whole-fed last (line t return-feed rest) e = refl
+stays-whole true (line t nothing rest) e = refl
+stays-whole false (line t nothing rest) e = e
+stays-whole last (line t feed rest) e = refl
+stays-whole last (line t return-feed rest) e = refl
 
-whole-open : (last : Bool) (l : Line) → isWhole false l ≡ false → isWhole last l ≡ last
+by-last : (last : Bool) (l : Line) → isWhole false l ≡ false → isWhole last l ≡ last
 unfolding isWhole
-whole-open last (line t nothing rest) e = refl
-whole-open true (line t feed rest) e = refl
-whole-open false (line t feed rest) e = e
-whole-open true (line t return-feed rest) e = refl
-whole-open false (line t return-feed rest) e = e
+by-last last (line t nothing rest) e = refl
+by-last true (line t feed rest) e = refl
+by-last false (line t feed rest) e = e
+by-last true (line t return-feed rest) e = refl
+by-last false (line t return-feed rest) e = e
 
 is-fed : {w : List ℕ} {at next : ℕ} {x : Reach} → x ≡ R.Fed next → Reaches w at x → Ends w at next true
 is-fed q g = rw q at g
@@ -116,25 +100,25 @@ is-open q g = rw q at g
 module _ (w : List ℕ) (at : ℕ) (x : Reach) (g : Reaches w at x) (last : Bool) (within after : Phase) where
   pub pass-fed : {next : ℕ} → x ≡ R.Fed next → turnPaper (T.On after next) ≡ passMove last within after at (lineOf (drop at w))
   unfolding turnPaper passMove
-  pass-fed q = let n = is-fed q g in rw (whole-fed last (lineOf (drop at w)) (n .whole), ← n .size)
+  pass-fed q = let n = is-fed q g in rw (stays-whole last (lineOf (drop at w)) (n .whole), ← n .size)
 
   pub pass-last : {next : ℕ} → x ≡ R.Open next → last ≡ true → turnPaper (T.On after next) ≡ passMove last within after at (lineOf (drop at w))
   unfolding turnPaper passMove
-  pass-last q l = let n = is-open q g in rw (whole-open last (lineOf (drop at w)) (n .whole), l, ← n .size)
+  pass-last q l = let n = is-open q g in rw (by-last last (lineOf (drop at w)) (n .whole), l, ← n .size)
 
   pub pass-none : {next : ℕ} → x ≡ R.Open next → last ≡ false → next ≡ at → turnPaper T.More ≡ passMove last within after at (lineOf (drop at w))
   unfolding turnPaper passMove
   pass-none q l e =
       let n = is-open q g in
       let z : sizeOf (lineOf (drop at w)) ≡ 0 = omega (arith, n .size) in
-      rw (whole-open last (lineOf (drop at w)) (n .whole), l, z)
+      rw (by-last last (lineOf (drop at w)) (n .whole), l, z)
 
   pub pass-some : {next : ℕ} → x ≡ R.Open next → last ≡ false → (next ≡ at → ⊥) → turnPaper (T.On within next) ≡ passMove last within after at (lineOf (drop at w))
   unfolding turnPaper passMove
   pass-some q l e =
       let n = is-open q g in
       let z : sizeOf (lineOf (drop at w)) ≡ 0 → ⊥ = λ z. omega (arith, n .size) in
-      rw (whole-open last (lineOf (drop at w)) (n .whole), l, ne-eqb _ 0 z, ← n .size)
+      rw (by-last last (lineOf (drop at w)) (n .whole), l, ne-eqb _ 0 z, ← n .size)
 
 -- ---- a leading line
 
@@ -181,34 +165,34 @@ module _ (w : List ℕ) (at : ℕ) (x : Reach) (g : Reaches w at x) (last : Bool
   unfolding lineMove
   read-fed-long r q h e =
       let n = is-fed q g in
-      e ∙ rw (lt-ltb longest (sizeOf (lineOf (drop at w))) (omega (arith, n .size)), whole-fed last (lineOf (drop at w)) (n .whole), ← n .size)
+      e ∙ rw (lt-ltb longest (sizeOf (lineOf (drop at w))) (omega (arith, n .size)), stays-whole last (lineOf (drop at w)) (n .whole), ← n .size)
 
   pub read-fed : (r : Turn) → x ≡ R.Fed next → next - at ≤ 65536 → turnPaper r ≡ readMove (lineOf (drop at w)) (readAnswer w at)
       → turnPaper r ≡ lineMove last w at (lineOf (drop at w))
   unfolding lineMove
   read-fed r q h e =
       let n = is-fed q g in
-      e ∙ rw (le-ltb longest (sizeOf (lineOf (drop at w))) (omega (arith, n .size)), whole-fed last (lineOf (drop at w)) (n .whole))
+      e ∙ rw (le-ltb longest (sizeOf (lineOf (drop at w))) (omega (arith, n .size)), stays-whole last (lineOf (drop at w)) (n .whole))
 
   pub read-open-long : (r : Turn) → x ≡ R.Open next → 65536 < next - at → turnPaper r ≡ gives (says 22 []) (pick last P.Lines P.Rest) next
       → turnPaper r ≡ lineMove last w at (lineOf (drop at w))
   unfolding lineMove
   read-open-long r q h e =
       let n = is-open q g in
-      e ∙ rw (lt-ltb longest (sizeOf (lineOf (drop at w))) (omega (arith, n .size)), whole-open last (lineOf (drop at w)) (n .whole), ← n .size)
+      e ∙ rw (lt-ltb longest (sizeOf (lineOf (drop at w))) (omega (arith, n .size)), by-last last (lineOf (drop at w)) (n .whole), ← n .size)
 
   pub read-last : (r : Turn) → x ≡ R.Open next → next - at ≤ 65536 → last ≡ true → turnPaper r ≡ readMove (lineOf (drop at w)) (readAnswer w at)
       → turnPaper r ≡ lineMove last w at (lineOf (drop at w))
   unfolding lineMove
   read-last r q h l e =
       let n = is-open q g in
-      e ∙ rw (le-ltb longest (sizeOf (lineOf (drop at w))) (omega (arith, n .size)), whole-open last (lineOf (drop at w)) (n .whole), l)
+      e ∙ rw (le-ltb longest (sizeOf (lineOf (drop at w))) (omega (arith, n .size)), by-last last (lineOf (drop at w)) (n .whole), l)
 
   pub read-more : x ≡ R.Open next → next - at ≤ 65536 → last ≡ false → turnPaper T.More ≡ lineMove last w at (lineOf (drop at w))
   unfolding turnPaper lineMove
   read-more q h l =
       let n = is-open q g in
-      rw (le-ltb longest (sizeOf (lineOf (drop at w))) (omega (arith, n .size)), whole-open last (lineOf (drop at w)) (n .whole), l)
+      rw (le-ltb longest (sizeOf (lineOf (drop at w))) (omega (arith, n .size)), by-last last (lineOf (drop at w)) (n .whole), l)
 
 -- ---- a turn
 

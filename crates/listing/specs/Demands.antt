@@ -52,6 +52,14 @@ pub data Run (turn : Turning) (s : List ℕ) : Phase → ℕ → List Answer →
 unfoldable pub Streams : Turning → Type 0
 Streams turn = (s : List ℕ) (rows : List Answer) → Run turn s P.Lead 0 rows → Listing s rows
 
+-- and every input has such a run
+pub record Ran (turn : Turning) (s : List ℕ) (phase : Phase) (at : ℕ) : Type 0 where
+  pub rows : List Answer
+  pub run : Run turn s phase at rows
+
+unfoldable pub Runs : Turning → Type 0
+Runs turn = (s : List ℕ) → Ran turn s P.Lead 0
+
 -- ---- turns end
 
 -- the phases that a turn can go through at one place, in falling order

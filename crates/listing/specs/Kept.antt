@@ -1,6 +1,5 @@
 -- What is left of a buffer's bytes, moved to its front to make room behind them (docs/RULES.md, "The program vcflist"). Assumes nothing.
 use Prim.Native.Nat.{ℕ, _-_}
-use mathlib.Core.Path.{_≡_}
 use mathlib.Core.Bool.{Bool, _&&_}
 use mathlib.Core.List.{List, [], _∷_}
 use lib.ListN.{length, take, drop}
@@ -8,10 +7,6 @@ use lib.Dec.{leb}
 use Rattle.text.specs.Pick.{pick}
 use Rattle.text.specs.Answer.{Answer, says}
 use Rattle.text.specs.Over.{over}
-
--- the bytes from one place up to another
-unfoldable pub between : ℕ → ℕ → List ℕ → List ℕ
-between from end l = take (end - from) (drop from l)
 
 -- the two places are in order, and in the buffer
 unfoldable pub inOrder : ℕ → ℕ → List ℕ → Bool
@@ -21,6 +16,6 @@ inOrder from end l = leb from end && leb end (length l)
 unfoldable pub keptAnswer : ℕ → ℕ → List ℕ → Answer
 keptAnswer from end l = pick (inOrder from end l) (says 0 ((end - from) ∷ [])) (says 6 [])
 
--- those bytes over the first ones; nothing changes on a refusal
+-- the bytes from one place up to the other over the first ones; nothing changes on a refusal
 unfoldable pub keptBytes : ℕ → ℕ → List ℕ → List ℕ
-keptBytes from end l = pick (inOrder from end l) (over (between from end l) l) l
+keptBytes from end l = pick (inOrder from end l) (over (take (end - from) (drop from l)) l) l

@@ -29,10 +29,7 @@ module _ (at : ℕ) (l ys : List ℕ) (e : length ys ≡ length (take (length l 
   read-same = same-len-mid at (length l - at) l ys e
 
   module _ {n : ℕ} (h : n ≤ length (take (length l′ - at) (drop at l′))) (i : at < length l) where
-    pub read-within : at + n ≤ length l
-    read-within = let a = read-same in let k = length-rest l′ at in omega arith
-
     pub read-less : (n ≡ 0 → ⊥) → length l′ - (at + n) < length l - at
     read-less z = let a = read-same in let k = length-rest l′ at in omega arith
 
-pub ruleset laws = (put-fits, read-same, read-within, read-less)
+pub ruleset laws = (put-fits, read-same, read-less)

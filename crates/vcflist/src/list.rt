@@ -77,7 +77,7 @@ fn list_row(out: &mut [u8], state: State, row: Row, phase: Phase, at: usize) -> 
     }
 }
 
-// Ends the listing without the last line, which only a whole listing has.
+// Ends the listing without the last line, which only a whole one has.
 fn break_off(out: &[u8], state: State) -> Step {
     flush(out, state.put);
     Step::Over
@@ -89,7 +89,7 @@ fn finish(out: &mut [u8], state: State) -> Step {
     Step::Over
 }
 
-// Keeps what the turns have left, and reads on behind it.
+// Keeps what the turns have left, and reads on behind it. Without room the same turn would come again: the listing breaks off.
 fn refill(buffer: &mut [u8], out: &[u8], state: State) -> Step {
     let held = state.held;
     let kept = keep_rest(buffer, state.at, held.end);
@@ -114,6 +114,7 @@ fn refill(buffer: &mut [u8], out: &[u8], state: State) -> Step {
     }
 }
 
+// After a failed read what was listed stays, and only the last line is missing.
 fn ask_for_more(buffer: &mut [u8], out: &[u8], state: State) -> Step {
     let held = state.held;
     let source = held.source;

@@ -3,6 +3,7 @@ mod input;
 mod list;
 mod output;
 
+// Of the first buffer no more than 65,536 bytes are ever kept (theorem `Turns`), so each time there is room to read on.
 fn main() {
     let mut buffer = [0u8; 262144];
     let mut out = [0u8; 65536];
