@@ -1,14 +1,11 @@
 """The generator of cases: the same lines at each run.
 
-    generate.py small > cases    those stored in the repository
-    generate.py large > cases    many more, for a comparison at scale
-
 It makes questions and no answers. It knows of each line only whether it was built as a case or built to be none, and
-`cases` hands that on, so that the model's `?` can be held to it.
+hands that on, so that the model's `?` can be held to it. The functions take `large`: false for the cases stored in the
+repository, true for many more, for a comparison at scale.
 """
 
 import itertools
-import sys
 
 LARGEST = 2**64 - 1
 LONGEST_LINE = 65_536
@@ -185,7 +182,7 @@ def texts(large, dice):
             yield ask("space", text)
 
     def utf8_first(found):
-        """In the small size every eighth text is asked of `space` too."""
+        """In the stored size every eighth text is asked of `space` too."""
         for index, text in enumerate(found):
             yield ask("utf8", text)
             if large or index % 8 == 0:
@@ -788,7 +785,7 @@ def sample_texts(large):
 
 
 def many_samples(large):
-    """1 to 300 samples: filled, empty, and some of each. In the small size the last are asked by number too."""
+    """1 to 300 samples: filled, empty, and some of each. In the stored size the last are asked by number too."""
     for count in range(1, 301) if large else (1, 2, 3, 10, 64, 255, 256, 257, 299, 300):
         filled = b"\t".join(b"%d" % (number % 7) for number in range(count))
         some = b"\t".join(b"1" * (number % 3) for number in range(count))
@@ -1028,7 +1025,7 @@ def most_needed(alleles):
 
 
 def phasings(large):
-    """Every phasing of up to four alleles (five at large), for each file format, and into every room for the first five;
+    """Every phasing of up to four alleles (five at large), for each file format, into every room for the first five;
     with numbers and with missing ones."""
     for count in range(6 if large else 5):
         for phased in itertools.product((0, 1), repeat=count):
@@ -1631,27 +1628,23 @@ def form(large):
         yield ask("decimal", str(1_000 + index).encode())
 
 
-def cases(size):
-    """All lines in order, each with whether it is a case. The last one is to be given without LF."""
-    large = {"small": False, "large": True}[size]
-    # dice for each area, so that a new area changes no other; each question once, as areas overlap
-    areas = (
+def areas(large):
+    """The cases of each area, with dice of its own, so that a new area changes no other."""
+    return (
         texts(large, Dice(1)), decimals(large, Dice(2)), prints(large, Dice(3)), lines(large, Dice(4)),
         fields(large, Dice(5)), places(large), positions(large, Dice(6)), joins(large, Dice(7)),
         infos(large, Dice(8)), samples(large, Dice(9)), genotypes(large, Dice(10)), written_genotypes(large, Dice(11)),
         entry_lists(large, Dice(12)),
     )
-    yield from dict.fromkeys(itertools.chain(*areas))
-    yield from form(large)
-    yield none(b"x" * LONGEST_LINE + b"y") if large else ask("decimal", b"+3629")
+
+
+def stored():
+    """The stored lines in order, each with whether it is a case; each question once, as areas overlap."""
+    yield from dict.fromkeys(itertools.chain(*areas(False)))
+    yield from form(False)
+    yield ask("decimal", b"+3629")
 
 
 def stream(lines):
-    """The lines as a program reads them."""
-    return b"\n".join(lines)
-
-
-if __name__ == "__main__":
-    if sys.argv[1:] not in (["small"], ["large"]):
-        sys.exit("usage: generate.py small|large")
-    sys.stdout.buffer.write(stream([line for line, _ in cases(sys.argv[1])]))
+    """The lines as a program reads them: the last without LF, but where it is empty, and would be none without."""
+    return b"\n".join(lines) + b"\n" * (lines[-1] == b"")

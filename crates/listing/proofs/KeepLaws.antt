@@ -5,7 +5,7 @@ use mathlib.Core.Bool.{true, false, and-false}
 use mathlib.Core.List.{List}
 use native.Mathlib.Omega.{arith}
 use native.Mathlib.Nat.{add-comm}
-use lib.ListN.{length, getD, drop, set, length-drop, length-set}
+use lib.ListN.{length, getD, take, drop, set, length-drop, length-set}
 use lib.Seq.{getD-drop, getD-take, length-take-le, drop-drop, drop-set-lt}
 use lib.Dec.{leb}
 use borrow.Author.Tests.{le-leb, lt-leb}

@@ -1,0 +1,235 @@
+"""Puts the same cases to the Rust, to the model and to the program, and holds their answers to each other.
+
+    compare.py ORACLE PROGRAM STORE    at scale, and what is stored in STORE; exit status 1 at the first difference
+    compare.py --store ORACLE STORE    writes the stored cases, STORE/stdin and STORE/stdout
+
+ORACLE and PROGRAM are commands that read cases and write an answer line for each. ORACLE is the Rust: it writes `n/a`
+where the Rust has no such question. It is asked only what was built as a case: the form of a case is not the Rust's.
+"""
+
+import collections
+import functools
+import itertools
+import multiprocessing
+import pathlib
+import subprocess
+import sys
+import time
+
+sys.dont_write_bytecode = True  # no compiled files beside the sources
+
+import generate
+import model
+import scale
+
+PROCESSES = 2
+CHUNK = 20_000
+NO_QUESTION = "n/a"
+
+
+# ---- differences that are meant
+
+
+def is_text(part):
+    try:
+        part.decode("utf-8")
+    except UnicodeDecodeError:
+        return False
+    return True
+
+
+def across_a_tab(line, rust, ours):
+    """The Rust accepts a line of which a field by itself is not UTF-8; ours is 5, with the same next place."""
+    numbers = rust.split(" ")
+    if not line.startswith(b"line ") or len(numbers) != 22 or numbers[0] != "0" or ours != f"5 {numbers[1]}":
+        return False
+    text = bytes.fromhex(line.split(b" ")[1].decode())
+    places = zip(map(int, numbers[2::2]), map(int, numbers[3::2]))
+    return not all(is_text(text[start : start + length]) for start, length in places)
+
+
+# By their number in docs/DIFFERENCES.md: whether (line, the Rust's answer, the model's) is that difference. All other
+# differences listed there are no answers to a case that the Rust and we give differently.
+LISTED = {1: across_a_tab}
+
+
+def listed(line, rust, ours):
+    """The number of the listed difference that this is, or None."""
+    return next((number for number, is_it in LISTED.items() if is_it(line, rust, ours)), None)
+
+
+# ---- asking
+
+
+class Failed(Exception):
+    """An answer differs, or a command did not answer."""
+
+
+def replies(command, lines):
+    """A command's answer to each line."""
+    if not lines:
+        return []
+    done = subprocess.run([command], input=generate.stream(lines), stdout=subprocess.PIPE)
+    answers = done.stdout.decode("latin-1").split("\n")
+    if done.returncode != 0:
+        raise Failed(f"{command} ended with status {done.returncode} after {len(answers) - 1} of {len(lines)} answers")
+    if len(answers) != len(lines) + 1 or answers[-1] != "":
+        raise Failed(f"{command} was asked {len(lines)} cases and wrote {len(answers) - 1} answers")
+    return answers[:-1]
+
+
+def the_rust(oracle, cases):
+    """The Rust's answer to each line, None where it has none."""
+    left = iter(replies(oracle, [line for line, good in cases if good]))
+    said = (next(left) if good else NO_QUESTION for _, good in cases)
+    return [None if answer == NO_QUESTION else answer for answer in said]
+
+
+# ---- holding answers to each other
+
+
+def expected(case, rust, ours):
+    """What is to be answered: the Rust's answer, or the model's where the Rust has none or the difference is listed.
+
+    None where the Rust and the model differ otherwise, or where the model's `?` is not what the line was built as.
+    """
+    line, good = case
+    if good is not None and good != (ours != "?"):
+        return None
+    if rust is None or rust == ours:
+        return ours
+    return ours if listed(line, rust, ours) else None
+
+
+def kind(case):
+    """What a line is counted as."""
+    line, good = case
+    if good is None:
+        return "(damaged case)"
+    return line.split(b" ")[0].decode() if good else "(no case)"
+
+
+def difference(case, rust, ours, theirs):
+    """A case and its three answers, to be read."""
+    line, good = case
+    built = {True: "a case", False: "no case", None: "a case, then damaged"}[good]
+    answers = f"  the Rust:    {rust or 'has no such question'}\n  the model:   {ours}\n  the program: {theirs}"
+    return f"an answer differs\n  {line!r}, built as {built}\n{answers}"
+
+
+def hold(cases, oracle, program):
+    """Counts of (kind, who answered). Raises Failed at the first answer that differs."""
+    lines = [line for line, _ in cases]
+    counts = collections.Counter()
+    all_answers = zip(the_rust(oracle, cases), map(model.answer, lines), replies(program, lines), strict=True)
+    for case, (rust, ours, theirs) in zip(cases, all_answers):
+        if theirs != expected(case, rust, ours):
+            raise Failed(difference(case, rust, ours, theirs))
+        counts[kind(case), "model" if rust is None else "rust" if rust == ours else "listed"] += 1
+    return counts
+
+
+def distinct(cases):
+    seen = set()
+    for case in cases:
+        if case not in seen:
+            seen.add(case)
+            yield case
+
+
+def chunks(cases):
+    while chunk := list(itertools.islice(cases, CHUNK)):
+        yield chunk
+
+
+def hold_part(oracle, program, index):
+    """The counts of a part, or the text of its failure: what a process hands back."""
+    counts = collections.Counter()
+    try:
+        for chunk in chunks(distinct(scale.parts()[index])):
+            counts += hold(chunk, oracle, program)
+    except Failed as failure:
+        return str(failure)
+    return counts
+
+
+def hold_all(oracle, program):
+    """The counts of all parts. Raises Failed at the first part, in their order, that did."""
+    counts, told = collections.Counter(), 0
+    with multiprocessing.Pool(PROCESSES) as pool:
+        work = functools.partial(hold_part, oracle, program)
+        for found in pool.imap(work, range(len(scale.parts()))):
+            if isinstance(found, str):
+                raise Failed(found)
+            counts += found
+            if counts.total() // 1_000_000 > told:
+                told = counts.total() // 1_000_000
+                print(f"{counts.total():,} answers are equal", flush=True)
+    return counts
+
+
+# ---- the stored cases
+
+
+def stored(oracle):
+    """The stored cases and their answers, as bytes. No answer is from the program under test."""
+    cases = list(generate.stored())
+    lines = [line for line, _ in cases]
+    answers = []
+    for case, rust in zip(cases, the_rust(oracle, cases), strict=True):
+        ours = model.answer(case[0])
+        answers.append(expected(case, rust, ours))
+        if answers[-1] is None:
+            raise Failed(difference(case, rust, ours, "not asked"))
+    return generate.stream(lines), "".join(f"{answer}\n" for answer in answers).encode()
+
+
+def hold_stored(oracle, store):
+    for name, content in zip(("stdin", "stdout"), stored(oracle)):
+        if (store / name).read_bytes() != content:
+            raise Failed(f"{store / name} is not what `compare/run --store` writes")
+    print("the stored cases are those of the generator, their answers those of the Rust and the model")
+
+
+def write_stored(oracle, store):
+    for name, content in zip(("stdin", "stdout"), stored(oracle)):
+        (store / name).write_bytes(content)
+    print(f"wrote stdin and stdout in {store}")
+
+
+# ---- the table
+
+
+def show(counts):
+    row = "{:16}{:>12}{:>20}{:>18}".format
+    print(row("verb", "answers", "compared with", "resting on"))
+    print(row("", "", "the Rust", "the model alone"))
+    kinds = sorted({what for what, _ in counts}, key=lambda what: (what.startswith("("), what))
+    totals = collections.Counter()
+    for what in kinds:
+        totals += collections.Counter({who: counts[what, who] for who in ("rust", "listed", "model")})
+        asked = counts[what, "rust"] + counts[what, "listed"]
+        print(row(what, f"{asked + counts[what, 'model']:,}", f"{asked:,}", f"{counts[what, 'model']:,}"))
+    asked = totals["rust"] + totals["listed"]
+    print(row("all", f"{totals.total():,}", f"{asked:,}", f"{totals['model']:,}"))
+    print(f"listed differences, counted as compared: {totals['listed']:,}; others: 0")
+
+
+def main(arguments):
+    began = time.monotonic()
+    try:
+        match arguments:
+            case ["--store", oracle, store]:
+                write_stored(oracle, pathlib.Path(store))
+            case [oracle, program, store]:
+                hold_stored(oracle, pathlib.Path(store))
+                show(hold_all(oracle, program))
+                print(f"{time.monotonic() - began:.0f} s")
+            case _:
+                sys.exit("usage: compare.py ORACLE PROGRAM STORE or compare.py --store ORACLE STORE")
+    except Failed as failure:
+        sys.exit(f"compare: {failure}")
+
+
+if __name__ == "__main__":
+    main(sys.argv[1:])

@@ -1,0 +1,4 @@
+//! Stand-in.
+pub mod key {
+    pub const LENGTH: &str = "LEN";
+}

@@ -1,0 +1,2 @@
+//! Stand-in: the trait.
+pub trait Sample {}

@@ -1,0 +1,6 @@
+//! Stand-in.
+#[derive(Clone, Copy, Debug, Eq, PartialEq)]
+pub enum Phasing {
+    Phased,
+    Unphased,
+}

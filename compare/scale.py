@@ -1,0 +1,405 @@
+"""The cases of a comparison at scale: in parts, each made by itself, the same at each run.
+
+They are of four kinds: those of `generate` at its large size; all short texts of the bytes that count; random ones
+about each boundary; and damaged copies of good texts and of good cases.
+"""
+
+import itertools
+
+import generate
+from generate import FAR, FIELDS, LARGEST, Dice, ask, listed, needed, row, seven, short_texts
+
+# ---- more of what `generate` makes at random
+
+
+def more_texts(dice):
+    for text in generate.random_texts(True, dice):
+        yield ask("utf8", text)
+        yield ask("space", text)
+
+
+def more_lines(dice):
+    for text, at in generate.random_reads(True, dice):
+        yield ask("line", text, at)
+
+
+def more_fields(dice):
+    for text, at in itertools.islice(generate.random_reads(True, dice), 6_000):
+        for name in FIELDS:
+            yield ask("field", name, text, at)
+
+
+def more_columns(dice):
+    return generate.random_columns(True, dice)
+
+
+def more_samples(dice):
+    return generate.random_samples(True, dice)
+
+
+def more_genotypes(dice):
+    return generate.random_genotypes(True, dice)
+
+
+def more_lists(dice):
+    yield from generate.random_lists(True, dice)
+    yield from generate.random_entries(True, dice)
+    yield from generate.random_joins(True, dice)
+
+
+# ---- all short texts
+
+# The bytes at the edges of UTF-8's table, and those of white space; then fewer of them.
+UTF8_EDGES = b" a\x7f\x80\x85\x8f\x90\x9f\xa0\xbf\xc0\xc1\xc2\xdf\xe0\xe1\xe2\xe3\xec\xed\xee\xf0\xf1\xf3\xf4\xf5\xff"
+FEWER_EDGES = b"a\x80\x8f\x90\x9f\xa0\xbf\xc2\xe0\xe2\xed\xf0\xf4"
+
+
+def of_length(alphabet, length):
+    return map(bytes, itertools.product(alphabet, repeat=length))
+
+
+def short_characters():
+    for text in (*of_length(UTF8_EDGES, 3), *of_length(FEWER_EDGES, 4)):
+        yield ask("utf8", text)
+        yield ask("space", text)
+
+
+def short_numbers():
+    for text in (*short_texts(b"09+- ", 6), *short_texts(b"0123456789", 4)):
+        yield ask("decimal", text)
+        yield ask("pos", text)
+    for value, room in itertools.product(range(1_200), range(6)):
+        yield ask("print", room, value)
+
+
+def short_line_ends():
+    """Where INFO starts."""
+    for text in short_texts(b"a\t\n\r", 8):
+        yield ask("line", seven(text), 0)
+
+
+def short_line_tails():
+    """Within INFO, FORMAT and a sample; and alone, from every place."""
+    for columns in ((b"I",), (b"I", b"F"), (b"I", b"F", b"s")):
+        for text in of_length(b"a\t\n\r", 7):
+            yield ask("line", seven(*columns) + text, 0)
+        for text in of_length(b"\xc3\xa9\t\n", 7):
+            yield ask("line", seven(*columns) + text, 0)
+    for text in short_texts(b"a\t\n\r", 5):
+        for at in range(len(text) + 2):
+            yield ask("line", text, at)
+
+
+def columns_of_every_kind():
+    """Lines of 8 to 11 columns, the last four of every kind, by every ending; all columns filled or empty."""
+    kinds = (b"", b"a", b"\r", b"\xc3", b"\xa9", b"a\r")
+    for count, ending in itertools.product((8, 9, 10, 11), (b"\n", b"\r\n", b"")):
+        for last in itertools.product(kinds, repeat=4):
+            yield ask("line", row((*generate.COLUMNS[: count - 4], *last)) + ending, 0)
+        for columns in itertools.product((b"", b"a"), repeat=count):
+            yield ask("line", row(columns) + ending, 0)
+
+
+def dots_of_every_kind():
+    """Fields of one dot, of two and of none, in every column."""
+    for columns in itertools.product((b".", b"..", b"a"), repeat=8):
+        text = row(columns)
+        for index, name in enumerate(FIELDS):
+            if index < 8 or columns[0] == columns[7] == b".":
+                yield ask("field", name, text, 0)
+
+
+def short_info_steps():
+    columns = (*of_length(b"a=;", 8), *short_texts(b"ab=;", 6), *short_texts(b"a=;.\xc3\xa9", 5))
+    for column in columns:
+        for at in range(len(column) + 2):
+            yield ask("info", column, at)
+
+
+def short_info_keys():
+    for column in of_length(b"a=;", 8):
+        for key in (b"a", b"aa", b"", b"="):
+            yield ask("find", column, key)
+            yield ask("value", column, key)
+    for column in of_length(b"ab=;", 7):
+        yield ask("scan", column)
+        yield ask("count", column)
+        for key in (b"a", b"b", b"ab"):
+            yield ask("find", column, key)
+            yield ask("value", column, key)
+
+
+def short_samples():
+    for text in short_texts(b"a\t\xc3\xa9", 6):
+        yield ask("samples", text)
+        yield ask("walk", text)
+        for number in generate.numbers_about(text, b"\t"):
+            yield ask("sample", text, number)
+    for text in short_texts(b"ab:", 8):
+        for key in (b"", b"a", b"b", b"ab", b"aa"):
+            yield ask("key", text, key)
+        for number in generate.numbers_about(text, b":"):
+            yield ask("subfield", text, number)
+
+
+def short_genotypes():
+    for text in of_length(b"01.|/+", 6):
+        yield from generate.both_readers(6, text)
+
+
+def short_phasings():
+    for text in (*short_texts(b"0|/.", 8), *short_texts(b"1|/", 9)):
+        yield from generate.both_readers(4, text)
+
+
+def short_checked():
+    for text, alt in itertools.product(short_texts(b"012|/.", 5), (b"A", b"A,C")):
+        yield from generate.both_checked(5, text, alt)
+
+
+def short_slices():
+    """Slices of every mixture of short lengths, and about the longest."""
+    for lengths in itertools.product(range(6), repeat=3):
+        for text in short_texts(b"0|x", 3):
+            yield ask("unequal", *lengths, text)
+    for lengths in itertools.product(range(8), repeat=3):
+        for room in range(17):
+            yield ask("writeunequal", *lengths, room)
+    for lengths, room in itertools.product(itertools.product((62, 63, 64), repeat=3), range(122, 130)):
+        yield ask("unequal", *lengths, b"0|" * (room - 66) + b"1")
+        yield ask("writeunequal", *lengths, room)
+
+
+def short_lists_of_alleles():
+    """Every list of up to three alleles, into no room, almost enough and enough, for file formats about 4.4."""
+    kinds = tuple(itertools.product((0, 1, 10), (0, 1), (0, 1)))
+    formats = (generate.FORMAT_4_3, generate.FORMAT_4_4, (3, 9), (5, 0))
+    for count in range(4):
+        for alleles in itertools.product(kinds, repeat=count):
+            need = generate.most_needed(alleles)
+            for file_format, room in itertools.product(formats, sorted({0, max(0, need - 1), need})):
+                yield from generate.both_writers(file_format, room, 0, alleles)
+
+
+def short_entries():
+    """Every text, as one entry and cut in two anywhere."""
+    for text in (*short_texts(b"a0.;,<> ", 4), *of_length(b"<>a,;", 5)):
+        for cut in range(len(text) + 1):
+            ends = (cut, len(text)) if cut else (len(text),)
+            yield from generate.both_lists(len(text) + 1, 0, text, ends)
+
+
+def short_joins():
+    """Every two last columns, as a list to join and as a line to read."""
+    for before, last in itertools.product((6, 8), itertools.product(short_texts(b"a\t\n\r\xff", 3), repeat=2)):
+        yield from generate.both_ways((*generate.COLUMNS[:before], *last))
+
+
+# ---- random ones about each boundary
+
+LIMITS = (*(10**power for power in range(1, 21)), 2**32, 2**63, LARGEST, 2 * LARGEST, generate.TENTH)
+
+
+def near(dice, limit, reach=300):
+    return max(0, limit + dice.roll(2 * reach + 1) - reach)
+
+
+def near_numbers(dice):
+    """Numbers about each limit, written with signs and zeros before them: as a decimal, a POS and an allele."""
+    for _ in range(12_000):
+        value = near(dice, dice.pick(LIMITS))
+        text = dice.pick((b"", b"+", b"0", b"+00", b"-")) + b"%d" % value
+        yield ask("decimal", text)
+        yield ask("pos", text)
+        yield from generate.both_readers(1 + dice.roll(2), dice.pick((b"", b"0/", b"|", b".|")) + text)
+        if value <= LARGEST:
+            yield ask("print", max(0, len(str(value)) + dice.roll(3) - 1), value)
+            alleles = [(value, 0, dice.roll(2)), (near(dice, 10), 0, dice.roll(2))]
+            room = generate.most_needed(alleles) + dice.roll(4) - 3
+            yield from generate.both_writers((4, 3 + dice.roll(2)), room, 0, alleles)
+
+
+def near_place(dice, text):
+    """A place about the text's end, or a far one."""
+    return near(dice, len(text), 2) if dice.roll(4) else dice.pick(FAR)
+
+
+def near_places(dice):
+    """Places about the ends of texts and about the largest number."""
+    for _ in range(15_000):
+        text = bytes(dice.pick(b"ab=;:\t\n.\xc3\xa9") for _ in range(dice.roll(9)))
+        yield ask("place", text, near_place(dice, text), near_place(dice, text))
+        yield ask("place", text, dice.roll(len(text) + 2), dice.roll(len(text) + 2))
+        yield ask("line", text, near_place(dice, text))
+        yield ask("info", text, near_place(dice, text))
+        yield ask("sample", text, near(dice, text.count(b"\t"), 2))
+        yield ask("subfield", text, near(dice, text.count(b":"), 2))
+        yield ask("field", dice.pick(FIELDS), seven(text) + b"\n", dice.roll(20))
+
+
+def near_line_ends(dice):
+    """Several lines in one text, read from about the start of each."""
+    for _ in range(4_000):
+        found = [generate.random_line(dice) for _ in range(3)]
+        text = b"".join(found)
+        for start in itertools.accumulate(map(len, found), initial=0):
+            for at in range(max(0, start - 2), start + 3):
+                yield ask("line", text, at)
+
+
+def near_rooms(dice):
+    """Rooms about what is needed and places about the output's end, for each writer."""
+    for _ in range(5_000):
+        entries = [generate.random_list_entry(dice) for _ in range(dice.roll(4))]
+        columns = [generate.random_column(dice) for _ in range(dice.pick((8, 10, 11)))]
+        alleles = [(dice.roll(12), 0, dice.roll(2)) for _ in range(1 + dice.roll(4))]
+        at = dice.roll(3)
+        for step in (-2, -1, 0, 1):
+            room = max(0, at + needed(entries) + step)
+            yield from generate.both_lists(room, at, *listed(entries))
+            yield ask("join", max(0, at + needed(columns) + step), at, *listed(columns))
+            yield from generate.both_writers((4, 4), at + generate.most_needed(alleles) + step, at, alleles)
+            yield from generate.both_writers((4, 4), at + 2, near(dice, at + 2, 1), alleles)
+
+
+def near_alt_counts(dice):
+    """Alleles about the ALT count."""
+    for _ in range(12_000):
+        commas = dice.roll(15)
+        values = [near(dice, commas + 1, 2) for _ in range(1 + dice.roll(4))]
+        text = b"".join(dice.pick((b"|", b"/")) + b"%d" % value for value in values)
+        alt = b"," * commas if dice.roll(2) else b",".join([b"A"] * (commas + 1))
+        yield from generate.both_checked(len(values) + dice.roll(3) - 1, text[dice.roll(2) :], alt)
+
+
+# ---- damaged copies
+
+
+def harmed(dice, text, times, alphabet=range(256)):
+    """The text with so many bytes dropped, put in, changed, changed by one bit or swapped with the next."""
+    for _ in range(times):
+        at = dice.roll(len(text) + 1)
+        kind = dice.roll(5)
+        here, after = text[at : at + 1], text[at + 1 :]
+        if kind == 0:
+            here = b""
+        elif kind == 1:
+            here = bytes([dice.pick(alphabet)]) + here
+        elif kind == 2:
+            here = bytes([dice.pick(alphabet)])
+        elif kind == 3:
+            here = bytes(byte ^ 1 << dice.roll(8) for byte in here)
+        else:
+            here, after = after[:1] + here, after[1:]
+        text = text[:at] + here + after
+    return text
+
+
+GOOD_LINES = (*generate.examples()[1:], row(generate.COLUMNS), seven(b"I"), seven("\u00e9=\u8a9e".encode()))
+
+
+def good_line(dice):
+    """A record of the specification's example or a short one, by any ending, with some columns less."""
+    columns = dice.pick(GOOD_LINES).split(b"\t")
+    count = dice.pick((8, 10, 11, len(columns), len(columns)))
+    return row(columns[:count]) + dice.pick((b"\n", b"\r\n", b""))
+
+
+def harmed_lines(dice):
+    for _ in range(30_000):
+        text = harmed(dice, good_line(dice), 1 + dice.roll(3), dice.pick((range(256), b"\t\n\r.", b"\xc3\xa9\t")))
+        yield ask("line", text, 0)
+        yield ask("line", good_line(dice) + text, dice.roll(len(text)) if text else 0)
+        yield ask("field", dice.pick(FIELDS), text, 0)
+
+
+def harmed_columns(dice):
+    columns = [line.split(b"\t")[generate.INFO_INDEX] for line in GOOD_LINES]
+    for _ in range(20_000):
+        column = harmed(dice, dice.pick(columns), 1 + dice.roll(4), dice.pick((range(256), b";=", b";=DP")))
+        key = dice.pick((b"DP", b"AF", b"DB", b"NS", b"H2", b"D", b""))
+        yield ask("info", column, dice.roll(len(column) + 1))
+        yield ask("scan", column)
+        yield ask("count", column)
+        yield ask("find", column, key)
+        yield ask("value", column, key)
+
+
+def harmed_samples(dice):
+    lines = [line.split(b"\t") for line in GOOD_LINES if line.count(b"\t") > generate.FORMAT_INDEX]
+    for _ in range(12_000):
+        columns = dice.pick(lines)
+        alphabet = dice.pick((range(256), b"\t:"))
+        text = harmed(dice, row(columns[generate.SAMPLES_INDEX :]), 1 + dice.roll(3), alphabet)
+        keys = harmed(dice, columns[generate.FORMAT_INDEX], 1 + dice.roll(3), alphabet)
+        yield ask("samples", text)
+        yield ask("walk", text)
+        yield ask("sample", text, dice.roll(5))
+        yield ask("subfield", text, dice.roll(5))
+        yield ask("key", keys, dice.pick((b"GT", b"GQ", b"DP", b"HQ", b"G", b"")))
+
+
+def harmed_genotypes(dice):
+    for _ in range(20_000):
+        text = harmed(dice, dice.pick(generate.GENOTYPES), 1 + dice.roll(3), dice.pick((range(256), b"|/.+019")))
+        yield from generate.both_readers(dice.roll(5), text)
+        yield from generate.both_checked(dice.roll(5), text, b"," * dice.roll(3))
+
+
+def harmed_entries(dice):
+    for _ in range(15_000):
+        entries = [dice.pick(generate.ENTRIES) for _ in range(1 + dice.roll(3))]
+        at = dice.roll(len(entries))
+        entries[at] = harmed(dice, entries[at], 1 + dice.roll(2), dice.pick((range(256), b"<>,;.0 a")))
+        yield from generate.of_entries(entries)
+        columns = harmed(dice, dice.pick(GOOD_LINES), 1, b"\t\n\r\xff").split(b"\t")
+        yield from generate.both_ways(columns)
+
+
+# A good case of each verb, and of each of its answers that is easily damaged.
+GOOD_CASES = (
+    b"utf8 c3a9", b"space 61e3808062", b"decimal 2b303132", b"print 5 70", b"line 6309310a 0", b"field alt 6309 1",
+    b"field samples - 0", b"place 616263 1 2", b"pos 2b31", b"join 40 0 6162636465666768 1,2,3,4,5,6,7,8",
+    b"info 613d313b62 0", b"find 613d313b62 62", b"value 613d313b62 61", b"scan 613d313b62", b"count 613b62",
+    b"samples 610962", b"walk 610962", b"sample 610962 1", b"key 47543a4450 4450", b"subfield 303a35 1",
+    b"read 3 307c31", b"readalt 3 307c31 412c43", b"unequal 2 2 2 302f31", b"alleles 3 2f307c31",
+    b"allelesalt 3 307c31 41", b"write 4 4 9 0 0:0:0 1:0:1", b"write 4 3 9 0 0:1:0", b"writeunequal 1 1 1 9",
+    b"writealleles 4 4 9 1 10:0:1 0:256:0", b"filters 9 0 71313073 3,4", b"alts 9 1 413c433e 1,4", b"alts 2 0 - -",
+)
+
+
+def harmed_cases(dice):
+    """It is not known whether these are cases still: the Rust is not asked, the model and the program must agree."""
+    alphabet = (*range(10), *range(11, 256))
+    for _ in range(60_000):
+        put = dice.pick((alphabet, b" 0123456789", b":,-abcdef"))
+        line = harmed(dice, dice.pick(GOOD_CASES), 1 + dice.roll(2), put)
+        if b"\n" not in line:
+            yield line, None
+
+
+# ---- all parts
+
+AGAIN = (more_texts, more_lines, more_fields, more_columns, more_samples, more_genotypes, more_lists)
+EXHAUSTIVE = (
+    short_characters, short_numbers, short_line_ends, short_line_tails, columns_of_every_kind, dots_of_every_kind,
+    short_info_steps, short_info_keys, short_samples, short_genotypes, short_phasings, short_checked, short_slices,
+    short_lists_of_alleles, short_entries, short_joins,
+)
+NEAR = (near_numbers, near_places, near_line_ends, near_rooms, near_alt_counts)
+HARMED = (harmed_lines, harmed_columns, harmed_samples, harmed_genotypes, harmed_entries, harmed_cases)
+ROUNDS = 3
+
+
+def malformed():
+    yield from generate.form(True)
+    yield generate.none(b"x" * generate.LONGEST_LINE + b"y")
+
+
+def parts():
+    """Every part's cases, each part with dice of its own."""
+    found = [*generate.areas(True), malformed(), *(make() for make in EXHAUSTIVE)]
+    dice = map(Dice, itertools.count(1_000))
+    for _, make in itertools.product(range(ROUNDS), (*AGAIN, *NEAR, *HARMED)):
+        found.append(make(next(dice)))
+    return found
