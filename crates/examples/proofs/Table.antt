@@ -4,6 +4,7 @@ use mathlib.Core.Path.{refl}
 use Rattle.text.specs.Utf8 as U
 use Rattle.text.specs.Space as P
 use Rattle.text.specs.Same.{same}
+use Rattle.text.specs.Bytes as B
 use Rattle.text.specs.Range.{cut}
 use Rattle.text.specs.Over.{roomAnswer}
 use Rattle.decimal.specs.Decimal as D
@@ -24,11 +25,11 @@ pub holds : T.Holds
 unfolding
     T.table T.bytes T.answerTo T.questionOf T.replyOf T.entryReply T.bytesAt T.readReply T.spelledReply T.filtersReply
     U.charsOf U.charsFrom U.charSize U.leadOf U.leadIn U.table U.within U.sizeBy U.follows U.second U.before
-    P.anySpace P.isSpace P.inAny P.spaces P.codePoint same cut roomAnswer
+    P.anySpace P.isSpace P.inAny P.spaces P.codePoint same B.isEmpty B.endsIn cut roomAnswer
     D.valueOf D.isDigit shortest
-    C.split C.longer C.joined C.countOf
-    L.posAnswer L.isByte L.positive
-    J.entryAnswer J.charsAnswer J.fine J.altFine J.filterFine J.symbolFine J.insideFine J.isSome J.lacks J.endsIn F.entriesAnswer
+    C.split C.longer C.joined C.countOf C.lacks
+    L.posAnswer L.positive
+    J.entryAnswer J.charsAnswer J.fine J.altFine J.filterFine J.symbolFine J.insideFine F.entriesAnswer
     R.readingOf R.listOf R.partsOf R.impliedOf R.impliedBy R.piecesOf R.isMark R.headOf R.markedPieces R.numbered R.bodied
     R.alleleIn R.with R.gathered A.readAnswer A.fitAnswer allPhased
     S.spell S.from44 S.judged S.shaped S.firstUnsound S.isSound S.listText S.alleleText S.bodyText W.spelledAnswer W.textOf

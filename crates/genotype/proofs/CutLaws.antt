@@ -3,8 +3,8 @@ use Prim.Native.Nat.{ℕ}
 use mathlib.Core.Path.{_≡_, refl, sym, ap, _∙_}
 use mathlib.Core.Bool.{Bool, true, false, false≢true}
 use mathlib.Core.List.{List, [], _∷_, _++_}
-use Rattle.pieces.specs.Pieces.{countOf}
-use Rattle.pieces.proofs.CountLaws.{count-other}
+use Rattle.pieces.specs.Pieces.{lacks}
+use Rattle.pieces.proofs.CountLaws.{lacks-other}
 use Rattle.genotype.specs.Reading.{isMark, headOf, markedPieces}
 use Rattle.genotype.proofs.PieceLaws.{mark-bar, mark-slash, head-none, head-mark, head-more}
 
@@ -28,9 +28,9 @@ unfolding markedPieces
 pieces-quiet t none = refl
 pieces-quiet t (more m q) = rw m (pieces-quiet t q)
 
-pub count-quiet : (t : List ℕ) {s : List ℕ} → Quiet s → countOf 47 (s ++ t) ≡ countOf 47 t
-count-quiet t none = refl
-count-quiet t (more {b} m q) = count-other 47 _ (no-slash b m) ∙ count-quiet t q
+pub lacks-quiet : (t : List ℕ) {s : List ℕ} → Quiet s → lacks 47 (s ++ t) ≡ lacks 47 t
+lacks-quiet t none = refl
+lacks-quiet t (more {b} m q) = lacks-other 47 _ (no-slash b m) ∙ lacks-quiet t q
 
 -- what stands before the first mark is quiet
 pub quiet-head : (s : List ℕ) → Quiet (headOf s)

@@ -9,8 +9,6 @@ use mathlib.Core.Option.{Option, some, none}
 use native.Mathlib.Omega.{arith}
 use native.Mathlib.Decide.{ℕ-discrete}
 use lib.ListN.{length}
-use lib.Dec.{eqb}
-use borrow.Author.Tests.{ne-eqb}
 use Rattle.text.specs.Pick.{pick}
 use Rattle.text.specs.Same.{same}
 use Rattle.text.proofs.SameLaws.{same-self, same-is, same-not}
@@ -20,8 +18,8 @@ use Rattle.decimal.proofs.Digits.{digit-range, digits-cons}
 use Rattle.decimal.proofs.Demands.{reads-back}
 use Rattle.decimal.proofs.Shortest.{shortest-one}
 use Rattle.decimal.proofs.Value.{value-decimal, decimal-value}
-use Rattle.pieces.specs.Pieces.{countOf}
-use Rattle.pieces.proofs.CountLaws.{count-none, count-here, count-other}
+use Rattle.pieces.specs.Pieces.{lacks}
+use Rattle.pieces.proofs.CountLaws.{lacks-none, lacks-here, lacks-other}
 use Rattle.genotype.specs.Reading.{isMark, headOf, markedPieces, numbered, bodied, alleleIn, impliedBy, partsOf, list, with, gathered, readingOf, listOf}
 use Rattle.genotype.specs.Means.{Mark, bar, slash, Body, dot, number, Later, allPhased, Means, marked}
 use Rattle.genotype.specs.Means as M
@@ -30,7 +28,7 @@ use Rattle.genotype.proofs.PieceLaws.{mark-bar, mark-slash, mark-none, 
 use Rattle.genotype.proofs.JudgeLaws.{reading-some, reading-none, with-list, with-cons}
 use Rattle.genotype.proofs.PhasedLaws.{phased-none, phased-more}
 use Rattle.genotype.proofs.CutLaws as C
-use Rattle.genotype.proofs.CutLaws.{Quiet, no-bar, no-slash, head-quiet, pieces-quiet, count-quiet, quiet-head}
+use Rattle.genotype.proofs.CutLaws.{Quiet, no-bar, no-slash, head-quiet, pieces-quiet, lacks-quiet, quiet-head}
 
 -- ---- a body
 
@@ -137,16 +135,16 @@ later-head (M.more {b} m c l) = head-mark b _ (mark-is m)
 -- the phasing that their text implies is the one that they imply
 later-implied : {t : List ℕ} {as′ : List Allele} → Later t as′ → impliedBy t ≡ allPhased as′
 unfolding impliedBy
-later-implied M.none = rw (count-none 47, phased-none)
+later-implied M.none = rw (lacks-none 47, phased-none)
 later-implied (M.more {t = t} {rest} {a} {as′} m c l) = rw (phased-more a as′) (by m (later-implied l))
   where
-    by : {b : ℕ} {p : Bool} → Mark b p → eqb (countOf 47 rest) 0 ≡ allPhased as′ → eqb (countOf 47 (b ∷ t ++ rest)) 0 ≡ (p && allPhased as′)
-    by bar e = rw (count-other 47 (t ++ rest) {a = 124} (λ e. absurd (omega arith)), count-quiet rest (body-quiet c)) e
-    by slash e = rw (count-here 47 (t ++ rest) {a = 47} refl) (ne-eqb (1 + countOf 47 (t ++ rest)) 0 (λ e. absurd (omega arith)))
+    by : {b : ℕ} {p : Bool} → Mark b p → lacks 47 rest ≡ allPhased as′ → lacks 47 (b ∷ t ++ rest) ≡ (p && allPhased as′)
+    by bar e = rw (lacks-other 47 (t ++ rest) {a = 124} (λ e. absurd (omega arith)), lacks-quiet rest (body-quiet c)) e
+    by slash e = lacks-here 47 (t ++ rest) {a = 47} refl
 
 quiet-implied : (t : List ℕ) {s : List ℕ} → Quiet s → impliedBy (s ++ t) ≡ impliedBy t
 unfolding impliedBy
-quiet-implied t q = rw (count-quiet t q)
+quiet-implied t q = lacks-quiet t q
 
 later-pieces : (i : Bool) {t : List ℕ} {as′ : List Allele} → Later t as′ → map (alleleIn i) (markedPieces t) ≡ map some as′
 unfolding markedPieces

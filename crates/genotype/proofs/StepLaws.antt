@@ -9,7 +9,7 @@ use types.Run.{OneOf, miss}
 use denote.Enum.Declared.{tagOf}
 use lib.ListN.{length, getD, take, drop, drop-of-length-le, length-drop}
 use lib.Dec.{ltb}
-use borrow.Author.Tests.{eq-eqb, ne-eqb, lt-ltb, le-ltb, ltb-true, ltb-false}
+use borrow.Author.Tests.{lt-ltb, le-ltb, ltb-true, ltb-false}
 use Rattle.text.specs.Same.{same}
 use Rattle.text.specs.declared.range.Range.{Range}
 use Rattle.text.proofs.Lists.{here}
@@ -24,7 +24,7 @@ use Rattle.pieces.specs.declared.step.Step as D
 use Rattle.pieces.specs.declared.step.Step.the-variants as T
 use Rattle.pieces.proofs.step.Step as E
 use Rattle.pieces.proofs.PieceLaws.{split-count, split-some}
-use Rattle.pieces.proofs.CountLaws.{count-none}
+use Rattle.pieces.proofs.CountLaws.{lacks-none, lacks-yes, lacks-no}
 use Rattle.pieces.proofs.StepLaws.{step-tells}
 use Rattle.genotype.specs.Reading.{isMark, headOf, numbered, bodied, alleleIn, impliedBy, partsOf, alleleAnswer, firstAnswer, stepAnswer}
 use Rattle.genotype.specs.Paper.{stepPaper}
@@ -72,7 +72,7 @@ implied-more t from {x} {r} {next} e q =
     let c = split-count 47 (drop from t) in
     let l = ap length (f .pieces) in
     let o = split-some 47 (drop next t) in
-    sym (ne-eqb (P.countOf 47 (drop from t)) 0 (λ z. omega arith))
+    sym (lacks-no 47 (drop from t) refl (omega arith))
 
 pub implied-rest : (t : List ℕ) (from : ℕ) (x : D.Step) → from ≤ length t → Q.stepPaper x ≡ P.stepAnswer 47 t from → OneOf (1 ∷ 2 ∷ 3 ∷ []) (tagOf E.the-type x)
     → true ≡ impliedBy (drop from t)
@@ -82,10 +82,10 @@ implied-rest t from (T.Last r) w e h =
     let f = step-tells 47 t from (T.Last r) e in
     let c = split-count 47 (drop from t) in
     let l = ap length (f .pieces) in
-    sym (eq-eqb (P.countOf 47 (drop from t)) 0 (omega arith))
+    sym (lacks-yes 47 (drop from t) refl (omega arith))
 implied-rest t from T.Nothing w e h =
     let f = step-tells 47 t from T.Nothing e in
-    rw (drop-of-length-le t {i = from} (omega arith), count-none 47)
+    rw (drop-of-length-le t {i = from} (omega arith), lacks-none 47)
 implied-rest t from T.Beyond w e h = absurd (let f = step-tells 47 t from T.Beyond e in omega arith)
 
 -- ---- a piece without its mark

@@ -10,7 +10,7 @@ use Rattle.text.specs.Pick.{pick}
 use Rattle.text.specs.Answer.{Answer, says}
 use Rattle.text.specs.Same.{same}
 use Rattle.decimal.specs.Decimal.{valueOf}
-use Rattle.pieces.specs.Pieces.{countOf}
+use Rattle.pieces.specs.Pieces.{lacks}
 use Rattle.genotype.specs.declared.allele.Allele.{Allele}
 
 -- ---- the text, cut before each mark other than at its first byte
@@ -52,7 +52,7 @@ alleleIn implied (b ∷ s) = pick (eqb b 124) (bodied true s) (pick (eqb b 47) (
 
 -- what the text after the first byte implies: unphased where it has any `/`, else phased
 unfoldable pub impliedBy : List ℕ → Bool
-impliedBy s = eqb (countOf 47 s) 0
+impliedBy s = lacks 47 s
 
 unfoldable pub impliedOf : List ℕ → Bool
 impliedOf [] = true

@@ -1,66 +1,56 @@
 -- The columns that the joiner takes are those that begin a line with ending LF, column by column; so what it writes is read. Assumes nothing.
 use Prim.Native.Nat.{ℕ, zero, suc, _+_, _<_, _≤_, suc-le-suc}
 use mathlib.Core.Path.{_≡_, refl, sym, _∙_}
-use mathlib.Core.Bool.{Bool, true, false, _&&_, _||_}
+use mathlib.Core.Bool.{Bool, true, false, not, _&&_, _||_}
 use mathlib.Core.Logic.{_⊎_, inl, inr, ⊎-elim}
 use mathlib.Core.List.{List, [], _∷_, _++_, append-assoc}
 use native.Mathlib.Omega.{arith}
 use native.Mathlib.Decide.{ℕ-discrete}
 use lib.ListN.{length, getD, length-append}
-use lib.Dec.{eqb}
-use borrow.Author.Tests.{eqb-false, ne-eqb, le-leb, leb-true}
+use borrow.Author.Tests.{not-false, le-leb, leb-true}
 use Rattle.text.specs.Pick.{pick}
 use Rattle.text.specs.Answer.{numberOf}
+use Rattle.text.specs.Bytes.{isEmpty, endsIn}
 use Rattle.text.specs.Utf8.{isUtf8}
-use Rattle.pieces.specs.Pieces.{joined}
-use Rattle.pieces.specs.Demands.{Free}
-use Rattle.pieces.proofs.PieceLaws.{joined-one, joined-more, free-nil, free-cons, free-head, free-tail}
-use Rattle.line.specs.Line.{feed, endingBytes, endsInReturn, isEmpty, readAnswer}
+use Rattle.text.proofs.ByteLaws.{empty-some, some-empty}
+use Rattle.pieces.specs.Pieces.{joined, lacks}
+use Rattle.pieces.proofs.CountLaws.{lacks-free, free-lacks}
+use Rattle.pieces.proofs.PieceLaws.{joined-one, joined-more}
+use Rattle.line.specs.Line.{feed, endingBytes, readAnswer}
 use Rattle.line.specs.Demands.{Column, Ended, by-feed, Stands}
-use Rattle.line.proofs.ColumnLaws.{return-tab, feed-bytes, empty-some, some-empty, or-none}
+use Rattle.line.proofs.ColumnLaws.{return-tab, feed-bytes, or-none}
 use Rattle.line.proofs.Exact.{begins-read}
-use Rattle.join.specs.Join.{holds, isBad, fine, refused, columnJudged, columnsJudged, lineText, isCount}
+use Rattle.join.specs.Join.{isBad, fine, refused, columnJudged, columnsJudged, lineText, isCount}
 use Rattle.join.specs.Demands.{Taken, Forth, Back}
 use Rattle.join.proofs.JoinLaws.{isLast, judged-cons, count-eight, count-ten}
 
 -- ---- one column
-
--- a byte that is not held is one that the column is free of
-held-free : {b : ℕ} (c : List ℕ) → holds b c ≡ false → Free b c
-unfolding holds
-held-free [] h = free-nil
-held-free {b} (a ∷ c) h = let p = or-none (eqb a b) _ h in free-cons (eqb-false a b (p .0)) (held-free c (p .1))
-
-free-held : {b : ℕ} (c : List ℕ) → Free b c → holds b c ≡ false
-unfolding holds
-free-held [] f = refl
-free-held {b} (a ∷ c) f = rw (ne-eqb a b (free-head f)) (free-held c (free-tail f))
 
 module _ (c : List ℕ) where
   bad-column : isBad c ≡ false → isUtf8 c ≡ true → Column c
   unfolding isBad
   bad-column h u =
       let p = or-none (isEmpty c) _ h in
-      let q = or-none (holds 9 c) _ (p .1) in
-      record { some = empty-some c (p .0); utf8 = u; no-tab = held-free c (q .0); no-feed = held-free c (q .1) }
+      let q = or-none (not (lacks 9 c)) _ (p .1) in
+      record { some = empty-some c (p .0); utf8 = u; no-tab = lacks-free c (not-false _ (q .0)); no-feed = lacks-free c (not-false _ (q .1)) }
 
   column-bad : Column c → isBad c ≡ false
   unfolding isBad
-  column-bad g = rw (some-empty c (g .some), free-held c (g .no-tab), free-held c (g .no-feed))
+  column-bad g = rw (some-empty c (g .some), free-lacks c (g .no-tab), free-lacks c (g .no-feed))
 
 -- ---- columns that are fine
 
 -- of the first column, and of the others
 record First (i : ℕ) (c : List ℕ) (cs : List (List ℕ)) : Type 0 where
   column : Column c
-  last : (isLast cs && endsInReturn c) ≡ false
+  last : (isLast cs && endsIn 13 c) ≡ false
   rest : columnsJudged (i + 1) cs ≡ fine
 
 first-fine : (i : ℕ) (c : List ℕ) (cs : List (List ℕ)) → columnsJudged i (c ∷ cs) ≡ fine → First i c cs
 unfolding columnJudged
-first-fine i c cs h = by (isBad c || (isLast cs && endsInReturn c)) (isUtf8 c) refl refl (rw judged-cons at h)
+first-fine i c cs h = by (isBad c || (isLast cs && endsIn 13 c)) (isUtf8 c) refl refl (rw judged-cons at h)
   where
-    by : (b u : Bool) → (isBad c || (isLast cs && endsInReturn c)) ≡ b → isUtf8 c ≡ u → pick b (refused 18 i) (pick u (columnsJudged (i + 1) cs) (refused 5 i)) ≡ fine → First i c cs
+    by : (b u : Bool) → (isBad c || (isLast cs && endsIn 13 c)) ≡ b → isUtf8 c ≡ u → pick b (refused 18 i) (pick u (columnsJudged (i + 1) cs) (refused 5 i)) ≡ fine → First i c cs
     by true u e f h = absurd (let z : _≡_ {A = ℕ} 0 1 = cc in omega arith)
     by false true e f h = let p = or-none (isBad c) _ e in record { column = bad-column c (p .0) f; last = p .1; rest = h }
     by false false e f h = absurd (let z : _≡_ {A = ℕ} 0 1 = cc in omega arith)
@@ -76,7 +66,7 @@ fine-each i (c ∷ cs) h zero l = first-fine i c cs h .column
 fine-each i (c ∷ cs) h (suc k) l = fine-each (i + 1) cs (first-fine i c cs h .rest) k (omega arith)
 
 -- and the line's text doesn't end in CR
-fine-return : (i : ℕ) (cs : List (List ℕ)) → 0 < length cs → columnsJudged i cs ≡ fine → endsInReturn (joined 9 cs) ≡ false
+fine-return : (i : ℕ) (cs : List (List ℕ)) → 0 < length cs → columnsJudged i cs ≡ fine → endsIn 13 (joined 9 cs) ≡ false
 unfolding isLast
 fine-return i [] n h = absurd (omega arith)
 fine-return i (c ∷ []) n h = rw joined-one (first-fine i c [] h .last)
@@ -84,7 +74,7 @@ fine-return i (c ∷ d ∷ cs) n h =
     rw (joined-more, return-tab) (fine-return (i + 1) (d ∷ cs) (omega arith) (first-fine i c (d ∷ cs) h .rest))
 
 -- such columns are fine
-each-fine : (i : ℕ) (cs : List (List ℕ)) → ((k : ℕ) → k < length cs → Column (getD cs k [])) → endsInReturn (joined 9 cs) ≡ false → columnsJudged i cs ≡ fine
+each-fine : (i : ℕ) (cs : List (List ℕ)) → ((k : ℕ) → k < length cs → Column (getD cs k [])) → endsIn 13 (joined 9 cs) ≡ false → columnsJudged i cs ≡ fine
 unfolding columnsJudged isLast
 each-fine i [] g e = refl
 each-fine i (c ∷ []) g e = fine-first i c [] (record { column = g 0 (omega arith); last = rw joined-one at e; rest = refl })
@@ -130,7 +120,7 @@ back s cs rest b =
       same = sym (line-feed cs rest) ∙ b .whole;
     }
   where
-    by : Ended (joined 9 cs) feed rest → endsInReturn (joined 9 cs) ≡ false
+    by : Ended (joined 9 cs) feed rest → endsIn 13 (joined 9 cs) ≡ false
     by (by-feed h) = h
 
 -- what is written is read: the answer is 0

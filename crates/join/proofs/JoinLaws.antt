@@ -11,32 +11,32 @@ use mir.Syntax.{w64}
 use mir.Val.{Fits}
 use lib.ListN.{length, getD, take, drop, set, length-append, length-drop}
 use lib.Dec.{leb, ltb, eqb}
-use borrow.Author.Tests.{eqb-true, eqb-false, lt-ltb, le-leb, lt-leb, eq-eqb, ne-eqb, not-true, not-false}
+use borrow.Author.Tests.{eqb-true, eqb-false, le-leb, lt-leb, eq-eqb, ne-eqb, not-true, not-false}
 use borrow.Rule.Slice.PartMut.{putMid}
 use Rattle.text.specs.Pick.{pick}
-use Rattle.text.specs.Answer.{Answer, says}
+use Rattle.text.specs.Answer.{Answer, says, numberOf}
 use Rattle.text.specs.Over.{overAt, roomAnswer}
+use Rattle.text.specs.Bytes.{endsIn}
 use Rattle.text.specs.Utf8.{isUtf8, utf8Answer}
 use Rattle.text.specs.Paper.{utf8Paper}
 use Rattle.text.specs.declared.utf8.Utf8.{Utf8}
 use Rattle.text.specs.declared.utf8.Utf8.the-variants as U
+use Rattle.text.proofs.ByteLaws.{none-empty, some-empty, ends-none, ends-at}
 use Rattle.text.proofs.CharLaws.{told-text, told-broken}
 use Rattle.text.proofs.CopyLaws.{room-fits, room-lacks}
 use Rattle.text.proofs.Lists.{rest-all, length-rest, rest-put, overAt-nil, overAt-append, overAt-before, length-overAt}
-use Rattle.pieces.specs.Pieces.{countOf, joined}
+use Rattle.pieces.specs.Pieces.{countOf, lacks, joined}
 use Rattle.pieces.specs.Entries.{rising, entryList, endsAnswer, startOf}
 use Rattle.pieces.specs.Joined.{JoinsList}
 use Rattle.pieces.specs.Paper.{endsPaper}
 use Rattle.pieces.specs.declared.entries.Ends.{Ends}
 use Rattle.pieces.specs.declared.entries.Ends.the-variants as N
 use Rattle.pieces.specs.declared.joined.Joined.{Joined as Put}
-use Rattle.pieces.proofs.CountLaws.{count-none, count-here, count-other}
+use Rattle.pieces.proofs.CountLaws.{lacks-is}
 use Rattle.pieces.proofs.EntryLaws.{start-later, entries-length, entry-here, entry-past, ends-tell}
 use Rattle.pieces.proofs.PlaceLaws as place
 use Rattle.pieces.proofs.JoinedLaws.{list-length, joined-fits}
-use Rattle.line.specs.Line.{endsInReturn}
-use Rattle.line.proofs.ColumnLaws.{none-empty, some-empty, return-none, return-at}
-use Rattle.join.specs.Join.{holds, isBad, Judged, fine, refused, columnJudged, columnsJudged, lineText, isCount, fitted, listAnswer, joinAnswer, isDone, JoinsAt}
+use Rattle.join.specs.Join.{isBad, Judged, fine, refused, columnJudged, columnsJudged, lineText, isCount, fitted, listAnswer, joinAnswer, JoinsAt}
 use Rattle.join.specs.Paper.{joinedPaper}
 use Rattle.join.specs.declared.columns.Joined.{Joined}
 use Rattle.join.specs.declared.columns.Joined.the-variants as J
@@ -44,47 +44,42 @@ use Rattle.join.proofs.columns.Joined.{the-type}
 
 -- ---- one column
 
--- a byte is held where it is counted at least once
-held : (b : ℕ) (s : List ℕ) → ltb 0 (countOf b s) ≡ holds b s
-unfolding holds
-held b [] = rw count-none
-held b (a ∷ s) = by (eqb a b) refl (held b s)
+-- a byte stands in a text where it is counted at least once
+pub count-held : (b : ℕ) (s : List ℕ) {n : ℕ} → n ≡ countOf b s → ltb 0 n ≡ not (lacks b s)
+count-held b s {n} e = rw (lacks-is b s e) (by n)
   where
-    by : (c : Bool) → eqb a b ≡ c → ltb 0 (countOf b s) ≡ holds b s → ltb 0 (countOf b (a ∷ s)) ≡ (c || holds b s)
-    by true h e = rw (count-here b s (eqb-true a b h)) (lt-ltb 0 (1 + countOf b s) (omega arith))
-    by false h e = rw (count-other b s (eqb-false a b h)) e
-
-pub holds-count : (b : ℕ) (s : List ℕ) {n : ℕ} → n ≡ countOf b s → ltb 0 n ≡ holds b s
-holds-count b s e = rw e (held b s)
+    by : (n : ℕ) → ltb 0 n ≡ not (eqb n 0)
+    by zero = refl
+    by (suc n) = refl
 
 module _ (c : List ℕ) where
   pub bad-empty : length c ≡ 0 → true ≡ isBad c
   unfolding isBad
   bad-empty h = rw (none-empty c h)
 
-  module _ {t : Bool} (h : length c ≡ 0 → ⊥) (e : t ≡ holds 9 c) where
+  module _ {t : Bool} (h : length c ≡ 0 → ⊥) (e : t ≡ not (lacks 9 c)) where
     pub bad-tab : t ≡ true → true ≡ isBad c
     unfolding isBad
     bad-tab y = rw (some-empty c (omega arith), ← e, y)
 
-    pub bad-feed : {u : Bool} → t ≡ false → u ≡ holds 10 c → u ≡ isBad c
+    pub bad-feed : {u : Bool} → t ≡ false → u ≡ not (lacks 10 c) → u ≡ isBad c
     unfolding isBad
     bad-feed n f = rw (some-empty c (omega arith), ← e, n) f
 
-  pub return-not : length c ≡ 0 → false ≡ endsInReturn c
-  return-not h = sym (return-none c h)
+  pub return-not : length c ≡ 0 → false ≡ endsIn 13 c
+  return-not h = sym (ends-none 13 c h)
 
-  pub return-byte : (length c ≡ 0 → ⊥) → eqb (getD c (length c - 1) 0) 13 ≡ endsInReturn c
-  return-byte h = sym (return-at c (omega arith))
+  pub return-byte : (length c ≡ 0 → ⊥) → eqb (getD c (length c - 1) 0) 13 ≡ endsIn 13 c
+  return-byte h = sym (ends-at 13 c (omega arith))
 
   module _ (last : Bool) {t : Bool} (e : t ≡ isBad c) where
-    pub refused-bad : t ≡ true → true ≡ (isBad c || (last && endsInReturn c))
+    pub refused-bad : t ≡ true → true ≡ (isBad c || (last && endsIn 13 c))
     refused-bad y = rw (← e, y)
 
-    pub refused-return : {u : Bool} → t ≡ false → last ≡ true → u ≡ endsInReturn c → u ≡ (isBad c || (last && endsInReturn c))
+    pub refused-return : {u : Bool} → t ≡ false → last ≡ true → u ≡ endsIn 13 c → u ≡ (isBad c || (last && endsIn 13 c))
     refused-return n l f = rw (← e, n, l) f
 
-    pub refused-not : t ≡ false → last ≡ false → false ≡ (isBad c || (last && endsInReturn c))
+    pub refused-not : t ≡ false → last ≡ false → false ≡ (isBad c || (last && endsIn 13 c))
     refused-not n l = rw (← e, n, l)
 
   module _ {x : Utf8} (e : utf8Paper x ≡ utf8Answer c) where
@@ -140,7 +135,7 @@ abbrev pub columnsAnswer : List ℕ → List ℕ → List ℕ → Answer
 columnsAnswer t ends l = fitted (columnsJudged 0 (entryList t ends)) (lineText (entryList t ends)) l
 
 pub judged-cons : (i : ℕ) (c : List ℕ) (cs : List (List ℕ))
-    → columnsJudged i (c ∷ cs) ≡ columnJudged i (isBad c || (isLast cs && endsInReturn c)) c (columnsJudged (i + 1) cs)
+    → columnsJudged i (c ∷ cs) ≡ columnJudged i (isBad c || (isLast cs && endsIn 13 c)) c (columnsJudged (i + 1) cs)
 unfolding columnsJudged isLast
 judged-cons i c [] = refl
 judged-cons i c (d ∷ cs) = rw or-false
@@ -154,7 +149,7 @@ pub judge-first : {t ends : List ℕ} → Judging t ends 0
 judge-first = record { within = zero-le; same = refl }
 
 module _ {t ends : List ℕ} {i : ℕ} {c : List ℕ} {x : Bool} (g : Judging t ends i) (h : i < length ends) (e : c ≡ getD (entryList t ends) i [])
-    (f : x ≡ (isBad c || (eqb (i + 1) (length ends) && endsInReturn c))) where
+    (f : x ≡ (isBad c || (eqb (i + 1) (length ends) && endsIn 13 c))) where
   judge-here : columnJudged i x c (columnsJudged (i + 1) (drop (i + 1) (entryList t ends))) ≡ columnsJudged 0 (entryList t ends)
   judge-here =
       rw (f, ← column-last t ends i h, e)
@@ -255,10 +250,10 @@ record Ready (t ends l : List ℕ) : Type 0 where
 module _ (vs l : List ℕ) where
   -- what is done is fine
   Told : Judged → Type 0
-  Told j = isDone (fitted j vs l) ≡ true → j ≡ fine
+  Told j = eqb (numberOf (fitted j vs l)) 0 ≡ true → j ≡ fine
 
   judged-told : (i : ℕ) (b : Bool) (c : List ℕ) (next : Judged) → Told next → Told (columnJudged i b c next)
-  unfolding Told columnJudged isDone fitted
+  unfolding Told columnJudged fitted
   judged-told i b c next f = by b (isUtf8 c)
     where
       by : (b u : Bool) → Told (pick b (refused 18 i) (pick u next (refused 5 i)))
@@ -269,25 +264,24 @@ module _ (vs l : List ℕ) where
   columns-told : (i : ℕ) (cs : List (List ℕ)) → Told (columnsJudged i cs)
   unfolding Told columnsJudged
   columns-told i [] = λ e. refl
-  columns-told i (c ∷ cs) = rw judged-cons (judged-told i (isBad c || (isLast cs && endsInReturn c)) c (columnsJudged (i + 1) cs) (columns-told (i + 1) cs))
+  columns-told i (c ∷ cs) = rw judged-cons (judged-told i (isBad c || (isLast cs && endsIn 13 c)) c (columnsJudged (i + 1) cs) (columns-told (i + 1) cs))
 
-  room-told : isDone (roomAnswer vs l) ≡ true → length vs ≤ length l
-  unfolding isDone
+  room-told : eqb (numberOf (roomAnswer vs l)) 0 ≡ true → length vs ≤ length l
   room-told e = by (decLe (length vs) (length l))
     where
       by : Dec (length vs ≤ length l) → length vs ≤ length l
       by (yes h) = h
       by (no h) = absurd (false≢true (rw (room-lacks vs l (omega arith)) at e))
 
-ready : (t ends l : List ℕ) → isDone (listAnswer t ends l) ≡ true → Ready t ends l
-unfolding listAnswer isDone fitted Told
+ready : (t ends l : List ℕ) → eqb (numberOf (listAnswer t ends l)) 0 ≡ true → Ready t ends l
+unfolding listAnswer fitted Told
 ready t ends l e = by (rising 0 ends (length t)) (isCount (length ends)) refl refl e
   where
     line : List ℕ
     line = lineText (entryList t ends)
 
     by : (a b : Bool) → rising 0 ends (length t) ≡ a → isCount (length ends) ≡ b
-        → isDone (pick a (pick b (columnsAnswer t ends l) (says 19 [])) (says 16 [])) ≡ true → Ready t ends l
+        → eqb (numberOf (pick a (pick b (columnsAnswer t ends l) (says 19 [])) (says 16 []))) 0 ≡ true → Ready t ends l
     by true true r c e =
         let f = columns-told line l 0 (entryList t ends) e in
         let k = room-told line l (rw f at e) in
@@ -296,8 +290,8 @@ ready t ends l e = by (rising 0 ends (length t)) (isCount (length ends)) refl re
     by false b r c e = absurd (false≢true e)
 
 -- an answer other than done
-refusal : (r : Joined) → OneOf (1 ∷ 2 ∷ 3 ∷ 4 ∷ 5 ∷ 6 ∷ []) (tagOf the-type r) → isDone (joinedPaper r) ≡ false
-unfolding isDone joinedPaper
+refusal : (r : Joined) → OneOf (1 ∷ 2 ∷ 3 ∷ 4 ∷ 5 ∷ 6 ∷ []) (tagOf the-type r) → eqb (numberOf (joinedPaper r)) 0 ≡ false
+unfolding joinedPaper
 refusal (J.Done n) h = absurd (miss (1 ∷ 2 ∷ 3 ∷ 4 ∷ 5 ∷ 6 ∷ []) 0 tt h)
 refusal (J.NotUtf8 i) h = refl
 refusal J.Beyond h = refl
@@ -308,7 +302,7 @@ refusal J.Few h = refl
 
 module _ (t ends : List ℕ) (at : ℕ) (out : List ℕ) where
   pub join-beyond : length out < at → JoinsAt t ends at out J.Beyond out
-  unfolding joinedPaper joinAnswer isDone
+  unfolding joinedPaper joinAnswer
   join-beyond h = record { answer = rw (lt-leb _ _ h); bytes = rw (lt-leb _ _ h) }
 
   module _ (r : Joined) (h : at ≤ length out) (e : joinedPaper r ≡ listAnswer t ends (take (length out - at) (drop at out))) where
@@ -320,8 +314,8 @@ module _ (t ends : List ℕ) (at : ℕ) (out : List ℕ) where
     join-refused o = record { answer = sym join-answer; bytes = rw (join-answer, refusal r o) }
 
     module _ {n : ℕ} (q : r ≡ J.Done n) where
-      done : isDone (joinedPaper r) ≡ true
-      unfolding isDone joinedPaper
+      done : eqb (numberOf (joinedPaper r)) 0 ≡ true
+      unfolding joinedPaper
       done = rw q
 
       join-ready : Ready t ends (take (length out - at) (drop at out))
@@ -374,4 +368,4 @@ module _ (t ends : List ℕ) (at : ℕ) (out : List ℕ) where
 
 pub ruleset join-laws = (join-beyond, join-refused, join-some, join-sum, join-done)
 
-pub ruleset laws = (place.laws, holds-count, bad-empty, bad-tab, bad-feed, return-not, return-byte, refused-bad, refused-return, refused-not, utf8-yes, utf8-no, count-eight, count-ten, count-some, last-is, judge-first, judge-bad, judge-broken, judge-turn, judge-no-end, judge-no-marks, judge-sum, judge-done, list-wrong, list-rising, list-few, list-columns)
+pub ruleset laws = (place.laws, count-held, bad-empty, bad-tab, bad-feed, return-not, return-byte, refused-bad, refused-return, refused-not, utf8-yes, utf8-no, count-eight, count-ten, count-some, last-is, judge-first, judge-bad, judge-broken, judge-turn, judge-no-end, judge-no-marks, judge-sum, judge-done, list-wrong, list-rising, list-few, list-columns)

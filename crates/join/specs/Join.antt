@@ -1,29 +1,25 @@
 -- Joining columns to a line (docs/RULES.md, "Joining"). Assumes nothing.
 use Prim.Native.Nat.{ℕ, _+_}
 use mathlib.Core.Path.{_≡_}
-use mathlib.Core.Bool.{Bool, false, _||_}
+use mathlib.Core.Bool.{Bool, not, _||_}
 use mathlib.Core.List.{List, [], _∷_, _++_}
 use lib.ListN.{length, drop}
 use lib.Dec.{leb, eqb}
 use Rattle.text.specs.Pick.{pick}
-use Rattle.text.specs.Answer.{Answer, says}
+use Rattle.text.specs.Answer.{Answer, says, numberOf}
 use Rattle.text.specs.Over.{overAt, roomAnswer}
+use Rattle.text.specs.Bytes.{isEmpty, endsIn}
 use Rattle.text.specs.Utf8.{isUtf8}
-use Rattle.pieces.specs.Pieces.{joined}
+use Rattle.pieces.specs.Pieces.{joined, lacks}
 use Rattle.pieces.specs.Entries.{rising, entryList}
-use Rattle.line.specs.Line.{endsInReturn, isEmpty}
 use Rattle.join.specs.Paper.{joinedPaper}
 use Rattle.join.specs.declared.columns.Joined.{Joined}
 
 -- ---- the columns
 
-unfoldable pub holds : ℕ → List ℕ → Bool
-holds b [] = false
-holds b (a ∷ s) = eqb a b || holds b s
-
 -- a column that is empty, or holds a tab or an LF
 unfoldable pub isBad : List ℕ → Bool
-isBad c = isEmpty c || (holds 9 c || holds 10 c)
+isBad c = isEmpty c || (not (lacks 9 c) || not (lacks 10 c))
 
 -- what is found of the columns, the first of which has index i: each by 18, then 5; the last may not end in CR
 pub data Judged : Type 0 where
@@ -35,7 +31,7 @@ columnJudged i bad c next = pick bad (refused 18 i) (pick (isUtf8 c) next (refus
 
 unfoldable pub columnsJudged : ℕ → List (List ℕ) → Judged
 columnsJudged i [] = fine
-columnsJudged i (c ∷ []) = columnJudged i (isBad c || endsInReturn c) c fine
+columnsJudged i (c ∷ []) = columnJudged i (isBad c || endsIn 13 c) c fine
 columnsJudged i (c ∷ d ∷ cs) = columnJudged i (isBad c) c (columnsJudged (i + 1) (d ∷ cs))
 
 -- ---- the answer, and what is left in the output
@@ -62,11 +58,7 @@ listAnswer t ends l =
 unfoldable pub joinAnswer : List ℕ → List ℕ → ℕ → List ℕ → Answer
 joinAnswer t ends at out = pick (leb at (length out)) (listAnswer t ends (drop at out)) (says 6 [])
 
--- only an answer that is done changes the output
-unfoldable pub isDone : Answer → Bool
-isDone (says n vs) = eqb n 0
-
--- the joiner answers r, and leaves out′ in an output that held out
+-- the joiner answers r, and leaves out′ in an output that held out: only an answer that is done changes it
 pub record JoinsAt (t ends : List ℕ) (at : ℕ) (out : List ℕ) (r : Joined) (out′ : List ℕ) : Type 0 where
   pub answer : joinedPaper r ≡ joinAnswer t ends at out
-  pub bytes : out′ ≡ pick (isDone (joinAnswer t ends at out)) (overAt at (lineText (entryList t ends)) out) out
+  pub bytes : out′ ≡ pick (eqb (numberOf (joinAnswer t ends at out)) 0) (overAt at (lineText (entryList t ends)) out) out

@@ -8,14 +8,15 @@ use pieces::joined::put_joined;
 use text::utf8::Utf8;
 use text::utf8::check_utf8;
 ghost use mathlib.Core.Path.{_≡_};
-ghost use mathlib.Core.Bool.{true, _&&_, _||_};
+ghost use mathlib.Core.Bool.{true, not, _&&_, _||_};
 ghost use mathlib.Core.List.{[]};
 ghost use Prim.Native.Nat.{_<_};
 ghost use lib.ListN.{length, getD};
+ghost use Rattle.text.specs.Bytes.{endsIn};
 ghost use Rattle.text.specs.Utf8.{isUtf8};
+ghost use Rattle.pieces.specs.Pieces.{lacks};
 ghost use Rattle.pieces.specs.Entries.{rising, entryList, startOf};
-ghost use Rattle.line.specs.Line.{endsInReturn};
-ghost use Rattle.join.specs.Join.{JoinsAt, holds, isBad, isCount, columnsJudged, lineText, fitted, listAnswer};
+ghost use Rattle.join.specs.Join.{JoinsAt, isBad, isCount, columnsJudged, lineText, fitted, listAnswer};
 ghost use Rattle.join.specs.Paper.{joinedPaper};
 
 // The answer of the joiner.
@@ -38,7 +39,7 @@ pub enum Joined {
 
 // Whether the byte `b` stands in a column.
 fn has_byte(c: &[u8], b: u8) -> bool
-    ensures { λ r. ⌜ r ≡ holds b (now (c .entry)) ⌝ }
+    ensures { λ r. ⌜ r ≡ not (lacks b (now (c .entry))) ⌝ }
 {
     count_byte(c, b) > 0
 }
@@ -58,7 +59,7 @@ fn is_bad(c: &[u8]) -> bool
 
 // Whether a column ends in CR.
 fn ends_in_return(c: &[u8]) -> bool
-    ensures { λ r. ⌜ r ≡ endsInReturn (now (c .entry)) ⌝ }
+    ensures { λ r. ⌜ r ≡ endsIn 13 (now (c .entry)) ⌝ }
 {
     if c.len() == 0 {
         return false;
@@ -68,7 +69,7 @@ fn ends_in_return(c: &[u8]) -> bool
 
 // Whether a column is refused by 18: the last may not end in CR.
 fn is_refused(c: &[u8], last: bool) -> bool
-    ensures { λ r. ⌜ r ≡ (isBad (now (c .entry)) || (last && endsInReturn (now (c .entry)))) ⌝ }
+    ensures { λ r. ⌜ r ≡ (isBad (now (c .entry)) || (last && endsIn 13 (now (c .entry)))) ⌝ }
 {
     if is_bad(c) {
         return true;

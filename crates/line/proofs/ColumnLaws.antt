@@ -1,21 +1,23 @@
 -- The cut of a line is unique, by the text before the first LF; the columns' laws go column by column. Assumes nothing.
 use Prim.Native.Nat.{ℕ, zero, suc, _+_, _-_, _<_, _≤_, suc-le-suc}
 use mathlib.Core.Path.{_≡_, refl, sym, ap, _∙_}
-use mathlib.Core.Bool.{Bool, true, false, _&&_, _||_, and-eq-true-iff, and-true, true≢false, false≢true}
+use mathlib.Core.Bool.{Bool, true, false, _&&_, _||_, and-eq-true-iff, and-true, true≢false}
 use mathlib.Core.Logic.{_⊎_, inl, inr, ⊎-elim}
 use mathlib.Core.List.{List, [], _∷_, _++_, append-assoc, append-nil, dropLast}
 use native.Mathlib.Omega.{arith}
 use native.Mathlib.Decide.{ℕ-discrete}
-use lib.ListN.{length, getD, length-append}
+use lib.ListN.{length, getD}
 use lib.Dec.{leb, eqb}
-use borrow.Author.Tests.{leb-false, lt-leb, eqb-true, eqb-false, ne-eqb}
+use borrow.Author.Tests.{leb-false, lt-leb, eqb-false, ne-eqb}
 use Rattle.text.specs.Pick.{pick}
+use Rattle.text.specs.Bytes.{isEmpty, endsIn}
 use Rattle.text.specs.Utf8.{isUtf8}
+use Rattle.text.proofs.ByteLaws.{empty-some, some-empty, last-back, ends-behind, ends-last, ends-is}
 use Rattle.text.proofs.Demands.{parted}
 use Rattle.pieces.specs.Pieces.{split, joined}
 use Rattle.pieces.specs.Demands.{Free}
 use Rattle.pieces.proofs.PieceLaws.{first-free, joined-none, joined-one, joined-more, free-nil, free-cons, free-tail, free-append, free-left, free-right, split-some, split-nil, split-joined, split-whole, split-append, one-text, more-text}
-use Rattle.line.specs.Line.{Ending, nothing, feed, return-feed, endingBytes, line, endsInReturn, fed, lineIn, lineOf, Verdict, fine, refused, required, isEmpty, lastVerdict, verdict, allUtf8}
+use Rattle.line.specs.Line.{Ending, nothing, feed, return-feed, endingBytes, line, fed, lineIn, lineOf, Verdict, fine, refused, required, lastVerdict, verdict, allUtf8}
 use Rattle.line.specs.Demands.{Ended, by-nothing, by-feed, by-return-feed, ByColumns}
 
 -- ---- pieces joined
@@ -37,59 +39,19 @@ free-each a (p ∷ q ∷ ps) f (suc i) l = free-each a (q ∷ ps) (free-tail (fr
 
 -- ---- CR at a text's end
 
-return-later : (a : ℕ) (s : List ℕ) → 0 < length s → endsInReturn (a ∷ s) ≡ endsInReturn s
-unfolding endsInReturn
-return-later a [] h = absurd (omega arith)
-return-later a (b ∷ s) h = refl
-
 -- what stands behind a tab tells whether the text ends in CR
-pub return-tab : (c t : List ℕ) → endsInReturn (c ++ 9 ∷ t) ≡ endsInReturn t
-unfolding endsInReturn
-return-tab [] [] = refl
-return-tab [] (b ∷ t) = refl
-return-tab (a ∷ c) t = return-later a (c ++ 9 ∷ t) (simp length-append (omega arith)) ∙ return-tab c t
-
--- the last byte tells it
-pub return-none : (t : List ℕ) → length t ≡ 0 → endsInReturn t ≡ false
-unfolding endsInReturn
-return-none [] h = refl
-return-none (a ∷ t) h = absurd (omega arith)
-
-pub return-at : (t : List ℕ) → 0 < length t → endsInReturn t ≡ eqb (getD t (length t - 1) 0) 13
-unfolding endsInReturn
-return-at [] h = absurd (omega arith)
-return-at (a ∷ []) h = refl
-return-at (a ∷ b ∷ t) h =
-    let e : suc (suc (length t)) - 1 ≡ suc (suc (length t) - 1) = omega arith in
-    return-later a (b ∷ t) (omega arith) ∙ rw e (return-at (b ∷ t) (omega arith))
-
--- a text with CR behind it ends in CR, and comes back without it
-return-last : (t : List ℕ) → endsInReturn (t ++ 13 ∷ []) ≡ true
-unfolding endsInReturn
-return-last [] = refl
-return-last (a ∷ t) = return-later a (t ++ 13 ∷ []) (simp length-append (omega arith)) ∙ return-last t
-
-dropLast-back : (t : List ℕ) (b : ℕ) → dropLast (t ++ b ∷ []) ≡ t
-dropLast-back [] b = refl
-dropLast-back (a ∷ []) b = refl
-dropLast-back (a ∷ c ∷ t) b = ap (λ (z : List ℕ). a ∷ z) (dropLast-back (c ∷ t) b)
-
--- and only such a text ends in CR
-pub return-is : (t : List ℕ) → endsInReturn t ≡ true → dropLast t ++ 13 ∷ [] ≡ t
-unfolding endsInReturn
-return-is [] h = absurd (false≢true h)
-return-is (b ∷ []) h = let e = eqb-true b 13 h in rw e
-return-is (b ∷ c ∷ t) h = ap (λ (z : List ℕ). b ∷ z) (return-is (c ∷ t) h)
+pub return-tab : (c t : List ℕ) → endsIn 13 (c ++ 9 ∷ t) ≡ endsIn 13 t
+return-tab c t = ends-behind (λ e. omega arith) c t
 
 -- ---- the line that an input begins with
 
-pub fed-plain : (t rest : List ℕ) → endsInReturn t ≡ false → fed t rest ≡ line t feed rest
+pub fed-plain : (t rest : List ℕ) → endsIn 13 t ≡ false → fed t rest ≡ line t feed rest
 unfolding fed
 fed-plain t rest h = rw h
 
 pub fed-return : (t rest : List ℕ) → fed (t ++ 13 ∷ []) rest ≡ line t return-feed rest
 unfolding fed
-fed-return t rest = rw (return-last t, dropLast-back t 13)
+fed-return t rest = rw (ends-last 13 t, last-back t 13)
 
 in-more : (t : List ℕ) (us : List (List ℕ)) → 0 < length us → lineIn (t ∷ us) ≡ fed t (joined 10 us)
 unfolding lineIn
@@ -147,11 +109,11 @@ end-cut {s} f = record { whole = append-nil s; unfed = f; ended = by-nothing }
 
 feed-cut : (p rest : List ℕ) {t : List ℕ} {e : Ending} {r : List ℕ} → Free 10 p → fed p rest ≡ line t e r → LineCut (p ++ 10 ∷ rest) t e r
 unfolding fed endingBytes
-feed-cut p rest {t} {e} {r} f q = by (endsInReturn p) refl q
+feed-cut p rest {t} {e} {r} f q = by (endsIn 13 p) refl q
   where
-    by : (b : Bool) → endsInReturn p ≡ b → pick b (line (dropLast p) return-feed rest) (line p feed rest) ≡ line t e r → LineCut (p ++ 10 ∷ rest) t e r
+    by : (b : Bool) → endsIn 13 p ≡ b → pick b (line (dropLast p) return-feed rest) (line p feed rest) ≡ line t e r → LineCut (p ++ 10 ∷ rest) t e r
     by true h q =
-        let w = return-is p h in
+        let w = ends-is 13 p h in
         line-same q (record { whole = sym (append-assoc (dropLast p) (13 ∷ []) (10 ∷ rest)) ∙ rw w; unfed = free-left (dropLast p) (13 ∷ []) (rw w f); ended = by-return-feed })
     by false h q = line-same q (record { whole = refl; unfed = f; ended = by-feed h })
 
@@ -226,21 +188,6 @@ past-test false n p h = (refl, h)
 pub or-none : (a b : Bool) → (a || b) ≡ false → (a ≡ false) × (b ≡ false)
 or-none true b h = absurd (true≢false h)
 or-none false b h = (refl, h)
-
-pub empty-some : (c : List ℕ) → isEmpty c ≡ false → 0 < length c
-unfolding isEmpty
-empty-some [] h = absurd (true≢false h)
-empty-some (b ∷ c) h = omega arith
-
-pub none-empty : (c : List ℕ) → length c ≡ 0 → isEmpty c ≡ true
-unfolding isEmpty
-none-empty [] h = refl
-none-empty (b ∷ c) h = absurd (omega arith)
-
-pub some-empty : (c : List ℕ) → 0 < length c → isEmpty c ≡ false
-unfolding isEmpty
-some-empty [] h = absurd (omega arith)
-some-empty (b ∷ c) h = refl
 
 last-fine : (k : ℕ) (c : List ℕ) (e : Ending) (past : ℕ) → lastVerdict k c e past ≡ fine → (required k ≡ false) × (isEmpty c ≡ false)
 unfolding lastVerdict

@@ -9,18 +9,18 @@ use lib.Seq.{length-take-le}
 use lib.Dec.{leb, eqb}
 use borrow.Author.Tests.{le-leb, lt-leb, leb-true}
 use Rattle.text.specs.Answer.{Answer, says}
+use Rattle.text.specs.Same.{same}
 use Rattle.text.specs.Range.{cut}
 use Rattle.text.specs.declared.range.Range.{Range}
 use Rattle.text.proofs.Lists.{here, cut-is}
+use Rattle.text.proofs.SameLaws.{same-self, same-not, same-byte}
 use Rattle.line.specs.Fields.{rangeOf, fitsIn, placeAnswer, dotAnswer, textAnswer, fieldAnswer}
-use Rattle.line.specs.Pos.{isByte}
 use Rattle.line.specs.Paper.{fieldPaper}
 use Rattle.line.specs.declared.read.Record.{Record}
 use Rattle.line.specs.declared.fields.Name.{Name}
 use Rattle.line.specs.declared.fields.Name.the-variants as N
 use Rattle.line.specs.declared.fields.Text.{Text}
 use Rattle.line.specs.declared.fields.Text.the-variants as F
-use Rattle.line.proofs.PosLaws.{byte-not}
 
 -- ---- a place in a buffer
 
@@ -65,22 +65,21 @@ module _ (s : List ℕ) (r : Range) where
   cut-length : Inside s r → length (cut r s) ≡ r .len
   cut-length i = rw (cut-is (r .start) (r .len) s) (length-take-le (r .len) (drop (r .start) s) (simp length-drop (i .left)))
 
-  pub dot-not-one : (r .len ≡ 1 → ⊥) → false ≡ (fitsIn r s && isByte 46 (cut r s))
+  pub dot-not-one : (r .len ≡ 1 → ⊥) → false ≡ (fitsIn r s && same (cut r s) (46 ∷ []))
   dot-not-one h = by (fitsIn r s) refl
     where
-      by : (t : Bool) → fitsIn r s ≡ t → false ≡ (t && isByte 46 (cut r s))
-      by true f = let l = cut-length (fits-inside s r f) in sym (byte-not 46 (cut r s) (λ e. h (sym l ∙ ap length e)))
+      by : (t : Bool) → fitsIn r s ≡ t → false ≡ (t && same (cut r s) (46 ∷ []))
+      by true f = let l = cut-length (fits-inside s r f) in sym (same-not (cut r s) (46 ∷ []) (λ e. h (sym l ∙ ap length e)))
       by false f = refl
 
-  pub dot-past : r .len ≡ 1 → length s ≤ r .start → false ≡ (fitsIn r s && isByte 46 (cut r s))
+  pub dot-past : r .len ≡ 1 → length s ≤ r .start → false ≡ (fitsIn r s && same (cut r s) (46 ∷ []))
   dot-past e h = rw (fits-not s r (omega arith))
 
   cut-one : r .len ≡ 1 → r .start < length s → cut r s ≡ getD s (r .start) 0 ∷ []
   cut-one e h = rw (cut-is (r .start) (r .len) s, e, here s (r .start) h)
 
-  pub dot-at : r .len ≡ 1 → r .start < length s → eqb (getD s (r .start) 0) 46 ≡ (fitsIn r s && isByte 46 (cut r s))
-  unfolding isByte
-  dot-at e h = rw (inside-fits s r (record { starts = omega arith; left = omega arith }), cut-one e h)
+  pub dot-at : r .len ≡ 1 → r .start < length s → eqb (getD s (r .start) 0) 46 ≡ (fitsIn r s && same (cut r s) (46 ∷ []))
+  dot-at e h = rw (inside-fits s r (record { starts = omega arith; left = omega arith }), cut-one e h) (sym (same-byte (getD s (r .start) 0) 46))
 
 -- ---- what a `.` reads as
 
@@ -91,7 +90,7 @@ dot-known r e q = rw e q
 -- ---- a field
 
 module _ (s : List ℕ) (line : Record) (name : Name) (x : Text) {r : Range} {b : Bool} (e : r ≡ rangeOf line name)
-    (d : b ≡ (fitsIn r s && isByte 46 (cut r s))) where
+    (d : b ≡ (fitsIn r s && same (cut r s) (46 ∷ []))) where
   pub field-dot : b ≡ true → fieldPaper x ≡ dotAnswer name r → fieldPaper x ≡ fieldAnswer s line name
   unfolding fieldAnswer textAnswer
   field-dot t h = rw (← e, ← d, t) h
@@ -101,9 +100,9 @@ module _ (s : List ℕ) (line : Record) (name : Name) (x : Text) {r : Range} {b 
   field-place t h = rw (← e, ← d, t) h
 
 -- a range that holds a `.` lies in the buffer
-pub dot-within : (s : List ℕ) (r : Range) {b : Bool} → b ≡ (fitsIn r s && isByte 46 (cut r s)) → b ≡ true → r .start + r .len ≤ length s
+pub dot-within : (s : List ℕ) (r : Range) {b : Bool} → b ≡ (fitsIn r s && same (cut r s) (46 ∷ [])) → b ≡ true → r .start + r .len ≤ length s
 dot-within s r d t =
-    let f = and-eq-true-iff (fitsIn r s) (isByte 46 (cut r s)) .0 (sym d ∙ t) .0 in
+    let f = and-eq-true-iff (fitsIn r s) (same (cut r s) (46 ∷ [])) .0 (sym d ∙ t) .0 in
     let i = fits-inside s r f in
     omega arith
 
@@ -118,8 +117,8 @@ pub data Emptied : Name → Type 0 where
 
 module _ (s : List ℕ) (line : Record) where
   field-reads : (name : Name) → fitsIn (rangeOf line name) s ≡ true → cut (rangeOf line name) s ≡ 46 ∷ [] → fieldAnswer s line name ≡ dotAnswer name (rangeOf line name)
-  unfolding fieldAnswer textAnswer isByte
-  field-reads name f e = rw (f, e)
+  unfolding fieldAnswer textAnswer
+  field-reads name f e = rw (f, e, same-self (46 ∷ []))
 
   -- a `.` in ID, ALT, FILTER or INFO is the empty text at its column's end
   pub dot-empty : {name : Name} → Emptied name → fitsIn (rangeOf line name) s ≡ true → cut (rangeOf line name) s ≡ 46 ∷ []
@@ -139,6 +138,6 @@ module _ (s : List ℕ) (line : Record) where
   pub field-stands : (name : Name) → fitsIn (rangeOf line name) s ≡ true → (cut (rangeOf line name) s ≡ 46 ∷ [] → ⊥)
       → fieldAnswer s line name ≡ says 0 (rangeOf line name .start ∷ rangeOf line name .len ∷ [])
   unfolding fieldAnswer textAnswer placeAnswer
-  field-stands name f h = rw (f, byte-not 46 (cut (rangeOf line name) s) h)
+  field-stands name f h = rw (f, same-not (cut (rangeOf line name) s) (46 ∷ []) h)
 
 pub ruleset laws = (place-far, place-long, place-fits, dot-not-one, dot-past, dot-at, field-dot, field-place)

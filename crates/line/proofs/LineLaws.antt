@@ -8,11 +8,12 @@ use lib.ListN.{length, getD, drop}
 use borrow.Author.Tests.{lt-ltb, le-ltb, eq-eqb, ne-eqb}
 use Rattle.text.specs.Pick.{pick}
 use Rattle.text.specs.Answer.{says}
+use Rattle.text.specs.Bytes.{endsIn}
+use Rattle.text.proofs.ByteLaws.{ends-is}
 use Rattle.pieces.specs.Pieces.{split, joined}
 use Rattle.pieces.specs.Demands.{Free}
 use Rattle.pieces.proofs.PieceLaws.{split-nil, split-free, one-text, more-text}
-use Rattle.line.proofs.ColumnLaws.{return-is}
-use Rattle.line.specs.Line.{Line, line, feed, return-feed, endsInReturn, fed, lineOf, lineAnswer, readAnswer}
+use Rattle.line.specs.Line.{Line, line, feed, return-feed, fed, lineOf, lineAnswer, readAnswer}
 
 -- ---- the reader at a place
 
@@ -53,8 +54,8 @@ pub data BeforeFeed (t rest : List ℕ) : Line → Type 0 where
 -- the line before an LF is one of the two
 pub before-feed : (t rest : List ℕ) → BeforeFeed t rest (fed t rest)
 unfolding fed
-before-feed t rest = by (endsInReturn t) refl
+before-feed t rest = by (endsIn 13 t) refl
   where
-    by : (c : Bool) → endsInReturn t ≡ c → BeforeFeed t rest (pick c (line (dropLast t) return-feed rest) (line t feed rest))
-    by true e = returned (sym (return-is t e))
+    by : (c : Bool) → endsIn 13 t ≡ c → BeforeFeed t rest (pick c (line (dropLast t) return-feed rest) (line t feed rest))
+    by true e = returned (sym (ends-is 13 t e))
     by false e = plain

@@ -12,6 +12,8 @@ use lib.Dec.{ltb}
 use borrow.Author.Tests.{ltb-true, ltb-false}
 use Rattle.text.specs.Pick.{pick}
 use Rattle.text.specs.Answer.{says, numberOf}
+use Rattle.text.specs.Bytes.{isEmpty}
+use Rattle.text.proofs.ByteLaws.{none-empty, some-empty}
 use Rattle.pieces.specs.Pieces.{split, joined}
 use Rattle.pieces.specs.Demands.{Free}
 use Rattle.pieces.proofs.PieceLaws.{first-free, split-nil, one-text, more-text, more-rest}
@@ -27,7 +29,6 @@ use Rattle.line.specs.Line.{
   fine,
   refused,
   required,
-  isEmpty,
   lastVerdict,
   verdict,
   fieldPlaces,
@@ -219,13 +220,14 @@ module _ {s : List ℕ} {at end past : ℕ} {e : Ending} (x : Closed s at end pa
   -- the columns from a place on, up to which no tab ends an empty one
   columns-lead : (cs : List (List ℕ)) (k from : ℕ) (t r : List ℕ) → Upto s at from → split 9 t ≡ cs → drop from s ≡ t ++ r → end ≡ from + length t → end ≤ length s
       → Leads s at (verdict k from cs e past)
-  unfolding verdict isEmpty
+  unfolding verdict
   columns-lead [] k from t r u h d p l = absurd (split-nil 9 t h)
   columns-lead (c ∷ []) k from t r u h d p l = last-leads (rw (p, one-text 9 h) (clear s u c r (rw (one-text 9 h) at d) (first-free 9 t h))) x k c
-  columns-lead ([] ∷ b ∷ cs) k from t r u h d p l = refused-leads (empty-leads u (d ∙ several t h r) (omega (arith, several-length t h)) l)
+  columns-lead ([] ∷ b ∷ cs) k from t r u h d p l = rw (none-empty [] refl) (refused-leads (empty-leads u (d ∙ several t h r) (omega (arith, several-length t h)) l))
   columns-lead ((a ∷ c) ∷ b ∷ cs) k from t r u h d p l =
-      columns-lead (b ∷ cs) (k + 1) (from + length (a ∷ c) + 1) (joined 9 (b ∷ cs)) r (turn s u (a ∷ c) _ (d ∙ several t h r) (first-free 9 t h) (omega arith))
-      (more-rest 9 t h) (behind-rest s from (a ∷ c) 9 _ (d ∙ several t h r)) (omega (arith, several-length t h)) l
+      rw (some-empty (a ∷ c) (omega arith))
+      (columns-lead (b ∷ cs) (k + 1) (from + length (a ∷ c) + 1) (joined 9 (b ∷ cs)) r (turn s u (a ∷ c) _ (d ∙ several t h r) (first-free 9 t h) (omega arith))
+      (more-rest 9 t h) (behind-rest s from (a ∷ c) 9 _ (d ∙ several t h r)) (omega (arith, several-length t h)) l)
 
 -- ---- the answer
 

@@ -1,14 +1,13 @@
 -- POS goes by the decimal's value; the one text of one byte that is worth 0 is `0`, since no other is as short. Assumes nothing.
 use Prim.Native.Nat.{ℕ, zero, suc, _<_, _≤_}
-use mathlib.Core.Path.{_≡_, refl, sym, ap, _∙_}
-use mathlib.Core.Bool.{Bool, true, false, false≢true}
+use mathlib.Core.Path.{_≡_, sym, ap, _∙_}
 use mathlib.Core.List.{List, [], _∷_}
 use mathlib.Core.Option.{some, none}
 use native.Mathlib.Omega.{arith}
 use native.Mathlib.Decide.{ℕ-discrete}
 use lib.ListN.{length}
-use borrow.Author.Tests.{eqb-true}
 use Rattle.text.specs.Answer.{says}
+use Rattle.text.proofs.SameLaws.{same-self, same-not}
 use Rattle.decimal.specs.Decimal.{valueOf, decimalAnswer}
 use Rattle.decimal.specs.Shortest.{shortest}
 use Rattle.decimal.specs.Paper.{numberPaper}
@@ -17,25 +16,9 @@ use Rattle.decimal.specs.declared.read.Number.the-variants as D
 use Rattle.decimal.proofs.Demands.{reads-back, none-shorter}
 use Rattle.decimal.proofs.Shortest.{shortest-one}
 use Rattle.decimal.proofs.Value.{told-value, told-bad}
-use Rattle.line.specs.Pos.{isByte, positive, posAnswer}
+use Rattle.line.specs.Pos.{positive, posAnswer}
 use Rattle.line.specs.Paper.{positionPaper}
 use Rattle.line.specs.declared.pos.Position.the-variants as P
-
--- ---- the one byte
-
-pub byte-is : (b : ℕ) (t : List ℕ) → isByte b t ≡ true → t ≡ b ∷ []
-unfolding isByte
-byte-is b [] h = absurd (false≢true h)
-byte-is b (a ∷ []) h = ap (λ (z : ℕ). z ∷ []) (eqb-true a b h)
-byte-is b (a ∷ c ∷ t) h = absurd (false≢true h)
-
--- any other text is not
-pub byte-not : (b : ℕ) (t : List ℕ) → (t ≡ b ∷ [] → ⊥) → isByte b t ≡ false
-byte-not b t h = by (isByte b t) refl
-  where
-    by : (v : Bool) → isByte b t ≡ v → v ≡ false
-    by true e = absurd (h (byte-is b t e))
-    by false e = refl
 
 -- ---- the texts worth 0
 
@@ -57,13 +40,13 @@ zero-text (b ∷ c ∷ t) e l = absurd (omega arith)
 -- ---- the rules for POS
 
 pub pos-zero : posAnswer (48 ∷ []) ≡ says 0 []
-unfolding posAnswer isByte
-pos-zero = refl
+unfolding posAnswer
+pos-zero = rw (same-self (48 ∷ []))
 
 module _ (t : List ℕ) where
   pos-value : (t ≡ 48 ∷ [] → ⊥) → posAnswer t ≡ positive (valueOf t)
   unfolding posAnswer
-  pos-value h = rw (byte-not 48 t h)
+  pos-value h = rw (same-not t (48 ∷ []) h)
 
   zero-worth : t ≡ 48 ∷ [] → valueOf t ≡ some 0
   zero-worth z = rw z zero-value

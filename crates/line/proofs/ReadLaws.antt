@@ -12,17 +12,19 @@ use lib.Seq.{drop-length, drop-drop, getD-take, getD-drop, length-take-le}
 use lib.Dec.{eqb}
 use borrow.Author.Tests.{le-leb, lt-leb, eq-eqb, ne-eqb}
 use Rattle.text.specs.Pick.{pick}
+use Rattle.text.specs.Bytes.{isEmpty, endsIn}
 use Rattle.text.proofs.Lists.{here, rest-all}
+use Rattle.text.proofs.ByteLaws.{none-empty, some-empty, ends-none, ends-some, ends-at}
 use Rattle.pieces.specs.Pieces.{split}
 use Rattle.pieces.specs.Demands.{Free}
 use Rattle.pieces.proofs.PieceLaws.{free-nil, free-cons, free-head, free-tail, split-whole, split-append, split-nil}
-use Rattle.line.specs.Line.{Ending, feed, return-feed, endingBytes, Line, line, endsInReturn, fed, lineOf, fine, refused, required, isEmpty, lastVerdict, verdict}
+use Rattle.line.specs.Line.{Ending, feed, return-feed, endingBytes, Line, line, fed, lineOf, fine, refused, required, lastVerdict, verdict}
 use Rattle.line.specs.Inner.{Clear, Stopped, StopsAt, TextEnd, input, none, bare, return, denied, judgement, judgementOf, judgedPaper}
 use Rattle.line.specs.declared.read.Stop.{Stop}
 use Rattle.line.specs.declared.read.Stop.the-variants as S
 use Rattle.line.specs.declared.read.Judged.{Judged}
 use Rattle.line.specs.declared.read.Judged.the-variants as J
-use Rattle.line.proofs.ColumnLaws.{return-none, return-at, line-end, line-feed, line-tab, none-empty, some-empty}
+use Rattle.line.proofs.ColumnLaws.{line-end, line-feed, line-tab}
 
 -- ---- the search for a column's end
 
@@ -154,19 +156,19 @@ module _ (s : List ℕ) (k start : ℕ) (h : start ≤ length s) (g : Clear s st
   cut-required e t = rw (cut-judged, ← e, t)
 
   pub cut-empty : start ≡ length s → judgedPaper (J.Cut start) ≡ judgementOf k start (lineOf (drop start s))
-  unfolding judgedPaper judgement isEmpty
-  cut-empty e = rw (cut-judged, e, drop-length s, or-true (required k))
+  unfolding judgedPaper judgement
+  cut-empty e = rw (cut-judged, e, drop-length s, none-empty [] refl, or-true (required k))
 
   pub cut-fine : {q : Bool} {end : ℕ} → q ≡ required k → q ≡ false → (start ≡ length s → ⊥) → TextEnd s start (length s) end
       → judgedPaper (J.Fine end (length s)) ≡ judgementOf k start (lineOf (drop start s))
-  unfolding judgedPaper judgement isEmpty
-  cut-fine e t n z = rw (cut-judged, ← e, t, here s start (omega arith), input-end s z)
+  unfolding judgedPaper judgement
+  cut-fine e t n z = rw (cut-judged, ← e, t, some-empty (drop start s) (simp length-drop (omega arith)), input-end s z)
 
 -- ---- the last column, ended by an LF
 
 -- the text without one CR at its end
 stripped : List ℕ → List ℕ
-stripped c = pick (endsInReturn c) (dropLast c) c
+stripped c = pick (endsIn 13 c) (dropLast c) c
 
 length-last : (c : List ℕ) → length (dropLast c) ≡ length c - 1
 length-last [] = refl
@@ -178,16 +180,11 @@ free-last [] f = f
 free-last (a ∷ []) f = free-nil
 free-last (a ∷ b ∷ c) f = free-cons (free-head f) (free-last (b ∷ c) (free-tail f))
 
-ends-some : (c : List ℕ) → endsInReturn c ≡ true → 0 < length c
-unfolding endsInReturn
-ends-some [] e = let z : _≡_ {A = ℕ} 0 1 = cc in absurd (omega arith)
-ends-some (a ∷ c) e = omega arith
-
-strip-bare : (c : List ℕ) → endsInReturn c ≡ false → length (stripped c) ≡ length c
+strip-bare : (c : List ℕ) → endsIn 13 c ≡ false → length (stripped c) ≡ length c
 unfolding stripped
 strip-bare c e = rw e
 
-strip-return : (c : List ℕ) → endsInReturn c ≡ true → length (stripped c) ≡ length c - 1
+strip-return : (c : List ℕ) → endsIn 13 c ≡ true → length (stripped c) ≡ length c - 1
 unfolding stripped
 strip-return c e = rw e (length-last c)
 
@@ -196,14 +193,14 @@ fed-judged : (k start : ℕ) (c rest : List ℕ) → Free 9 c
     → judgementOf k start (fed c rest)
     ≡ judgement (pick (required k) (refused 3 (start + length c + 1)) (pick (isEmpty (stripped c)) (refused 2 (start + length c + 1)) fine)) (start + length (stripped c)) (start + length c + 1)
 unfolding judgementOf fed verdict lastVerdict endingBytes stripped
-fed-judged k start c rest f = by (endsInReturn c) refl
+fed-judged k start c rest f = by (endsIn 13 c) refl
   where
-    by : (t : Bool) → endsInReturn c ≡ t
+    by : (t : Bool) → endsIn 13 c ≡ t
         → judgementOf k start (pick t (line (dropLast c) return-feed rest) (line c feed rest))
         ≡ judgement (pick (required k) (refused 3 (start + length c + 1)) (pick (isEmpty (pick t (dropLast c) c)) (refused 2 (start + length c + 1)) fine)) (start + length (pick t (dropLast c) c)) (start + length c + 1)
     by true e =
         let l = length-last c in
-        let m = ends-some c e in
+        let m = ends-some 13 c e in
         let p : start + length (dropLast c) + 2 ≡ start + length c + 1 = omega arith in
         rw (split-whole (dropLast c) (free-last c f), p)
     by false e = rw (split-whole c f)
@@ -222,14 +219,14 @@ module _ (s : List ℕ) (k start feed : ℕ) (g : Stopped s start feed 10) where
       ∙ rw n
 
   -- the byte before the LF decides
-  column-ends : start < feed → endsInReturn column ≡ eqb (getD s (feed - 1) 0) 13
+  column-ends : start < feed → endsIn 13 column ≡ eqb (getD s (feed - 1) 0) 13
   unfolding column
   column-ends h =
       let l = part-length s g in
       let i : length column - 1 ≡ feed - 1 - start = omega arith in
       let n : feed - 1 - start < feed - start = omega arith in
       let m : start + (feed - 1 - start) ≡ feed - 1 = omega arith in
-      return-at column (omega arith)
+      ends-at 13 column (omega arith)
       ∙ ap (λ (k : ℕ). eqb (getD column k 0) 13) i
       ∙ ap (λ (x : ℕ). eqb x 13) (getD-take (feed - start) (drop start s) (feed - 1 - start) 0 n ∙ getD-drop start s (feed - 1 - start) 0 ∙ ap (λ (i : ℕ). getD s i 0) m)
 
@@ -237,7 +234,7 @@ module _ (s : List ℕ) (k start feed : ℕ) (g : Stopped s start feed 10) where
   end-length : {end : ℕ} → TextEnd s start feed end → length (stripped column) ≡ end - start
   unfolding column
   end-length (input e) = absurd (let w = g .within in omega arith)
-  end-length (none e) = let l = part-length s g in strip-bare column (return-none column (omega arith)) ∙ l
+  end-length (none e) = let l = part-length s g in strip-bare column (ends-none 13 column (omega arith)) ∙ l
   end-length (bare h n) = let l = part-length s g in strip-bare column (column-ends h ∙ ne-eqb _ _ n) ∙ l
   end-length (return h w e) = let l = part-length s g in let m = strip-return column (column-ends h ∙ eq-eqb _ _ e) in omega arith
 

@@ -12,13 +12,14 @@ use Rattle.text.specs.Pick.{pick}
 use Rattle.text.specs.Answer.{says}
 use Rattle.text.specs.Range.{cut}
 use Rattle.text.specs.declared.range.Range.{Range}
+use Rattle.text.specs.Same.{same}
 use Rattle.text.proofs.Lists.{cut-is}
+use Rattle.text.proofs.SameLaws.{same-is, same-other}
 use Rattle.pieces.specs.Pieces.{split, pieces, joined}
 use Rattle.pieces.specs.Demands.{Free}
 use Rattle.pieces.proofs.PieceLaws.{split-joined, split-free, split-back, joined-none, joined-one, joined-more, pieces-none, pieces-some}
 use Rattle.line.specs.Line.{Ending, endingBytes, Line, line, lineOf, columnPlaces, leadingPlaces, fieldPlaces, lineAnswer, readAnswer}
 use Rattle.line.specs.Fields.{rangeOf, fieldAnswer}
-use Rattle.line.specs.Pos.{isByte}
 use Rattle.line.specs.Paper.{recordPlaces, fieldPaper}
 use Rattle.line.specs.Demands.{fieldOf, Refuses, CutsOut}
 use Rattle.line.specs.declared.read.Record.{Record}
@@ -27,7 +28,6 @@ use Rattle.line.specs.declared.fields.Text.{Text}
 use Rattle.line.specs.declared.fields.Text.the-variants as F
 use Rattle.line.proofs.ColumnLaws.{line-whole}
 use Rattle.line.proofs.LineLaws.{read-line}
-use Rattle.line.proofs.PosLaws.{byte-is}
 use Rattle.line.proofs.FieldLaws.{fits-within, info, dot-empty, field-stands}
 use Rattle.line.proofs.Exact.{Good, good-read, read-good}
 use Rattle.line.proofs.One.{column-leading, column-length, zero-within, cuts-out}
@@ -212,14 +212,14 @@ module _ {s : List ℕ} {at : ℕ} {r : Record} (g : Recorded s at r) where
 
 -- the column, or the empty text where it is a `.`
 abbrev pub InfoTells : List ℕ → List ℕ → Text → Type 0
-InfoTells s c (F.At x) = Lies s x (pick (isByte 46 c) [] c)
+InfoTells s c (F.At x) = Lies s x (pick (same c (46 ∷ [])) [] c)
 InfoTells s c F.Absent = ⊥
 InfoTells s c F.Beyond = ⊥
 
 pub info-tells : {s : List ℕ} {at : ℕ} {r : Record} (g : Recorded s at r) (x : Text) → fieldPaper x ≡ fieldAnswer s r N.Info
     → InfoTells s (getD (split 9 (g .text)) 7 []) x
-unfolding fieldPaper isByte
-info-tells {s} {at} {r} g x e = by (isByte 46 c) refl
+unfolding fieldPaper
+info-tells {s} {at} {r} g x e = by (same c (46 ∷ [])) refl
   where
     c : List ℕ
     c = getD (split 9 (g .text)) 7 []
@@ -227,16 +227,16 @@ info-tells {s} {at} {r} g x e = by (isByte 46 c) refl
     i : Lies s (rangeOf r N.Info) c
     i = info-lies g
 
-    is : (y : Range) → fieldAnswer s r N.Info ≡ says 0 (y .start ∷ y .len ∷ []) → Lies s y (pick (isByte 46 c) [] c) → InfoTells s c x
+    is : (y : Range) → fieldAnswer s r N.Info ≡ says 0 (y .start ∷ y .len ∷ []) → Lies s y (pick (same c (46 ∷ [])) [] c) → InfoTells s c x
     is y f l = rw (field-paper-injective x (F.At y) (e ∙ f)) l
 
-    by : (t : Bool) → isByte 46 c ≡ t → InfoTells s c x
+    by : (t : Bool) → same c (46 ∷ []) ≡ t → InfoTells s c x
     by true t =
         let h = i .fits in
         is (record { start = rangeOf r N.Info .start + rangeOf r N.Info .len; len = 0 })
-        (dot-empty s r info (fits-within s (rangeOf r N.Info) h) (i .text ∙ byte-is 46 c t))
+        (dot-empty s r info (fits-within s (rangeOf r N.Info) h) (i .text ∙ same-is c (46 ∷ []) t))
         (rw t (record { fits = omega arith; text = cut-is (rangeOf r N.Info .start + rangeOf r N.Info .len) 0 s }))
     by false t =
         is (rangeOf r N.Info)
-        (field-stands s r N.Info (fits-within s (rangeOf r N.Info) (i .fits)) (λ d. true≢false (sym (ap (isByte 46) (sym (i .text) ∙ d)) ∙ t)))
+        (field-stands s r N.Info (fits-within s (rangeOf r N.Info) (i .fits)) (λ d. same-other c (46 ∷ []) t (sym (i .text) ∙ d)))
         (rw t i)

@@ -8,10 +8,11 @@ use native.Mathlib.Omega.{arith}
 use lib.ListN.{length, take, drop, length-append, length-drop}
 use lib.Seq.{take-at, append-snoc}
 use Rattle.text.specs.Answer.{Answer, says, numberOf, valuesOf}
+use Rattle.text.specs.Bytes.{endsIn}
+use Rattle.text.proofs.ByteLaws.{ends-is}
 use Rattle.pieces.specs.Demands.{Free}
-use Rattle.line.specs.Line.{Ending, nothing, feed, return-feed, endingBytes, line, endsInReturn, fed}
+use Rattle.line.specs.Line.{Ending, nothing, feed, return-feed, endingBytes, line, fed}
 use Rattle.line.specs.Demands.{moved, Window, through-feed}
-use Rattle.line.proofs.ColumnLaws.{return-is}
 use Rattle.line.proofs.MovesOn.{first-fed}
 
 -- ---- the line before an LF
@@ -26,15 +27,15 @@ pub record FedLine (t : List ℕ) : Type 0 where
 
 pub fed-line : (t : List ℕ) → FedLine t
 unfolding fed endingBytes
-fed-line t = by (endsInReturn t) refl
+fed-line t = by (endsIn 13 t) refl
   where
-    by : (c : Bool) → endsInReturn t ≡ c → FedLine t
+    by : (c : Bool) → endsIn 13 t ≡ c → FedLine t
     by true e =
         record {
           text = dropLast t;
           ending = return-feed;
           is = λ rest. rw e;
-          long = let l = simp length-append at (ap length (return-is t e)) in omega arith;
+          long = let l = simp length-append at (ap length (ends-is 13 t e)) in omega arith;
           some = λ z. (let q : _≡_ {A = ℕ} 0 1 = cc in omega arith);
         }
     by false e =

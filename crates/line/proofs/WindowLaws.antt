@@ -6,6 +6,8 @@ use mathlib.Core.List.{List, [], _∷_, _++_, dropLast}
 use native.Mathlib.Omega.{arith}
 use lib.ListN.{length}
 use Rattle.text.specs.Pick.{pick}
+use Rattle.text.specs.Bytes.{endsIn}
+use Rattle.text.proofs.ByteLaws.{none-empty, some-empty}
 use Rattle.pieces.specs.Pieces.{split}
 use Rattle.line.specs.Line.{
   Ending,
@@ -16,11 +18,9 @@ use Rattle.line.specs.Line.{
   Line,
   line,
   fed,
-  endsInReturn,
   Verdict,
   fine,
   refused,
-  isEmpty,
   lastVerdict,
   verdict,
   columnPlaces,
@@ -72,11 +72,11 @@ module _ (d : ℕ) where
   last-moved k c return-feed past = simp (pick-ap movedVerdict)
 
   verdict-moved : (k from : ℕ) (cs : List (List ℕ)) (e : Ending) (past : ℕ) → verdict k (from + d) cs e (past + d) ≡ movedVerdict (verdict k from cs e past)
-  unfolding verdict isEmpty
+  unfolding verdict
   verdict-moved k from [] e past = refl
   verdict-moved k from (c ∷ []) e past = last-moved k c e past
-  verdict-moved k from ([] ∷ b ∷ cs) e past = ap (refused 2) (omega arith)
-  verdict-moved k from ((a ∷ c) ∷ b ∷ cs) e past = rw (next-start from (length (a ∷ c)), verdict-moved (k + 1) (from + length (a ∷ c) + 1) (b ∷ cs) e past)
+  verdict-moved k from ([] ∷ b ∷ cs) e past = rw (none-empty [] refl) (ap (refused 2) (omega arith))
+  verdict-moved k from ((a ∷ c) ∷ b ∷ cs) e past = rw (some-empty (a ∷ c) (omega arith), next-start from (length (a ∷ c)), verdict-moved (k + 1) (from + length (a ∷ c) + 1) (b ∷ cs) e past)
 
   -- ---- the answer
 
@@ -100,7 +100,7 @@ module _ (d : ℕ) where
 -- what follows the LF changes nothing
 pub fed-same : (from : ℕ) (t x y : List ℕ) → lineAnswer from (fed t x) ≡ lineAnswer from (fed t y)
 unfolding fed lineAnswer
-fed-same from t x y = by (endsInReturn t)
+fed-same from t x y = by (endsIn 13 t)
   where
     by : (c : Bool) → lineAnswer from (pick c (line (dropLast t) return-feed x) (line t feed x)) ≡ lineAnswer from (pick c (line (dropLast t) return-feed y) (line t feed y))
     by true = refl

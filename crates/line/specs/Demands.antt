@@ -6,10 +6,11 @@ use mathlib.Core.Logic.{_⊎_, _↔_}
 use mathlib.Core.List.{List, [], _∷_, _++_}
 use lib.ListN.{length, getD, take, drop}
 use Rattle.text.specs.Answer.{Answer, says, numberOf, valuesOf}
+use Rattle.text.specs.Bytes.{endsIn}
 use Rattle.text.specs.Utf8.{isUtf8}
 use Rattle.pieces.specs.Pieces.{joined}
 use Rattle.pieces.specs.Demands.{Free}
-use Rattle.line.specs.Line.{Ending, nothing, feed, return-feed, endingBytes, endsInReturn}
+use Rattle.line.specs.Line.{Ending, nothing, feed, return-feed, endingBytes}
 
 -- not empty, UTF-8, free of tab and LF
 pub record Column (c : List ℕ) : Type 0 where
@@ -21,7 +22,7 @@ pub record Column (c : List ℕ) : Type 0 where
 -- the ending after the columns' text and before a rest: CR LF; or LF where the text doesn't end in CR; or nothing where nothing is left
 pub data Ended (t : List ℕ) : Ending → List ℕ → Type 0 where
   by-nothing : Ended t nothing []
-  by-feed : {rest : List ℕ} → endsInReturn t ≡ false → Ended t feed rest
+  by-feed : {rest : List ℕ} → endsIn 13 t ≡ false → Ended t feed rest
   by-return-feed : {rest : List ℕ} → Ended t return-feed rest
 
 -- the columns, eight or at least ten, joined by tabs, then the ending, then the rest, are the input

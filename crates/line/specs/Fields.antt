@@ -6,9 +6,9 @@ use lib.ListN.{length}
 use lib.Dec.{leb}
 use Rattle.text.specs.Pick.{pick}
 use Rattle.text.specs.Answer.{Answer, says}
+use Rattle.text.specs.Same.{same}
 use Rattle.text.specs.Range.{cut}
 use Rattle.text.specs.declared.range.Range.{Range}
-use Rattle.line.specs.Pos.{isByte}
 use Rattle.line.specs.declared.read.Record.{Record}
 use Rattle.line.specs.declared.fields.Name.{Name}
 use Rattle.line.specs.declared.fields.Name.the-variants as N
@@ -48,7 +48,7 @@ dotAnswer N.Samples r = says 0 (r .start ∷ r .len ∷ [])
 
 -- a range's text that is a `.` reads as its field says; any other stands as it is
 unfoldable pub textAnswer : List ℕ → Name → Range → Answer
-textAnswer s n r = pick (fitsIn r s && isByte 46 (cut r s)) (dotAnswer n r) (placeAnswer s r)
+textAnswer s n r = pick (fitsIn r s && same (cut r s) (46 ∷ [])) (dotAnswer n r) (placeAnswer s r)
 
 unfoldable pub fieldAnswer : List ℕ → Record → Name → Answer
 fieldAnswer s r n = textAnswer s n (rangeOf r n)

@@ -1,12 +1,13 @@
 -- A line and its columns (docs/RULES.md, "A line"): cut the line, split it at tabs, judge the columns from the left.
 -- Assumes nothing.
 use Prim.Native.Nat.{ℕ, zero, suc, _+_}
-use mathlib.Core.Bool.{Bool, true, false, _&&_, _||_}
+use mathlib.Core.Bool.{Bool, true, _&&_, _||_}
 use mathlib.Core.List.{List, [], _∷_, _++_, dropLast}
 use lib.ListN.{length, drop}
 use lib.Dec.{leb, ltb, eqb}
 use Rattle.text.specs.Pick.{pick}
 use Rattle.text.specs.Answer.{Answer, says}
+use Rattle.text.specs.Bytes.{isEmpty, endsIn}
 use Rattle.text.specs.Utf8.{isUtf8}
 use Rattle.pieces.specs.Pieces.{split, joined}
 
@@ -27,14 +28,9 @@ endingBytes return-feed = 13 ∷ 10 ∷ []
 pub data Line : Type 0 where
   line : List ℕ → Ending → List ℕ → Line
 
-unfoldable pub endsInReturn : List ℕ → Bool
-endsInReturn [] = false
-endsInReturn (b ∷ []) = eqb b 13
-endsInReturn (b ∷ c ∷ s) = endsInReturn (c ∷ s)
-
 -- before an LF one CR belongs to the ending
 unfoldable pub fed : List ℕ → List ℕ → Line
-fed t rest = pick (endsInReturn t) (line (dropLast t) return-feed rest) (line t feed rest)
+fed t rest = pick (endsIn 13 t) (line (dropLast t) return-feed rest) (line t feed rest)
 
 -- the input cut at its first LF
 unfoldable pub lineIn : List (List ℕ) → Line
@@ -55,10 +51,6 @@ pub data Verdict : Type 0 where
 -- columns 1 to 7, and FORMAT, must be ended by a tab
 unfoldable pub required : ℕ → Bool
 required k = leb k 7 || eqb k 9
-
-unfoldable pub isEmpty : List ℕ → Bool
-isEmpty [] = true
-isEmpty (b ∷ s) = false
 
 -- the last column: k is its number, counted from 1, and past the place past the line
 unfoldable pub lastVerdict : ℕ → List ℕ → Ending → ℕ → Verdict

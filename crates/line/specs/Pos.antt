@@ -1,18 +1,11 @@
 -- POS: `0` is none, else a decimal worth 1 or more (docs/RULES.md, "A line"). Assumes nothing.
 use Prim.Native.Nat.{ℕ, zero, suc}
-use mathlib.Core.Bool.{Bool, false}
 use mathlib.Core.List.{List, [], _∷_}
 use mathlib.Core.Option.{Option, some, none}
-use lib.Dec.{eqb}
 use Rattle.text.specs.Pick.{pick}
 use Rattle.text.specs.Answer.{Answer, says}
+use Rattle.text.specs.Same.{same}
 use Rattle.decimal.specs.Decimal.{valueOf}
-
--- the one byte b and no more
-unfoldable pub isByte : ℕ → List ℕ → Bool
-isByte b [] = false
-isByte b (a ∷ []) = eqb a b
-isByte b (a ∷ c ∷ s) = false
 
 -- a decimal's value, 1 or more
 unfoldable pub positive : Option ℕ → Answer
@@ -22,4 +15,4 @@ positive (some (suc n)) = says 0 (suc n ∷ [])
 
 -- 0 alone for none, 0 and the position, or 21
 unfoldable pub posAnswer : List ℕ → Answer
-posAnswer t = pick (isByte 48 t) (says 0 []) (positive (valueOf t))
+posAnswer t = pick (same t (48 ∷ [])) (says 0 []) (positive (valueOf t))

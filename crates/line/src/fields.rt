@@ -4,9 +4,10 @@ use text::range::Range;
 ghost use mathlib.Core.Path.{_≡_};
 ghost use Prim.Native.Nat.{_+_, _<_, _^_};
 ghost use mathlib.Core.Bool.{_&&_};
+ghost use mathlib.Core.List.{[], _∷_};
+ghost use Rattle.text.specs.Same.{same};
 ghost use Rattle.text.specs.Range.{cut};
 ghost use Rattle.line.specs.Fields.{placeAnswer, fieldAnswer, rangeOf, dotAnswer, fitsIn};
-ghost use Rattle.line.specs.Pos.{isByte};
 ghost use Rattle.line.specs.Paper.{fieldPaper};
 
 // The ten fields of a line.
@@ -68,7 +69,7 @@ pub fn place_in(s: &[u8], range: Range) -> Text
 
 // Whether a place fits the buffer and holds one `.`.
 fn is_dot(s: &[u8], range: Range) -> bool
-    ensures { λ r. ⌜ r ≡ (fitsIn range (now (s .entry)) && isByte 46 (cut range (now (s .entry)))) ⌝ }
+    ensures { λ r. ⌜ r ≡ (fitsIn range (now (s .entry)) && same (cut range (now (s .entry))) (46 ∷ [])) ⌝ }
 {
     let start = range.start;
     let len = range.len;

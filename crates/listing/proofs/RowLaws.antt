@@ -2,9 +2,10 @@
 use Prim.Native.Nat.{ℕ, _+_, _-_, _≤_}
 use mathlib.Core.Path.{_≡_, sym, ap, _∙_}
 use mathlib.Core.Logic.{⊎-elim}
-use mathlib.Core.List.{List, []}
+use mathlib.Core.List.{List, [], _∷_}
 use native.Mathlib.Omega.{arith}
 use lib.ListN.{length, getD, take, drop, length-drop}
+use Rattle.text.specs.Same.{same}
 use Rattle.text.specs.Pick.{pick}
 use Rattle.text.specs.Answer.{says, numberOf}
 use Rattle.text.specs.Range.{cut}
@@ -13,7 +14,6 @@ use Rattle.text.proofs.Lists.{cut-is}
 use Rattle.pieces.specs.Pieces.{split}
 use Rattle.line.specs.Line.{lineOf, readAnswer}
 use Rattle.line.specs.Fields.{rangeOf, fieldAnswer}
-use Rattle.line.specs.Pos.{isByte}
 use Rattle.line.specs.Paper.{readPaper, fieldPaper}
 use Rattle.line.specs.declared.read.Record.{Record}
 use Rattle.line.specs.declared.read.Read.{Read}
@@ -47,7 +47,7 @@ module _ {w : List ℕ} {at next : ℕ} {r : Record} (h : ReadAt w at next r) wh
   -- ---- INFO
 
   module _ {x : Text} (e : fieldPaper x ≡ fieldAnswer w r N.Info) where
-    info-is : (g : Recorded w at r) {range : Range} → x ≡ F.At range → Lies w range (pick (isByte 46 (getD (split 9 (g .text)) 7 [])) [] (getD (split 9 (g .text)) 7 []))
+    info-is : (g : Recorded w at r) {range : Range} → x ≡ F.At range → Lies w range (pick (same (getD (split 9 (g .text)) 7 []) (46 ∷ [])) [] (getD (split 9 (g .text)) 7 []))
     info-is g {range} q = info-tells g (F.At range) (rw q at e)
 
     pub info-fits : {range : Range} → x ≡ F.At range → range .start + range .len ≤ length w

@@ -1,57 +1,38 @@
 -- The judges of one entry: each way through the code is the definition at its tests. Assumes nothing.
-use Prim.Native.Nat.{ℕ, suc, _+_, _-_, _<_, _≤_}
+use Prim.Native.Nat.{ℕ, suc, _-_, _<_, _≤_}
 use mathlib.Core.Path.{_≡_, refl, sym, ap, _∙_}
-use mathlib.Core.Bool.{Bool, true, false, and-false}
+use mathlib.Core.Bool.{Bool, true, false, not, and-false}
 use mathlib.Core.List.{List, [], _∷_}
 use native.Mathlib.Omega.{arith}
-use lib.ListN.{length, getD, take, drop, drop-of-length-le}
+use lib.ListN.{length, getD, take, drop}
 use lib.Dec.{eqb}
 use borrow.Author.Tests.{eq-eqb, ne-eqb}
 use Rattle.text.specs.Same.{same}
+use Rattle.text.specs.Bytes.{isEmpty}
 use Rattle.text.specs.Space.{spaceAnswer}
 use Rattle.text.specs.Paper.{spacePaper}
 use Rattle.text.specs.declared.space.Space.{Space}
 use Rattle.text.specs.declared.space.Space.the-variants as S
-use Rattle.text.proofs.Lists.{here}
-use Rattle.text.proofs.SameLaws.{same-self, same-not}
+use Rattle.text.proofs.ByteLaws.{none-empty, some-empty, last-take, ends-none, ends-at}
 use Rattle.text.proofs.FoundLaws.{found-broken, found-held, found-free}
 use Rattle.pieces.specs.Pieces.{countOf}
-use Rattle.lists.specs.Judge.{lacks, isSome, filterFine, insideFine, endsIn, symbolFine, altFine, fine, charsAnswer, entryAnswer}
+use Rattle.pieces.proofs.CountLaws.{lacks-is, lacks-yes, lacks-no}
+use Rattle.lists.specs.Judge.{filterFine, insideFine, symbolFine, altFine, fine, charsAnswer, entryAnswer}
 use Rattle.lists.specs.Paper.{verdictPaper}
 use Rattle.lists.specs.declared.write.Kind.{Kind}
 use Rattle.lists.specs.declared.write.Kind.the-variants as K
 use Rattle.lists.specs.declared.write.Verdict.the-variants as J
-
--- ---- single tests
-
-pub some-yes : (t : List ℕ) → (length t ≡ 0 → ⊥) → isSome t ≡ true
-unfolding isSome
-some-yes t n = rw (ne-eqb _ _ n)
-
-some-no : (t : List ℕ) → length t ≡ 0 → isSome t ≡ false
-unfolding isSome
-some-no t e = rw (eq-eqb _ _ e)
-
-lacks-is : (b : ℕ) (t : List ℕ) {n : ℕ} → n ≡ countOf b t → lacks b t ≡ eqb n 0
-unfolding lacks
-lacks-is b t e = rw e
-
-lacks-yes : (b : ℕ) (t : List ℕ) {n : ℕ} → n ≡ countOf b t → n ≤ 0 → lacks b t ≡ true
-lacks-yes b t {n} e h = lacks-is b t e ∙ eq-eqb n 0 (omega arith)
-
-lacks-no : (b : ℕ) (t : List ℕ) {n : ℕ} → n ≡ countOf b t → 0 < n → lacks b t ≡ false
-lacks-no b t {n} e h = lacks-is b t e ∙ ne-eqb n 0 (λ z. omega arith)
 
 -- ---- filters
 
 module _ (t : List ℕ) where
   pub filter-empty : length t ≡ 0 → false ≡ filterFine t
   unfolding filterFine
-  filter-empty e = rw (some-no t e)
+  filter-empty e = rw (none-empty t e)
 
   pub filter-dot : {d : Bool} → d ≡ same t (46 ∷ []) → d ≡ true → false ≡ filterFine t
   unfolding filterFine
-  filter-dot e f = rw (← e, f) (sym (and-false (isSome t)))
+  filter-dot e f = rw (← e, f) (sym (and-false (not (isEmpty t))))
 
   pub filter-zero : {d : Bool} → d ≡ same t (48 ∷ []) → d ≡ true → false ≡ filterFine t
   unfolding filterFine
@@ -60,42 +41,26 @@ module _ (t : List ℕ) where
   pub filter-rest : {d z : Bool} {n : ℕ} → (length t ≡ 0 → ⊥) → d ≡ same t (46 ∷ []) → d ≡ false → z ≡ same t (48 ∷ []) → z ≡ false → n ≡ countOf 59 t
       → eqb n 0 ≡ filterFine t
   unfolding filterFine
-  filter-rest s e f g h k = rw (some-yes t s, ← e, f, ← g, h) (sym (lacks-is 59 t k))
+  filter-rest s e f g h k = rw (some-empty t (omega arith), ← e, f, ← g, h) (sym (lacks-is 59 t k))
   -- ---- the inside of a symbol
 
 module _ (t : List ℕ) where
   pub inside-empty : length t ≡ 0 → false ≡ insideFine t
   unfolding insideFine
-  inside-empty e = rw (some-no t e)
+  inside-empty e = rw (none-empty t e)
 
   pub inside-open : {n : ℕ} → n ≡ countOf 60 t → 0 < n → false ≡ insideFine t
   unfolding insideFine
-  inside-open e h = rw (lacks-no 60 t e h) (sym (and-false (isSome t)))
+  inside-open e h = rw (lacks-no 60 t e h) (sym (and-false (not (isEmpty t))))
 
   pub inside-rest : {n m : ℕ} → (length t ≡ 0 → ⊥) → n ≡ countOf 60 t → n ≤ 0 → m ≡ countOf 62 t → eqb m 0 ≡ insideFine t
   unfolding insideFine
-  inside-rest s e h f = rw (some-yes t s, lacks-yes 60 t e h) (sym (lacks-is 62 t f))
+  inside-rest s e h f = rw (some-empty t (omega arith), lacks-yes 60 t e h) (sym (lacks-is 62 t f))
 
 -- ---- symbols
 
--- the last byte of a text that is not empty
-last-is : (t : List ℕ) → 0 < length t → drop (length t - 1) t ≡ getD t (length t - 1) 0 ∷ []
-last-is t h = here t (length t - 1) (omega arith) ∙ rw (drop-of-length-le t {i = length t - 1 + 1} (omega arith))
-
 last-tail : (b : ℕ) (t : List ℕ) → 0 < length t → getD (b ∷ t) (length (b ∷ t) - 1) 0 ≡ getD t (length t - 1) 0
 last-tail b t h = let n : suc (length t) - 1 ≡ suc (length t - 1) = omega arith in ap (λ (k : ℕ). getD (b ∷ t) k 0) n
-
-ends-none : (b : ℕ) → endsIn b [] ≡ false
-unfolding endsIn
-ends-none b = same-not [] (b ∷ []) (λ e. let z = ap length e in omega arith)
-
-ends-yes : (t : List ℕ) {b : ℕ} → 0 < length t → getD t (length t - 1) 0 ≡ b → endsIn b t ≡ true
-unfolding endsIn
-ends-yes t {b} h e = rw (last-is t h, e) (same-self (b ∷ []))
-
-ends-no : (t : List ℕ) {b : ℕ} → 0 < length t → (getD t (length t - 1) 0 ≡ b → ⊥) → endsIn b t ≡ false
-unfolding endsIn
-ends-no t {b} h n = rw (last-is t h) (same-not _ (b ∷ []) (λ e. n (cc)))
 
 pub symbol-none : (t : List ℕ) → length t ≡ 0 → true ≡ symbolFine t
 unfolding symbolFine
@@ -111,9 +76,9 @@ symbol-plain (b ∷ t) n = rw (ne-eqb b 60 n)
 pub symbol-open : (t : List ℕ) → (getD t (length t - 1) 0 ≡ 62 → ⊥) → true ≡ symbolFine t
 unfolding symbolFine
 symbol-open [] n = refl
-symbol-open (b ∷ []) n = rw (ends-none 62, and-false)
+symbol-open (b ∷ []) n = rw (ends-none 62 [] refl, and-false)
 symbol-open (b ∷ c ∷ t) n =
-    rw (ends-no (c ∷ t) (omega arith) (λ e. n (last-tail b (c ∷ t) (omega arith) ∙ e)), and-false)
+    rw (ends-at 62 (c ∷ t) (omega arith), ne-eqb _ 62 (λ e. n (last-tail b (c ∷ t) (omega arith) ∙ e)), and-false)
 
 -- the byte that begins it is not the one that ends it
 pub symbol-two : (t : List ℕ) → getD t 0 0 ≡ 60 → getD t (length t - 1) 0 ≡ 62 → 1 ≤ length t - 1
@@ -129,22 +94,22 @@ symbol-inside (b ∷ t) o e f =
     let m = symbol-two (b ∷ t) o e in
     let k : 0 < length t = omega arith in
     let n : suc (length t) - 1 - 1 ≡ length t - 1 = omega arith in
-    rw (eq-eqb b 60 o, ends-yes t k (sym (last-tail b t k) ∙ e)) (f ∙ ap (λ (m : ℕ). insideFine (take m t)) n)
+    rw (eq-eqb b 60 o, ends-at 62 t k, eq-eqb _ 62 (sym (last-tail b t k) ∙ e)) (f ∙ ap insideFine (ap (λ (m : ℕ). take m t) n ∙ sym (last-take t)))
 
 -- ---- ALT entries
 
 module _ (t : List ℕ) where
   pub alt-empty : length t ≡ 0 → false ≡ altFine t
   unfolding altFine
-  alt-empty e = rw (some-no t e)
+  alt-empty e = rw (none-empty t e)
 
   pub alt-comma : {n : ℕ} → n ≡ countOf 44 t → 0 < n → false ≡ altFine t
   unfolding altFine
-  alt-comma e h = rw (lacks-no 44 t e h) (sym (and-false (isSome t)))
+  alt-comma e h = rw (lacks-no 44 t e h) (sym (and-false (not (isEmpty t))))
 
   pub alt-symbol : {n : ℕ} {r : Bool} → (length t ≡ 0 → ⊥) → n ≡ countOf 44 t → n ≤ 0 → r ≡ symbolFine t → r ≡ altFine t
   unfolding altFine
-  alt-symbol s e h f = rw (some-yes t s, lacks-yes 44 t e h) f
+  alt-symbol s e h f = rw (some-empty t (omega arith), lacks-yes 44 t e h) f
 
 -- ---- the verdict
 

@@ -8,10 +8,10 @@ use native.Mathlib.Decide.{ℕ-discrete}
 use native.Mathlib.Nat.{zero-add}
 use lib.ListN.{length, getD, drop, drop-of-length-le}
 use lib.Dec.{eqb}
-use borrow.Author.Tests.{eq-eqb, ne-eqb}
+use borrow.Author.Tests.{eq-eqb, ne-eqb, eqb-true}
 use Rattle.text.specs.Pick.{pick}
 use Rattle.text.proofs.Lists.{here}
-use Rattle.pieces.specs.Pieces.{oneIf, countOf, pieces}
+use Rattle.pieces.specs.Pieces.{oneIf, countOf, lacks, pieces}
 use Rattle.pieces.specs.Demands.{Free}
 use Rattle.pieces.proofs.PieceLaws.{free-nil, free-cons, free-head, free-tail, split-count, pieces-none, pieces-some}
 
@@ -56,6 +56,41 @@ none-free {b} (a ∷ s) e = by (ℕ-discrete a b) (none-free s)
     by : Dec (a ≡ b) → (countOf b s ≡ 0 → Free b s) → Free b (a ∷ s)
     by (yes q) rest = absurd (omega (arith, count-here b s q))
     by (no n) rest = free-cons n (rest (sym (count-other b s n) ∙ e))
+
+-- ---- a text that lacks a byte
+
+pub lacks-is : (b : ℕ) (s : List ℕ) {n : ℕ} → n ≡ countOf b s → lacks b s ≡ eqb n 0
+unfolding lacks
+lacks-is b s e = rw e
+
+pub lacks-yes : (b : ℕ) (s : List ℕ) {n : ℕ} → n ≡ countOf b s → n ≤ 0 → lacks b s ≡ true
+lacks-yes b s {n} e h = lacks-is b s e ∙ eq-eqb n 0 (omega arith)
+
+pub lacks-no : (b : ℕ) (s : List ℕ) {n : ℕ} → n ≡ countOf b s → 0 < n → lacks b s ≡ false
+lacks-no b s {n} e h = lacks-is b s e ∙ ne-eqb n 0 (λ z. omega arith)
+
+-- byte by byte
+pub lacks-none : (b : ℕ) → lacks b [] ≡ true
+unfolding lacks
+lacks-none b = rw count-none
+
+pub lacks-here : (b : ℕ) (s : List ℕ) {a : ℕ} → a ≡ b → lacks b (a ∷ s) ≡ false
+lacks-here b s e = lacks-no b _ (sym (count-here b s e)) (omega arith)
+
+pub lacks-other : (b : ℕ) (s : List ℕ) {a : ℕ} → (a ≡ b → ⊥) → lacks b (a ∷ s) ≡ lacks b s
+unfolding lacks
+lacks-other b s h = rw (count-other b s h)
+
+-- exactly where it is free of the byte
+pub lacks-free : {b : ℕ} (s : List ℕ) → lacks b s ≡ true → Free b s
+unfolding lacks
+lacks-free {b} s e = none-free s (eqb-true (countOf b s) 0 e)
+
+pub free-lacks : {b : ℕ} (s : List ℕ) → Free b s → lacks b s ≡ true
+unfolding lacks
+free-lacks s f = rw (free-none s f)
+
+-- ---- the loop
 
 -- n of the first i bytes are b
 pub record Counting (b : ℕ) (s : List ℕ) (n i : ℕ) : Type 0 where

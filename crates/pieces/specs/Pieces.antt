@@ -1,5 +1,6 @@
 -- The pieces of a text between separators (docs/RULES.md, "Pieces"). Assumes nothing.
 use Prim.Native.Nat.{ℕ, _+_}
+use mathlib.Core.Bool.{Bool}
 use mathlib.Core.List.{List, [], _∷_, _++_}
 use lib.ListN.{length, drop}
 use lib.Dec.{leb, eqb}
@@ -42,6 +43,10 @@ unfoldable pub countOf : ℕ → List ℕ → ℕ
 unfolding oneIf
 countOf b [] = 0
 countOf b (a ∷ s) = oneIf a b + countOf b s
+
+-- the byte stands nowhere in the text
+unfoldable pub lacks : ℕ → List ℕ → Bool
+lacks b s = eqb (countOf b s) 0
 
 -- ---- one step
 

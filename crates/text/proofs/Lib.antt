@@ -4,6 +4,7 @@ pub mod WrittenLaws
 pub mod Utf8Laws
 pub mod CharLaws
 pub mod SameLaws
+pub mod ByteLaws
 pub mod SpaceLaws
 pub mod FoundLaws
 pub mod Demands

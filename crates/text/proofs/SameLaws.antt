@@ -1,7 +1,7 @@
 -- Two texts are the same bytes exactly when they are equal; the loop compares what is left of both. Assumes nothing.
 use Prim.Native.Nat.{ℕ, _+_, _<_, _≤_}
 use mathlib.Core.Path.{_≡_, refl, sym, _∙_, ap}
-use mathlib.Core.Bool.{Bool, true, false, false≢true}
+use mathlib.Core.Bool.{Bool, true, false, and-true, false≢true}
 use mathlib.Core.List.{List, [], _∷_}
 use native.Mathlib.Omega.{arith}
 use lib.ListN.{length, getD, drop, drop-of-length-le}
@@ -23,6 +23,11 @@ same-step a b s t e = rw (eq-eqb a b e)
 same-differ : (a b : ℕ) (s t : List ℕ) → (a ≡ b → ⊥) → same (a ∷ s) (b ∷ t) ≡ false
 unfolding same
 same-differ a b s t n = rw (ne-eqb a b n)
+
+-- two texts of one byte are the same where their bytes are
+pub same-byte : (a b : ℕ) → same (a ∷ []) (b ∷ []) ≡ eqb a b
+unfolding same
+same-byte a b = and-true (eqb a b)
 
 -- ---- what the answer tells
 
