@@ -6,3 +6,4 @@ pub mod Value
 pub mod Demands
 pub mod Determined
 pub mod Lead
+pub mod CaseLaws

@@ -16,3 +16,4 @@ pub mod Exact
 pub mod Impostors
 pub mod Nearest
 pub mod ReaderLaws
+pub mod CaseLaws

@@ -11,3 +11,4 @@ pub mod ValueLaws
 pub mod Counts
 pub mod Determined
 pub mod Impostors
+pub mod CaseLaws

@@ -1,3 +1,4 @@
 pub mod JoinLaws
 pub mod Determined
 pub mod Demands
+pub mod CaseLaws

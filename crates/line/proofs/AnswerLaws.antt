@@ -175,34 +175,4 @@ module _ (s : List ℕ) (at : ℕ) where
       unfolding readPaper judgedPaper
       reads-cut q = refusal (rw q)
 
--- ---- what each answer says
-
-pub line-says : (r : Record) (next : ℕ) → readPaper (R.Line r next) ≡ says 0 (next ∷ recordPlaces r)
-unfolding readPaper
-line-says r next = refl
-
-pub end-says : (next : ℕ) → readPaper (R.End next) ≡ says 1 (next ∷ [])
-unfolding readPaper
-end-says next = refl
-
-pub empty-says : (next : ℕ) → readPaper (R.Empty next) ≡ says 2 (next ∷ [])
-unfolding readPaper
-empty-says next = refl
-
-pub fed-says : (next : ℕ) → readPaper (R.Fed next) ≡ says 3 (next ∷ [])
-unfolding readPaper
-fed-says next = refl
-
-pub cut-says : (next : ℕ) → readPaper (R.Cut next) ≡ says 4 (next ∷ [])
-unfolding readPaper
-cut-says next = refl
-
-pub not-utf8-says : (next : ℕ) → readPaper (R.NotUtf8 next) ≡ says 5 (next ∷ [])
-unfolding readPaper
-not-utf8-says next = refl
-
-pub beyond-says : (next : ℕ) → readPaper (R.Beyond next) ≡ says 6 (next ∷ [])
-unfolding readPaper
-beyond-says next = refl
-
 pub ruleset laws = (order-after, order-within, order-count, order-enough, finish-line, finish-broken, reads-beyond, reads-end, reads-line, reads-ordered, reads-empty, reads-fed, reads-cut)

@@ -9,7 +9,7 @@ use Rattle.text.specs.Pick.{pick}
 use Rattle.text.specs.Answer.{Answer, says}
 use Rattle.text.specs.declared.range.Range.{Range}
 use Rattle.line.specs.Line.{readAnswer}
-use Rattle.line.specs.Fields.{rangeOf, placeAnswer, fieldAnswer}
+use Rattle.line.specs.Fields.{rangeOf, placeAnswer, textAnswer, fieldAnswer}
 use Rattle.line.specs.Pos.{posAnswer}
 use Rattle.line.specs.Paper.{recordPlaces, readPaper, fieldPaper, positionPaper}
 use Rattle.line.specs.declared.read.Record.{Record}
@@ -86,6 +86,9 @@ place-of-determined line name r r′ p q = p ∙ sym q
 
 pub place-determined : (s : List ℕ) (range : Range) (r r′ : Text) → fieldPaper r ≡ placeAnswer s range → fieldPaper r′ ≡ placeAnswer s range → r ≡ r′
 place-determined s range r r′ p q = field-paper-injective r r′ (p ∙ sym q)
+
+pub text-determined : (s : List ℕ) (name : Name) (range : Range) (r r′ : Text) → fieldPaper r ≡ textAnswer s name range → fieldPaper r′ ≡ textAnswer s name range → r ≡ r′
+text-determined s name range r r′ p q = field-paper-injective r r′ (p ∙ sym q)
 
 pub field-determined : (s : List ℕ) (line : Record) (name : Name) (r r′ : Text) → fieldPaper r ≡ fieldAnswer s line name → fieldPaper r′ ≡ fieldAnswer s line name → r ≡ r′
 field-determined s line name r r′ p q = field-paper-injective r r′ (p ∙ sym q)

@@ -89,15 +89,19 @@ dot-known r e q = rw e q
 
 -- ---- a field
 
-module _ (s : List ℕ) (line : Record) (name : Name) (x : Text) {r : Range} {b : Bool} (e : r ≡ rangeOf line name)
-    (d : b ≡ (fitsIn r s && same (cut r s) (46 ∷ []))) where
-  pub field-dot : b ≡ true → fieldPaper x ≡ dotAnswer name r → fieldPaper x ≡ fieldAnswer s line name
-  unfolding fieldAnswer textAnswer
-  field-dot t h = rw (← e, ← d, t) h
+module _ (s : List ℕ) (name : Name) (x : Text) (r : Range) {b : Bool} (d : b ≡ (fitsIn r s && same (cut r s) (46 ∷ []))) where
+  pub text-dot : b ≡ true → fieldPaper x ≡ dotAnswer name r → fieldPaper x ≡ textAnswer s name r
+  unfolding textAnswer
+  text-dot t h = rw (← d, t) h
 
-  pub field-place : b ≡ false → fieldPaper x ≡ placeAnswer s r → fieldPaper x ≡ fieldAnswer s line name
-  unfolding fieldAnswer textAnswer
-  field-place t h = rw (← e, ← d, t) h
+  pub text-place : b ≡ false → fieldPaper x ≡ placeAnswer s r → fieldPaper x ≡ textAnswer s name r
+  unfolding textAnswer
+  text-place t h = rw (← d, t) h
+
+pub field-text : (s : List ℕ) (line : Record) (name : Name) (x : Text) {r : Range} → r ≡ rangeOf line name → fieldPaper x ≡ textAnswer s name r
+    → fieldPaper x ≡ fieldAnswer s line name
+unfolding fieldAnswer
+field-text s line name x e h = rw (← e) h
 
 -- a range that holds a `.` lies in the buffer
 pub dot-within : (s : List ℕ) (r : Range) {b : Bool} → b ≡ (fitsIn r s && same (cut r s) (46 ∷ [])) → b ≡ true → r .start + r .len ≤ length s
@@ -140,4 +144,4 @@ module _ (s : List ℕ) (line : Record) where
   unfolding fieldAnswer textAnswer placeAnswer
   field-stands name f h = rw (f, same-not (cut (rangeOf line name) s) (46 ∷ []) h)
 
-pub ruleset laws = (place-far, place-long, place-fits, dot-not-one, dot-past, dot-at, field-dot, field-place)
+pub ruleset laws = (place-far, place-long, place-fits, dot-not-one, dot-past, dot-at, text-dot, text-place, field-text)

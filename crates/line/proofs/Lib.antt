@@ -14,3 +14,4 @@ pub mod WholeLaws
 pub mod Impostors
 pub mod Determined
 pub mod RecordLaws
+pub mod CaseLaws

@@ -7,7 +7,7 @@ ghost use mathlib.Core.Bool.{_&&_};
 ghost use mathlib.Core.List.{[], _∷_};
 ghost use Rattle.text.specs.Same.{same};
 ghost use Rattle.text.specs.Range.{cut};
-ghost use Rattle.line.specs.Fields.{placeAnswer, fieldAnswer, rangeOf, dotAnswer, fitsIn};
+ghost use Rattle.line.specs.Fields.{placeAnswer, textAnswer, fieldAnswer, rangeOf, dotAnswer, fitsIn};
 ghost use Rattle.line.specs.Paper.{fieldPaper};
 
 // The ten fields of a line.
@@ -107,14 +107,20 @@ fn dot(name: Name, range: Range) -> Text
     }
 }
 
-// The text of a field of the record's line, in the buffer that the line was read from. A `.` is
-// empty at its column's end for ID, ALT, FILTER and INFO, and absent for QUAL.
-pub fn field(s: &[u8], line: Record, name: Name) -> Text
-    ensures { λ r. ⌜ fieldPaper r ≡ fieldAnswer (now (s .entry)) line name ⌝ }
+// The text of a field that stands at a place of the buffer. A `.` is empty at its column's end for ID, ALT, FILTER and INFO,
+// and absent for QUAL.
+pub fn text_in(s: &[u8], name: Name, range: Range) -> Text
+    ensures { λ r. ⌜ fieldPaper r ≡ textAnswer (now (s .entry)) name range ⌝ }
 {
-    let range = place_of(line, name);
     if is_dot(s, range) {
         return dot(name, range);
     }
     place_in(s, range)
+}
+
+// The text of a field of the record's line, in the buffer that the line was read from.
+pub fn field(s: &[u8], line: Record, name: Name) -> Text
+    ensures { λ r. ⌜ fieldPaper r ≡ fieldAnswer (now (s .entry)) line name ⌝ }
+{
+    text_in(s, name, place_of(line, name))
 }

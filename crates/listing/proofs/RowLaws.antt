@@ -21,7 +21,7 @@ use Rattle.line.specs.declared.read.Read.the-variants as R
 use Rattle.line.specs.declared.fields.Name.the-variants as N
 use Rattle.line.specs.declared.fields.Text.{Text}
 use Rattle.line.specs.declared.fields.Text.the-variants as F
-use Rattle.line.proofs.AnswerLaws.{line-says, end-says, empty-says, fed-says, cut-says, not-utf8-says, beyond-says}
+use Rattle.line.proofs.CaseLaws.{read-record, read-end, read-empty, read-fed, read-cut, read-broken, read-beyond}
 use Rattle.line.proofs.RecordLaws.{Recorded, recorded, Lies, samples-lie, samples-back, columns-within, info-tells}
 use Rattle.line.proofs.MovesOn.{six-beyond}
 use Rattle.info.specs.Info.{infoCount}
@@ -117,36 +117,36 @@ module _ {w : List ℕ} {at next : ℕ} {r : Record} (h : ReadAt w at next r) wh
 
 module _ (w : List ℕ) (at : ℕ) {x : Read} (e : readPaper x ≡ readAnswer w at) where
   pub whole-read : {r : Record} {next : ℕ} → x ≡ R.Line r next → ReadAt w at next r
-  whole-read {r} {next} q = record { read = sym (rw q at e) ∙ line-says r next }
+  whole-read {r} {next} q = record { read = sym e ∙ read-record q }
 
   pub whole-line : {r : Record} {next : ℕ} (row : Row) → x ≡ R.Line r next → rowPaper row ≡ says 0 (countsOf (columnsOf (lineOf (drop at w))))
       → turnPaper (T.Found row P.Lines next) ≡ readMove (lineOf (drop at w)) (readAnswer w at)
   unfolding turnPaper readMove rowOf nextOf
-  whole-line {r} {next} row q k = rw (← e, q, line-says r next, k)
+  whole-line {r} {next} row q k = rw (← e, read-record q, k)
 
   pub whole-end : {next : ℕ} → x ≡ R.End next → turnPaper T.End ≡ readMove (lineOf (drop at w)) (readAnswer w at)
   unfolding turnPaper readMove
-  whole-end {next} q = rw (← e, q, end-says next)
+  whole-end {next} q = rw (← e, read-end q)
 
   pub whole-empty : {next : ℕ} → x ≡ R.Empty next → turnPaper (T.Found (W.Refused U.Empty) P.Lines next) ≡ readMove (lineOf (drop at w)) (readAnswer w at)
   unfolding turnPaper rowPaper refusalNumber readMove rowOf nextOf
-  whole-empty {next} q = rw (← e, q, empty-says next)
+  whole-empty {next} q = rw (← e, read-empty q)
 
   pub whole-fed : {next : ℕ} → x ≡ R.Fed next → turnPaper (T.Found (W.Refused U.Fed) P.Lines next) ≡ readMove (lineOf (drop at w)) (readAnswer w at)
   unfolding turnPaper rowPaper refusalNumber readMove rowOf nextOf
-  whole-fed {next} q = rw (← e, q, fed-says next)
+  whole-fed {next} q = rw (← e, read-fed q)
 
   pub whole-cut : {next : ℕ} → x ≡ R.Cut next → turnPaper (T.Found (W.Refused U.Cut) P.Lines next) ≡ readMove (lineOf (drop at w)) (readAnswer w at)
   unfolding turnPaper rowPaper refusalNumber readMove rowOf nextOf
-  whole-cut {next} q = rw (← e, q, cut-says next)
+  whole-cut {next} q = rw (← e, read-cut q)
 
   pub whole-not-utf8 : {next : ℕ} → x ≡ R.NotUtf8 next → turnPaper (T.Found (W.Refused U.NotUtf8) P.Lines next) ≡ readMove (lineOf (drop at w)) (readAnswer w at)
   unfolding turnPaper rowPaper refusalNumber readMove rowOf nextOf
-  whole-not-utf8 {next} q = rw (← e, q, not-utf8-says next)
+  whole-not-utf8 {next} q = rw (← e, read-broken q)
 
   pub whole-beyond : {next : ℕ} → at ≤ length w → x ≡ R.Beyond next → turnPaper T.Beyond ≡ readMove (lineOf (drop at w)) (readAnswer w at)
   whole-beyond {next} h q =
-      let z : numberOf (readAnswer w at) ≡ 6 = rw (← e, q, beyond-says next) in
+      let z : numberOf (readAnswer w at) ≡ 6 = rw (← e, read-beyond q) in
       absurd (let l = six-beyond w at z in omega arith)
 
 pub ruleset laws =

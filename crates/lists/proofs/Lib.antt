@@ -5,3 +5,4 @@ pub mod ValidLaws
 pub mod Demands
 pub mod PaperLaws
 pub mod Determined
+pub mod CaseLaws

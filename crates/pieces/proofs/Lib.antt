@@ -9,3 +9,4 @@ pub mod PlaceLaws
 pub mod JoinedLaws
 pub mod Demands
 pub mod Determined
+pub mod CaseLaws

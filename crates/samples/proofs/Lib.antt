@@ -3,3 +3,4 @@ pub mod KeyLaws
 pub mod Demands
 pub mod Impostors
 pub mod Determined
+pub mod CaseLaws

@@ -16,3 +16,4 @@ pub mod Impostors
 pub mod EndToEnd
 pub mod TallySteps
 pub mod ListLaws
+pub mod CaseLaws

@@ -9,3 +9,4 @@ pub mod SpaceLaws
 pub mod FoundLaws
 pub mod Demands
 pub mod Determined
+pub mod CaseLaws

@@ -1,31 +1,17 @@
--- The definition goes by whether the range holds a `.`, as the code does; such a range ends within the buffer. Assumes nothing.
-use native.Mathlib.Omega.{arith}
+-- The definition is that of the text at the field's place. Assumes nothing.
 use borrow.Author.Needs.{needs}
-use Rattle.line.proofs.FieldLaws.{dot-within, laws}
+use Rattle.line.proofs.FieldLaws.{laws}
 use Rattle.line.proofs.fields.field.Statement.{statement}
 use Rattle.line.proofs.fields.field.Tie as tie
 
 place-of-requires : tie.Need-place-of-requires
 place-of-requires c κs = search (needs, laws)
 
-is-dot-requires : tie.Need-is-dot-requires
-is-dot-requires c κs = search (needs, laws)
-
-dot-requires : tie.Need-dot-requires
-dot-requires c κs =
-    let h = dot-within (c .before .before .before .before .args .s .now) (c .before .before .place-of .result) (c .before .is-dot .ensures) (c .if1 .taken) in
-    omega arith
+text-in-requires : tie.Need-text-in-requires
+text-in-requires c κs = search (needs, laws)
 
 returns : tie.Need-returns
 returns c = search (needs, laws)
 
-place-in-requires : tie.Need-place-in-requires
-place-in-requires c κs = search (needs, laws)
-
-returns-2 : tie.Need-returns-2
-returns-2 c = search (needs, laws)
-
 pub field-spec : {M : Type 1} → statement M
-field-spec =
-    tie.close
-    (tie.spec place-of-requires is-dot-requires dot-requires returns place-in-requires returns-2)
+field-spec = tie.close (tie.spec place-of-requires text-in-requires returns)

@@ -1,0 +1,225 @@
+//! Lines, their ten fields, and POS.
+
+use crate::ffi::{self, range, size};
+use crate::text::Range;
+
+/// The ten fields of a line.
+#[derive(Clone, Copy, Debug, PartialEq, Eq, Hash)]
+pub enum Name {
+    /// CHROM
+    Chrom,
+    /// POS
+    Pos,
+    /// ID
+    Id,
+    /// REF
+    Reference,
+    /// ALT
+    Alt,
+    /// QUAL
+    Qual,
+    /// FILTER
+    Filter,
+    /// INFO
+    Info,
+    /// FORMAT, empty where the line has none
+    Format,
+    /// The samples and the tabs between them, empty where the line has none
+    Samples,
+}
+
+impl Name {
+    /// All ten, in their order.
+    pub const ALL: [Name; 10] = [
+        Name::Chrom,
+        Name::Pos,
+        Name::Id,
+        Name::Reference,
+        Name::Alt,
+        Name::Qual,
+        Name::Filter,
+        Name::Info,
+        Name::Format,
+        Name::Samples,
+    ];
+}
+
+/// A line that was read, with the text that it was read from.
+#[derive(Clone, Copy, Debug, PartialEq, Eq)]
+pub struct Record<'a> {
+    source: &'a [u8],
+    places: [Range; 10],
+}
+
+impl<'a> Record<'a> {
+    /// The text that the line was read from, whole.
+    pub fn source(&self) -> &'a [u8] {
+        self.source
+    }
+
+    /// Where the column of a field stands in the source, a `.` as it stands.
+    pub fn place(&self, name: Name) -> Range {
+        self.places[name as usize]
+    }
+
+    /// Where the text of a field stands in the source. `None` is an absent one, a `.` in QUAL. A `.` in ID, ALT, FILTER or INFO
+    /// reads as the empty text at its column's end.
+    pub fn text_place(&self, name: Name) -> Option<Range> {
+        match text_in(self.source, name, self.place(name)) {
+            Text::At(place) => Some(place),
+            Text::Absent => None,
+            Text::Beyond => {
+                unreachable!("the contract says that the places of a line fit its text")
+            }
+        }
+    }
+
+    /// The text of a field. `None` is an absent one, as of [`Record::text_place`].
+    pub fn text(&self, name: Name) -> Option<&'a [u8]> {
+        let place = self.text_place(name)?;
+        Some(&self.source[place.start..place.start + place.len])
+    }
+}
+
+/// What reading at a place finds. Each case has the next place.
+#[derive(Clone, Copy, Debug, PartialEq, Eq)]
+pub enum Read<'a> {
+    /// 0: a line.
+    Line(Record<'a>, usize),
+    /// 1: the place is the end of the input.
+    End(usize),
+    /// 2: an empty column.
+    Empty(usize),
+    /// 3: a column ended by LF that must be ended by a tab.
+    Fed(usize),
+    /// 4: a column cut by the end of the input.
+    Cut(usize),
+    /// 5: a column that is not UTF-8.
+    NotUtf8(usize),
+    /// 6: the place lies beyond the input.
+    Beyond(usize),
+}
+
+impl Read<'_> {
+    /// The answer's number.
+    pub fn number(self) -> u64 {
+        match self {
+            Read::Line(..) => 0,
+            Read::End(_) => 1,
+            Read::Empty(_) => 2,
+            Read::Fed(_) => 3,
+            Read::Cut(_) => 4,
+            Read::NotUtf8(_) => 5,
+            Read::Beyond(_) => 6,
+        }
+    }
+
+    /// The place from which to go on.
+    pub fn next(self) -> usize {
+        match self {
+            Read::Line(_, next)
+            | Read::End(next)
+            | Read::Empty(next)
+            | Read::Fed(next)
+            | Read::Cut(next)
+            | Read::NotUtf8(next)
+            | Read::Beyond(next) => next,
+        }
+    }
+}
+
+/// Reads the line at the place `at` of the input.
+pub fn read_line(s: &[u8], at: usize) -> Read<'_> {
+    let told = ffi::read_line(s, at);
+    match (told.number, told.values()) {
+        (0, [next, places @ ..]) if places.len() == 20 => {
+            let place = |i: usize| range(places[2 * i], places[2 * i + 1]);
+            let record = Record {
+                source: s,
+                places: std::array::from_fn(place),
+            };
+            Read::Line(record, size(*next))
+        }
+        (1, &[next]) => Read::End(size(next)),
+        (2, &[next]) => Read::Empty(size(next)),
+        (3, &[next]) => Read::Fed(size(next)),
+        (4, &[next]) => Read::Cut(size(next)),
+        (5, &[next]) => Read::NotUtf8(size(next)),
+        (6, &[next]) => Read::Beyond(size(next)),
+        _ => told.excluded("0 with the next place and ten places, or 1 to 6 with the next place"),
+    }
+}
+
+/// What a field's text is.
+#[derive(Clone, Copy, Debug, PartialEq, Eq)]
+pub enum Text {
+    /// 0: its place.
+    At(Range),
+    /// 0: there is none.
+    Absent,
+    /// 6: the place does not fit the buffer.
+    Beyond,
+}
+
+impl Text {
+    /// The answer's number.
+    pub fn number(self) -> u64 {
+        match self {
+            Text::At(_) | Text::Absent => 0,
+            Text::Beyond => 6,
+        }
+    }
+}
+
+/// The text of a field whose column stands at `place`. [`Record::text`] asks this of the places that were read.
+pub fn text_in(s: &[u8], name: Name, place: Range) -> Text {
+    let told = ffi::field_text(s, name as u64, place);
+    match (told.number, told.values()) {
+        (0, &[start, len]) => Text::At(range(start, len)),
+        (0, []) => Text::Absent,
+        (6, []) => Text::Beyond,
+        _ => told.excluded("0 with a place or none, or 6; 10 only for names above 9"),
+    }
+}
+
+/// The place itself where it fits the buffer.
+pub fn place_in(s: &[u8], place: Range) -> Text {
+    let told = ffi::place_in(s, place);
+    match (told.number, told.values()) {
+        (0, &[start, len]) => Text::At(range(start, len)),
+        (6, []) => Text::Beyond,
+        _ => told.excluded("0 with a place, or 6"),
+    }
+}
+
+/// What the text of POS says.
+#[derive(Clone, Copy, Debug, PartialEq, Eq)]
+pub enum Position {
+    /// 0: a position.
+    At(u64),
+    /// 0: none, `0`.
+    Nowhere,
+    /// 21: it is bad.
+    Bad,
+}
+
+impl Position {
+    /// The answer's number.
+    pub fn number(self) -> u64 {
+        match self {
+            Position::At(_) | Position::Nowhere => 0,
+            Position::Bad => 21,
+        }
+    }
+}
+
+/// Reads the text of POS.
+pub fn read_pos(text: &[u8]) -> Position {
+    let told = ffi::read_pos(text);
+    match (told.number, told.values()) {
+        (0, &[n]) => Position::At(n),
+        (0, []) => Position::Nowhere,
+        (21, []) => Position::Bad,
+        _ => told.excluded("0 with a position or none, or 21"),
+    }
+}

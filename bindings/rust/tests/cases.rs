@@ -1,0 +1,638 @@
+//! Holds the wrapper to the stored cases of the program `cases`: crates/cases/stdin and crates/cases/stdout, whose form
+//! docs/RULES.md, section 15, gives. The answers stored come from the Rust or a model of the rules, none from the library.
+//!
+//! Functions that no verb asks for (one allele at a time, the judges of a genotype and of an entry, the ALT count, the iterators)
+//! are held to the answers of the verbs beside them.
+
+use std::collections::BTreeMap;
+use std::fmt::Write as _;
+use std::fs;
+use std::path::Path;
+
+use bruncadorza::text::Range;
+use bruncadorza::{alleles, decimal, genotype, info, join, line, lists, samples, spelling, text};
+use genotype::Allele;
+
+/// Every verb that a case can have.
+const VERBS: [&str; 29] = [
+    "utf8",
+    "space",
+    "decimal",
+    "print",
+    "line",
+    "field",
+    "place",
+    "pos",
+    "info",
+    "find",
+    "value",
+    "scan",
+    "count",
+    "samples",
+    "walk",
+    "sample",
+    "key",
+    "subfield",
+    "read",
+    "readalt",
+    "unequal",
+    "alleles",
+    "allelesalt",
+    "write",
+    "writeunequal",
+    "writealleles",
+    "filters",
+    "alts",
+    "join",
+];
+
+/// The names of the ten fields, as cases have them.
+const FIELDS: [&str; 10] = [
+    "chrom", "pos", "id", "ref", "alt", "qual", "filter", "info", "format", "samples",
+];
+
+#[test]
+fn the_wrapper_answers_every_stored_case() {
+    let folder = Path::new(env!("CARGO_MANIFEST_DIR")).join("../../crates/cases");
+    let file = |name: &str| {
+        let path = folder.join(name);
+        fs::read(&path).unwrap_or_else(|error| panic!("{}: {error}", path.display()))
+    };
+    let counts =
+        hold(&file("stdin"), &file("stdout")).unwrap_or_else(|difference| panic!("{difference}"));
+    for (verb, count) in &counts {
+        println!("{count:>7} {verb}");
+    }
+    println!("{:>7} in all", counts.values().sum::<usize>());
+    for verb in VERBS.into_iter().chain(["?"]) {
+        assert!(counts.contains_key(verb), "no case of {verb} is stored");
+    }
+}
+
+/// One case of each verb with an answer that is wrong.
+#[test]
+fn a_wrong_answer_is_seen() {
+    for (case, answer) in [
+        ("utf8 ff", "0"),
+        ("space 61", "0 1"),
+        ("decimal 3432", "0 43"),
+        ("print 2 42", "0 2 3433"),
+        ("line - 0", "1 1"),
+        ("field chrom - 0", "2"),
+        ("place 61 0 1", "6"),
+        ("pos 30", "0 0"),
+        ("info 61 0", "0 1 0 1 1 0"),
+        ("find 61 62", "10 0"),
+        ("value 613d62 61", "-"),
+        ("scan 61", "0 1 0 1 absent"),
+        ("count 61", "0"),
+        ("samples 61", "0"),
+        ("walk 61", "0 0"),
+        ("sample 61 1", "0 0 1"),
+        ("key 61 61", "0 1"),
+        ("subfield 61 1", "0 0 1"),
+        ("read 1 31", "0 1 1:0:0"),
+        ("readalt 1 32 41", "0 1 2:0:1"),
+        ("unequal 1 2 1 31", "16 7 7 7"),
+        ("alleles 1 -", "11 7:7:7"),
+        ("allelesalt 1 32 41", "20 1 7:1:1"),
+        ("write 4 4 1 0 1:0:1", "0 1 30"),
+        ("writeunequal 1 1 0 1", "16 ef"),
+        ("writealleles 4 4 1 0 1:0:1", "17 ee"),
+        ("filters 1 0 - -", "0 1 2f"),
+        ("alts 1 0 2c 1", "15 1 ee"),
+        ("join 1 0 - -", "19 00"),
+    ] {
+        let difference = hold(case.as_bytes(), format!("{answer}\n").as_bytes());
+        assert!(difference.is_err(), "{case}: {answer} was taken");
+    }
+    assert!(
+        hold(b"utf8 -\n", b"0\n0\n").is_err(),
+        "an answer too many was taken"
+    );
+}
+
+/// How many cases of each verb were held, or the first difference. A line that is stored as no case is passed over, and counted
+/// under `?`.
+fn hold(cases: &[u8], answers: &[u8]) -> Result<BTreeMap<String, usize>, String> {
+    let (cases, answers) = (lines(cases), lines(answers));
+    if cases.len() != answers.len() {
+        return Err(format!(
+            "{} cases and {} answers",
+            cases.len(),
+            answers.len()
+        ));
+    }
+    let mut counts = BTreeMap::new();
+    for (i, (case, stored)) in cases.into_iter().zip(answers).enumerate() {
+        let stored = String::from_utf8_lossy(stored);
+        let mut verb = "?";
+        if stored != "?" {
+            let case =
+                std::str::from_utf8(case).map_err(|_| format!("line {}: not UTF-8", i + 1))?;
+            let words: Vec<&str> = case.split(' ').collect();
+            let answer = answer(&words);
+            if answer != stored {
+                return Err(format!(
+                    "line {}: {case}\n  stored {stored}\n  got    {answer}",
+                    i + 1
+                ));
+            }
+            verb = words[0];
+        }
+        *counts.entry(verb.to_string()).or_insert(0) += 1;
+    }
+    Ok(counts)
+}
+
+/// The lines, the last of which may lack its LF.
+fn lines(text: &[u8]) -> Vec<&[u8]> {
+    let text = text.strip_suffix(b"\n").unwrap_or(text);
+    text.split(|&b| b == b'\n').collect()
+}
+
+fn answer(words: &[&str]) -> String {
+    match *words {
+        ["utf8", s] => text::check_utf8(&bytes(s)).number().to_string(),
+        ["space", s] => space(&bytes(s)),
+        ["decimal", s] => read_decimal(&bytes(s)),
+        ["print", room, n] => print(size(room), number(n)),
+        ["line", s, at] => read_line(&bytes(s), size(at)),
+        ["field", name, s, at] => field(name, &bytes(s), size(at)),
+        ["place", s, start, len] => place(&bytes(s), size(start), size(len)),
+        ["pos", s] => pos(&bytes(s)),
+        ["info", s, at] => info_step(info::step_at(&bytes(s), size(at))),
+        ["find", s, key] => info_step(info::find(&bytes(s), &bytes(key))),
+        ["value", s, key] => hex(info::value(&bytes(s), &bytes(key))),
+        ["scan", s] => scan(&bytes(s)),
+        ["count", s] => info::count(&bytes(s)).to_string(),
+        ["samples", s] => samples::count(&bytes(s)).to_string(),
+        ["walk", s] => walk(&bytes(s)),
+        ["sample", s, n] => nth(samples::sample(&bytes(s), size(n))),
+        ["key", s, key] => key_index(&bytes(s), &bytes(key)),
+        ["subfield", s, n] => nth(samples::subfield(&bytes(s), size(n))),
+        ["read", row, s] => read(size(row), &bytes(s), None),
+        ["readalt", row, s, alt] => read(size(row), &bytes(s), Some(&bytes(alt))),
+        ["unequal", n, m, p, s] => unequal(size(n), size(m), size(p), &bytes(s)),
+        ["alleles", row, s] => read_alleles(size(row), &bytes(s), None),
+        ["allelesalt", row, s, alt] => read_alleles(size(row), &bytes(s), Some(&bytes(alt))),
+        ["write", major, minor, room, at, ref list @ ..] => {
+            write((half(major), half(minor)), size(room), size(at), list)
+        }
+        ["writeunequal", n, m, p, room] => write_unequal(size(n), size(m), size(p), size(room)),
+        ["writealleles", major, minor, room, at, ref list @ ..] => {
+            write_alleles((half(major), half(minor)), size(room), size(at), list)
+        }
+        ["filters", room, at, s, e] => filters(size(room), size(at), &bytes(s), &ends(e)),
+        ["alts", room, at, s, e] => alts(size(room), size(at), &bytes(s), &ends(e)),
+        ["join", room, at, s, e] => join_columns(size(room), size(at), &bytes(s), &ends(e)),
+        _ => panic!("no such case: {words:?}"),
+    }
+}
+
+// Arguments
+
+/// Bytes from hex, `-` for none.
+fn bytes(word: &str) -> Vec<u8> {
+    if word == "-" {
+        return Vec::new();
+    }
+    let pairs = word.as_bytes().chunks(2);
+    let digits = pairs.map(|pair| std::str::from_utf8(pair).expect("hex"));
+    digits
+        .map(|pair| u8::from_str_radix(pair, 16).expect("hex"))
+        .collect()
+}
+
+fn number(word: &str) -> u64 {
+    word.parse().expect("a number")
+}
+
+fn size(word: &str) -> usize {
+    word.parse().expect("a number")
+}
+
+fn half(word: &str) -> u32 {
+    word.parse().expect("a number of 32 bits")
+}
+
+/// Numbers joined by commas, `-` for none.
+fn ends(word: &str) -> Vec<usize> {
+    match word {
+        "-" => Vec::new(),
+        _ => word.split(',').map(size).collect(),
+    }
+}
+
+/// `number:missing:phased` each, or `-` for none.
+fn list_of(words: &[&str]) -> Vec<[u64; 3]> {
+    if words == ["-"] {
+        return Vec::new();
+    }
+    let record = |word: &&str| {
+        let parts: Vec<u64> = word.split(':').map(number).collect();
+        parts.try_into().expect("three numbers")
+    };
+    words.iter().map(record).collect()
+}
+
+// What is printed
+
+/// Bytes as hex, `-` for none.
+fn hex(bytes: &[u8]) -> String {
+    if bytes.is_empty() {
+        return "-".to_string();
+    }
+    bytes.iter().fold(String::new(), |mut out, b| {
+        write!(out, "{b:02x}").expect("a string takes all");
+        out
+    })
+}
+
+/// A number, and the value that came with it.
+fn said(number: u64, value: Option<usize>) -> String {
+    match value {
+        Some(value) => format!("{number} {value}"),
+        None => number.to_string(),
+    }
+}
+
+fn at_place(range: Range) -> String {
+    format!("{} {}", range.start, range.len)
+}
+
+/// Numbers joined by commas, `-` for none.
+fn row_of<T: ToString>(row: &[T]) -> String {
+    let words: Vec<String> = row.iter().map(T::to_string).collect();
+    match words.as_slice() {
+        [] => "-".to_string(),
+        words => words.join(","),
+    }
+}
+
+/// `number:missing:phased` each, `-` for none.
+fn rows_of<M: Copy + Into<u64>>(rows: impl Iterator<Item = (u64, M, M)>) -> String {
+    let word = |(n, m, p): (u64, M, M)| format!("{n}:{}:{}", m.into(), p.into());
+    let words: Vec<String> = rows.map(word).collect();
+    match words.as_slice() {
+        [] => "-".to_string(),
+        words => words.join(" "),
+    }
+}
+
+// Characters and decimals
+
+fn space(s: &[u8]) -> String {
+    let found = text::find_space(s);
+    match found {
+        text::Space::Broken => said(found.number(), None),
+        text::Space::Held => said(found.number(), Some(1)),
+        text::Space::Free => said(found.number(), Some(0)),
+    }
+}
+
+fn read_decimal(s: &[u8]) -> String {
+    let read = decimal::read_decimal(s);
+    match read {
+        decimal::Number::Value(n) => format!("{} {n}", read.number()),
+        decimal::Number::Bad => said(read.number(), None),
+    }
+}
+
+fn print(room: usize, n: u64) -> String {
+    let mut out = vec![0xEE; room];
+    let written = decimal::print_decimal(n, &mut out);
+    let count = match written {
+        decimal::Written::Done(count) => Some(count),
+        decimal::Written::Short => None,
+    };
+    format!("{} {}", said(written.number(), count), hex(&out))
+}
+
+// Lines
+
+fn read_line(s: &[u8], at: usize) -> String {
+    let read = line::read_line(s, at);
+    let mut out = said(read.number(), Some(read.next()));
+    if let line::Read::Line(record, _) = read {
+        for name in line::Name::ALL {
+            out = format!("{out} {}", at_place(record.place(name)));
+        }
+    }
+    out
+}
+
+fn field(name: &str, s: &[u8], at: usize) -> String {
+    let read = line::read_line(s, at);
+    let line::Read::Line(record, _) = read else {
+        return said(read.number(), None);
+    };
+    let index = FIELDS
+        .iter()
+        .position(|field| *field == name)
+        .expect("a field");
+    let name = line::Name::ALL[index];
+    let place = record.text_place(name);
+    assert_eq!(
+        record.text(name),
+        place.map(|place| place.of(s).expect("a part"))
+    );
+    match place {
+        Some(place) => format!("0 {}", at_place(place)),
+        None => "0 absent".to_string(),
+    }
+}
+
+fn place(s: &[u8], start: usize, len: usize) -> String {
+    let range = Range { start, len };
+    let found = line::place_in(s, range);
+    assert_eq!(found, line::text_in(s, line::Name::Chrom, range));
+    match found {
+        line::Text::At(place) => {
+            assert_eq!(range.of(s).map(<[u8]>::len), Some(len));
+            format!("{} {}", found.number(), at_place(place))
+        }
+        line::Text::Absent => "0 absent".to_string(),
+        line::Text::Beyond => {
+            assert_eq!(range.of(s), None);
+            said(found.number(), None)
+        }
+    }
+}
+
+fn pos(s: &[u8]) -> String {
+    let read = line::read_pos(s);
+    match read {
+        line::Position::At(n) => format!("{} {n}", read.number()),
+        line::Position::Nowhere => format!("{} none", read.number()),
+        line::Position::Bad => said(read.number(), None),
+    }
+}
+
+// INFO
+
+fn info_step(step: info::Step) -> String {
+    let out = said(step.number(), Some(step.next()));
+    let info::Step::Found(entry, _) = step else {
+        return out;
+    };
+    let key = at_place(entry.key);
+    match entry.value {
+        info::Value::Absent => format!("{out} {key} absent"),
+        info::Value::At(place) => format!("{out} {key} {}", at_place(place)),
+    }
+}
+
+fn scan(column: &[u8]) -> String {
+    let mut reader = info::open(column);
+    let mut steps = Vec::new();
+    loop {
+        let step = reader.step();
+        steps.push(step);
+        if let info::Step::Nothing(_) = step {
+            break;
+        }
+        reader = reader.moved(step.next());
+    }
+    assert!(info::open(column).eq(steps[..steps.len() - 1].iter().copied()));
+    let words: Vec<String> = steps.into_iter().map(info_step).collect();
+    words.join(", ")
+}
+
+// Samples
+
+fn walk(column: &[u8]) -> String {
+    let mut places = Vec::new();
+    let mut at = 0;
+    loop {
+        let step = samples::sample_at(column, at);
+        match step {
+            samples::Step::More(place, next) => {
+                places.push(place);
+                at = next;
+            }
+            samples::Step::Last(place) => {
+                places.push(place);
+                break;
+            }
+            samples::Step::Nothing | samples::Step::Beyond => return said(step.number(), None),
+        }
+    }
+    assert!(samples::all(column).eq(places.iter().map(|place| place.of(column).expect("a part"))));
+    let words: Vec<String> = places.into_iter().map(at_place).collect();
+    words.join(", ")
+}
+
+fn nth(nth: samples::Nth) -> String {
+    match nth {
+        samples::Nth::At(place) => format!("{} {}", nth.number(), at_place(place)),
+        samples::Nth::Nothing => said(nth.number(), None),
+    }
+}
+
+fn key_index(format: &[u8], key: &[u8]) -> String {
+    let found = samples::key_index(format, key);
+    let index = match found {
+        samples::Key::Index(index) => Some(index),
+        samples::Key::Nothing => None,
+    };
+    said(found.number(), index)
+}
+
+// Genotypes read
+
+fn said_read(read: genotype::Read) -> String {
+    let value = match read {
+        genotype::Read::Done(n) | genotype::Read::Bad(n) | genotype::Read::Above(n) => Some(n),
+        genotype::Read::Empty | genotype::Read::Lengths | genotype::Read::Short => None,
+    };
+    said(read.number(), value)
+}
+
+fn read(room: usize, s: &[u8], alt: Option<&[u8]>) -> String {
+    let (mut numbers, mut missing, mut phased) = (vec![7; room], vec![7; room], vec![7; room]);
+    let (read, judged) = match alt {
+        None => (
+            genotype::read_genotype(s, &mut numbers, &mut missing, &mut phased),
+            genotype::judge(s, room),
+        ),
+        Some(alt) => (
+            genotype::read_checked(s, alt, &mut numbers, &mut missing, &mut phased),
+            genotype::judge_checked(s, alt, room),
+        ),
+    };
+    assert_eq!(read, judged);
+    let rows = (0..room).map(|i| (numbers[i], missing[i], phased[i]));
+    held_by_steps(s, alt, read, room, rows.clone());
+    format!("{} {}", said_read(read), rows_of(rows))
+}
+
+/// Holds the alleles one at a time, and the ALT count, to what a reader answered.
+fn held_by_steps(
+    s: &[u8],
+    alt: Option<&[u8]>,
+    read: genotype::Read,
+    room: usize,
+    rows: impl Iterator<Item = (u64, u8, u8)>,
+) {
+    let most = alt.map_or(u64::MAX, |alt| lists::alt_count(alt) as u64);
+    let mut steps = Vec::new();
+    let mut at = 0;
+    let last = loop {
+        match genotype::step_at(s, at) {
+            genotype::Step::Found(allele, next) => {
+                steps.push(allele);
+                at = next;
+            }
+            last => break last,
+        }
+    };
+    let above = steps.iter().position(|allele| allele.number > most);
+    let ended = last == genotype::Step::Nothing;
+    assert!(match read {
+        genotype::Read::Done(n) => {
+            let of = |a: &Allele| (a.number, u8::from(a.missing), u8::from(a.phased));
+            ended && above.is_none() && steps.len() == n && rows.take(n).eq(steps.iter().map(of))
+        }
+        genotype::Read::Empty => ended && steps.is_empty(),
+        genotype::Read::Bad(k) => last == genotype::Step::Bad && steps.len() == k,
+        genotype::Read::Lengths => false,
+        genotype::Read::Short => ended && above.is_none() && steps.len() > room,
+        genotype::Read::Above(k) => ended && above == Some(k),
+    });
+    let past = genotype::step_at(s, s.len() + 1);
+    assert_eq!((past, past.number()), (genotype::Step::Beyond, 6));
+}
+
+fn unequal(n: usize, m: usize, p: usize, s: &[u8]) -> String {
+    let (mut numbers, mut missing, mut phased) = (vec![7; n], vec![7; m], vec![7; p]);
+    let read = genotype::read_genotype(s, &mut numbers, &mut missing, &mut phased);
+    let said = said_read(read);
+    format!(
+        "{said} {} {} {}",
+        row_of(&numbers),
+        row_of(&missing),
+        row_of(&phased)
+    )
+}
+
+fn read_alleles(room: usize, s: &[u8], alt: Option<&[u8]>) -> String {
+    let start = Allele {
+        number: 7,
+        missing: true,
+        phased: true,
+    };
+    let mut row = vec![start; room];
+    let read = match alt {
+        None => alleles::read_alleles(s, &mut row),
+        Some(alt) => alleles::read_alleles_checked(s, alt, &mut row),
+    };
+    let rows = row
+        .iter()
+        .map(|allele| (allele.number, allele.missing, allele.phased));
+    format!("{} {}", said_read(read), rows_of(rows))
+}
+
+// Genotypes written
+
+fn said_write(write: spelling::Write, out: &[u8]) -> String {
+    let value = match write {
+        spelling::Write::Done(n) | spelling::Write::Bad(n) => Some(n),
+        spelling::Write::Beyond
+        | spelling::Write::Empty
+        | spelling::Write::Phasing
+        | spelling::Write::Lengths
+        | spelling::Write::Short => None,
+    };
+    format!("{} {}", said(write.number(), value), hex(out))
+}
+
+fn write(file_format: (u32, u32), room: usize, at: usize, words: &[&str]) -> String {
+    let list = list_of(words);
+    let mark = |i: usize| {
+        list.iter()
+            .map(move |record| u8::try_from(record[i]).expect("a mark"))
+    };
+    let numbers: Vec<u64> = list.iter().map(|record| record[0]).collect();
+    let missing: Vec<u8> = mark(1).collect();
+    let phased: Vec<u8> = mark(2).collect();
+    let mut out = vec![0xEE; room];
+    let written = spelling::write_genotype(&numbers, &missing, &phased, file_format, &mut out, at);
+    said_write(written, &out)
+}
+
+fn write_unequal(n: usize, m: usize, p: usize, room: usize) -> String {
+    let (numbers, missing, phased) = (vec![0; n], vec![0; m], vec![0; p]);
+    let mut out = vec![0xEE; room];
+    let written = spelling::write_genotype(&numbers, &missing, &phased, (4, 4), &mut out, 0);
+    said_write(written, &out)
+}
+
+fn write_alleles(file_format: (u32, u32), room: usize, at: usize, words: &[&str]) -> String {
+    let record = |record: [u64; 3]| Allele {
+        number: record[0],
+        missing: record[1] != 0,
+        phased: record[2] != 0,
+    };
+    let list: Vec<Allele> = list_of(words).into_iter().map(record).collect();
+    let mut out = vec![0xEE; room];
+    let written = alleles::write_alleles(&list, file_format, &mut out, at);
+    said_write(written, &out)
+}
+
+// Lists and columns
+
+fn said_list(write: lists::Write, out: &[u8]) -> String {
+    let value = match write {
+        lists::Write::Done(n) | lists::Write::NotUtf8(n) | lists::Write::Invalid(_, n) => Some(n),
+        lists::Write::Beyond | lists::Write::Wrong | lists::Write::Short => None,
+    };
+    format!("{} {}", said(write.number(), value), hex(out))
+}
+
+fn filters(room: usize, at: usize, s: &[u8], ends: &[usize]) -> String {
+    let mut out = vec![0xEE; room];
+    let written = lists::write_filters(s, ends, &mut out, at);
+    held_by_judge(s, ends, written, lists::judge_filter);
+    said_list(written, &out)
+}
+
+fn alts(room: usize, at: usize, s: &[u8], ends: &[usize]) -> String {
+    let mut out = vec![0xEE; room];
+    let written = lists::write_alts(s, ends, &mut out, at);
+    held_by_judge(s, ends, written, lists::judge_alt);
+    said_list(written, &out)
+}
+
+/// Holds the judge of one entry to what the writer of a list answered.
+fn held_by_judge(
+    s: &[u8],
+    ends: &[usize],
+    write: lists::Write,
+    judge: fn(&[u8]) -> lists::Verdict,
+) {
+    let fine = match write {
+        lists::Write::Done(_) | lists::Write::Short => ends.len(),
+        lists::Write::NotUtf8(i) | lists::Write::Invalid(_, i) => i,
+        lists::Write::Beyond | lists::Write::Wrong => return,
+    };
+    let entry = |i: usize| &s[if i == 0 { 0 } else { ends[i - 1] }..ends[i]];
+    for i in 0..fine {
+        assert_eq!(judge(entry(i)), lists::Verdict::Fine);
+    }
+    if fine < ends.len() {
+        assert_eq!(judge(entry(fine)).number(), write.number());
+    }
+}
+
+fn join_columns(room: usize, at: usize, s: &[u8], ends: &[usize]) -> String {
+    let mut out = vec![0xEE; room];
+    let joined = join::join(s, ends, &mut out, at);
+    let value = match joined {
+        join::Joined::Done(n) | join::Joined::NotUtf8(n) | join::Joined::Bad(n) => Some(n),
+        join::Joined::Beyond | join::Joined::Wrong | join::Joined::Short | join::Joined::Few => {
+            None
+        }
+    };
+    format!("{} {}", said(joined.number(), value), hex(&out))
+}

@@ -1,0 +1,58 @@
+-- Each arm tells what its answer says on paper. Assumes nothing.
+use borrow.Author.Needs.{needs}
+use Rattle.genotype.proofs.CaseLaws.{cases}
+use Rattle.exports.proofs.KnownLaws.{allele-known}
+use Rattle.exports.proofs.ToldLaws.{arms}
+use Rattle.exports.proofs.genotypes.tell_step.Statement.{statement}
+use Rattle.exports.proofs.genotypes.tell_step.Tie as tie
+
+enum-known-step : tie.Need-enum-known-step
+enum-known-step c = search needs
+
+tell-allele-requires : tie.Need-tell-allele-requires
+tell-allele-requires c κs = search needs
+
+enum-told : tie.Need-enum-told
+enum-told c = search needs
+
+tell-none-requires : tie.Need-tell-none-requires
+tell-none-requires c κs = search needs
+
+enum-told-2 : tie.Need-enum-told-2
+enum-told-2 c = search needs
+
+tell-none-requires-2 : tie.Need-tell-none-requires-2
+tell-none-requires-2 c κs = search needs
+
+enum-told-3 : tie.Need-enum-told-3
+enum-told-3 c = search needs
+
+tell-none-requires-3 : tie.Need-tell-none-requires-3
+tell-none-requires-3 c κs = search needs
+
+same-length : tie.Need-same-length
+same-length c = search needs
+
+returns : tie.Need-returns
+returns c = search (needs, arms, cases, allele-known)
+
+same-length-2 : tie.Need-same-length-2
+same-length-2 c = search needs
+
+returns-2 : tie.Need-returns-2
+returns-2 c = search (needs, arms, cases)
+
+same-length-3 : tie.Need-same-length-3
+same-length-3 c = search needs
+
+returns-3 : tie.Need-returns-3
+returns-3 c = search (needs, arms, cases)
+
+same-length-4 : tie.Need-same-length-4
+same-length-4 c = search needs
+
+returns-4 : tie.Need-returns-4
+returns-4 c = search (needs, arms, cases)
+
+pub tell-step-spec : {M : Type 1} → statement M
+tell-step-spec = tie.close (tie.spec enum-known-step tell-allele-requires enum-told tell-none-requires enum-told-2 tell-none-requires-2 enum-told-3 tell-none-requires-3 same-length returns same-length-2 returns-2 same-length-3 returns-3 same-length-4 returns-4)

@@ -1,0 +1,59 @@
+-- Each arm tells what its answer says on paper. Assumes nothing.
+use borrow.Author.Needs.{needs}
+use Rattle.text.proofs.CaseLaws.{cases}
+use Rattle.exports.proofs.ToldLaws.{arms}
+use Rattle.exports.proofs.leaves.tell_space.Statement.{statement}
+use Rattle.exports.proofs.leaves.tell_space.Tie as tie
+
+enum-told : tie.Need-enum-told
+enum-told c = search needs
+
+tell-none-requires : tie.Need-tell-none-requires
+tell-none-requires c κs = search needs
+
+enum-told-2 : tie.Need-enum-told-2
+enum-told-2 c = search needs
+
+tell-one-requires : tie.Need-tell-one-requires
+tell-one-requires c κs = search needs
+
+enum-told-3 : tie.Need-enum-told-3
+enum-told-3 c = search needs
+
+tell-one-requires-2 : tie.Need-tell-one-requires-2
+tell-one-requires-2 c κs = search needs
+
+same-length : tie.Need-same-length
+same-length c = search needs
+
+returns : tie.Need-returns
+returns c = search (needs, arms, cases)
+
+same-length-2 : tie.Need-same-length-2
+same-length-2 c = search needs
+
+returns-2 : tie.Need-returns-2
+returns-2 c = search (needs, arms, cases)
+
+same-length-3 : tie.Need-same-length-3
+same-length-3 c = search needs
+
+returns-3 : tie.Need-returns-3
+returns-3 c = search (needs, arms, cases)
+
+pub tell-space-spec : {M : Type 1} → statement M
+tell-space-spec =
+    tie.close
+    (tie.spec
+    enum-told
+    tell-none-requires
+    enum-told-2
+    tell-one-requires
+    enum-told-3
+    tell-one-requires-2
+    same-length
+    returns
+    same-length-2
+    returns-2
+    same-length-3
+    returns-3)

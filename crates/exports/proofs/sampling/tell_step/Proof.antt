@@ -1,0 +1,79 @@
+-- Each arm tells what its answer says on paper. Assumes nothing.
+use borrow.Author.Needs.{needs}
+use Rattle.pieces.proofs.CaseLaws.{cases}
+use Rattle.exports.proofs.ToldLaws.{arms}
+use Rattle.exports.proofs.sampling.tell_step.Statement.{statement}
+use Rattle.exports.proofs.sampling.tell_step.Tie as tie
+
+enum-known-step : tie.Need-enum-known-step
+enum-known-step c = search needs
+
+slice-aggregate-tell : tie.Need-slice-aggregate-tell
+slice-aggregate-tell c = search needs
+
+tell-requires : tie.Need-tell-requires
+tell-requires c κs = search needs
+
+enum-known-step-2 : tie.Need-enum-known-step-2
+enum-known-step-2 c = search needs
+
+tell-place-requires : tie.Need-tell-place-requires
+tell-place-requires c κs = search needs
+
+enum-told : tie.Need-enum-told
+enum-told c = search needs
+
+tell-none-requires : tie.Need-tell-none-requires
+tell-none-requires c κs = search needs
+
+enum-told-2 : tie.Need-enum-told-2
+enum-told-2 c = search needs
+
+tell-none-requires-2 : tie.Need-tell-none-requires-2
+tell-none-requires-2 c κs = search needs
+
+same-length : tie.Need-same-length
+same-length c = search needs
+
+returns : tie.Need-returns
+returns c = search (needs, arms, cases)
+
+same-length-2 : tie.Need-same-length-2
+same-length-2 c = search needs
+
+returns-2 : tie.Need-returns-2
+returns-2 c = search (needs, arms, cases)
+
+same-length-3 : tie.Need-same-length-3
+same-length-3 c = search needs
+
+returns-3 : tie.Need-returns-3
+returns-3 c = search (needs, arms, cases)
+
+same-length-4 : tie.Need-same-length-4
+same-length-4 c = search needs
+
+returns-4 : tie.Need-returns-4
+returns-4 c = search (needs, arms, cases)
+
+pub tell-step-spec : {M : Type 1} → statement M
+tell-step-spec =
+    tie.close
+    (tie.spec
+    enum-known-step
+    slice-aggregate-tell
+    tell-requires
+    enum-known-step-2
+    tell-place-requires
+    enum-told
+    tell-none-requires
+    enum-told-2
+    tell-none-requires-2
+    same-length
+    returns
+    same-length-2
+    returns-2
+    same-length-3
+    returns-3
+    same-length-4
+    returns-4)

@@ -1,0 +1,4 @@
+pub mod Told
+pub mod Places
+pub mod Writing
+pub mod Reading

@@ -1,0 +1,30 @@
+-- Fields by number, and places as two numbers. Assumes nothing.
+use Prim.Native.Nat.{ℕ}
+use mathlib.Core.List.{List, [], _∷_}
+use lib.ListN.{getD}
+use lib.Dec.{leb}
+use Rattle.text.specs.Pick.{pick}
+use Rattle.text.specs.Answer.{Answer, says}
+use Rattle.text.specs.declared.range.Range.{Range}
+use Rattle.line.specs.Fields.{textAnswer}
+use Rattle.line.specs.declared.fields.Name.{Name}
+use Rattle.line.specs.declared.fields.Name.the-variants as N
+
+abbrev pub rangeAt : ℕ → ℕ → Range
+rangeAt start len = record { start = start; len = len }
+
+-- 0 and the place
+abbrev pub atPlace : Range → Answer
+atPlace r = says 0 (r .start ∷ r .len ∷ [])
+
+-- the fields, in the order of a line's columns; the samples come after them
+abbrev pub names : List Name
+names = N.Chrom ∷ N.Pos ∷ N.Id ∷ N.Reference ∷ N.Alt ∷ N.Qual ∷ N.Filter ∷ N.Info ∷ N.Format ∷ []
+
+-- the field with this number, counted from 0
+unfoldable pub nameOf : ℕ → Name
+nameOf n = getD names n N.Samples
+
+-- 10 where there is no such field
+unfoldable pub namedAnswer : List ℕ → ℕ → Range → Answer
+namedAnswer s n r = pick (leb n 9) (textAnswer s (nameOf n) r) (says 10 [])

@@ -1,0 +1,56 @@
+-- What each answer says on paper, for who knows which it is. Assumes nothing.
+use Prim.Native.Nat.{ℕ}
+use mathlib.Core.Path.{_≡_}
+use mathlib.Core.List.{[], _∷_}
+use Rattle.text.specs.Answer.{says}
+use Rattle.genotype.specs.Reading.{mark}
+use Rattle.genotype.specs.Paper.{stepPaper, readPaper}
+use Rattle.genotype.specs.declared.allele.Allele.{Allele}
+use Rattle.genotype.specs.declared.step.Step.{Step}
+use Rattle.genotype.specs.declared.step.Step.the-variants as S
+use Rattle.genotype.specs.declared.read.Read.{Read}
+use Rattle.genotype.specs.declared.read.Read.the-variants as R
+
+module _ {x : Step} where
+  pub step-found : {a : Allele} {next : ℕ} → x ≡ S.Found a next → stepPaper x ≡ says 0 (next ∷ a .number ∷ mark (a .missing) ∷ mark (a .phased) ∷ [])
+  unfolding stepPaper
+  step-found e = rw e
+
+  pub step-beyond : x ≡ S.Beyond → stepPaper x ≡ says 6 []
+  unfolding stepPaper
+  step-beyond e = rw e
+
+  pub step-nothing : x ≡ S.Nothing → stepPaper x ≡ says 10 []
+  unfolding stepPaper
+  step-nothing e = rw e
+
+  pub step-bad : x ≡ S.Bad → stepPaper x ≡ says 12 []
+  unfolding stepPaper
+  step-bad e = rw e
+
+module _ {x : Read} where
+  pub read-done : {n : ℕ} → x ≡ R.Done n → readPaper x ≡ says 0 (n ∷ [])
+  unfolding readPaper
+  read-done e = rw e
+
+  pub read-empty : x ≡ R.Empty → readPaper x ≡ says 11 []
+  unfolding readPaper
+  read-empty e = rw e
+
+  pub read-bad : {n : ℕ} → x ≡ R.Bad n → readPaper x ≡ says 12 (n ∷ [])
+  unfolding readPaper
+  read-bad e = rw e
+
+  pub read-lengths : x ≡ R.Lengths → readPaper x ≡ says 16 []
+  unfolding readPaper
+  read-lengths e = rw e
+
+  pub read-short : x ≡ R.Short → readPaper x ≡ says 17 []
+  unfolding readPaper
+  read-short e = rw e
+
+  pub read-above : {n : ℕ} → x ≡ R.Above n → readPaper x ≡ says 20 (n ∷ [])
+  unfolding readPaper
+  read-above e = rw e
+
+pub ruleset cases = (step-found, step-beyond, step-nothing, step-bad, read-done, read-empty, read-bad, read-lengths, read-short, read-above)

@@ -1,0 +1,78 @@
+-- What each answer says on paper, for who knows which it is. Assumes nothing.
+use Prim.Native.Nat.{ℕ}
+use mathlib.Core.Path.{_≡_}
+use mathlib.Core.List.{[], _∷_}
+use Rattle.text.specs.Answer.{says}
+use Rattle.text.specs.declared.range.Range.{Range}
+use Rattle.line.specs.Fields.{rangeOf}
+use Rattle.line.specs.Paper.{recordPlaces, readPaper, fieldPaper, positionPaper}
+use Rattle.line.specs.declared.read.Record.{Record}
+use Rattle.line.specs.declared.read.Read.{Read}
+use Rattle.line.specs.declared.read.Read.the-variants as R
+use Rattle.line.specs.declared.fields.Name.the-variants as N
+use Rattle.line.specs.declared.fields.Text.{Text}
+use Rattle.line.specs.declared.fields.Text.the-variants as F
+use Rattle.line.specs.declared.pos.Position.{Position}
+use Rattle.line.specs.declared.pos.Position.the-variants as P
+
+module _ {x : Read} where
+  pub read-record : {r : Record} {next : ℕ} → x ≡ R.Line r next → readPaper x ≡ says 0 (next ∷ recordPlaces r)
+  unfolding readPaper
+  read-record e = rw e
+
+  -- the same, place by place
+  pub read-line : {r : Record} {next : ℕ} → x ≡ R.Line r next → readPaper x ≡ says 0 (next ∷ rangeOf r N.Chrom .start ∷ rangeOf r N.Chrom .len ∷ rangeOf r N.Pos .start ∷ rangeOf r N.Pos .len ∷ rangeOf r N.Id .start ∷ rangeOf r N.Id .len ∷ rangeOf r N.Reference .start ∷ rangeOf r N.Reference .len ∷ rangeOf r N.Alt .start ∷ rangeOf r N.Alt .len ∷ rangeOf r N.Qual .start ∷ rangeOf r N.Qual .len ∷ rangeOf r N.Filter .start ∷ rangeOf r N.Filter .len ∷ rangeOf r N.Info .start ∷ rangeOf r N.Info .len ∷ rangeOf r N.Format .start ∷ rangeOf r N.Format .len ∷ rangeOf r N.Samples .start ∷ rangeOf r N.Samples .len ∷ [])
+  unfolding readPaper recordPlaces rangeOf
+  read-line e = rw e
+
+  pub read-end : {next : ℕ} → x ≡ R.End next → readPaper x ≡ says 1 (next ∷ [])
+  unfolding readPaper
+  read-end e = rw e
+
+  pub read-empty : {next : ℕ} → x ≡ R.Empty next → readPaper x ≡ says 2 (next ∷ [])
+  unfolding readPaper
+  read-empty e = rw e
+
+  pub read-fed : {next : ℕ} → x ≡ R.Fed next → readPaper x ≡ says 3 (next ∷ [])
+  unfolding readPaper
+  read-fed e = rw e
+
+  pub read-cut : {next : ℕ} → x ≡ R.Cut next → readPaper x ≡ says 4 (next ∷ [])
+  unfolding readPaper
+  read-cut e = rw e
+
+  pub read-broken : {next : ℕ} → x ≡ R.NotUtf8 next → readPaper x ≡ says 5 (next ∷ [])
+  unfolding readPaper
+  read-broken e = rw e
+
+  pub read-beyond : {next : ℕ} → x ≡ R.Beyond next → readPaper x ≡ says 6 (next ∷ [])
+  unfolding readPaper
+  read-beyond e = rw e
+
+module _ {x : Text} where
+  pub text-at : {r : Range} → x ≡ F.At r → fieldPaper x ≡ says 0 (r .start ∷ r .len ∷ [])
+  unfolding fieldPaper
+  text-at e = rw e
+
+  pub text-absent : x ≡ F.Absent → fieldPaper x ≡ says 0 []
+  unfolding fieldPaper
+  text-absent e = rw e
+
+  pub text-beyond : x ≡ F.Beyond → fieldPaper x ≡ says 6 []
+  unfolding fieldPaper
+  text-beyond e = rw e
+
+module _ {x : Position} where
+  pub position-at : {n : ℕ} → x ≡ P.At n → positionPaper x ≡ says 0 (n ∷ [])
+  unfolding positionPaper
+  position-at e = rw e
+
+  pub position-nowhere : x ≡ P.Nowhere → positionPaper x ≡ says 0 []
+  unfolding positionPaper
+  position-nowhere e = rw e
+
+  pub position-bad : x ≡ P.Bad → positionPaper x ≡ says 21 []
+  unfolding positionPaper
+  position-bad e = rw e
+
+pub ruleset cases = (read-line, read-end, read-empty, read-fed, read-cut, read-broken, read-beyond, text-at, text-absent, text-beyond, position-at, position-nowhere, position-bad)
