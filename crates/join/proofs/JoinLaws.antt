@@ -11,7 +11,7 @@ use mir.Syntax.{w64}
 use mir.Val.{Fits}
 use lib.ListN.{length, getD, take, drop, set, length-append, length-drop}
 use lib.Dec.{leb, ltb, eqb}
-use borrow.Author.Tests.{eqb-true, eqb-false, le-leb, lt-leb, eq-eqb, ne-eqb, not-true, not-false}
+use borrow.Author.Tests.{eqb-true, eqb-false, lt-ltb, le-ltb, le-leb, lt-leb, eq-eqb, ne-eqb, not-true, not-false}
 use borrow.Rule.Slice.PartMut.{putMid}
 use Rattle.text.specs.Pick.{pick}
 use Rattle.text.specs.Answer.{Answer, says, numberOf}
@@ -32,7 +32,7 @@ use Rattle.pieces.specs.Paper.{endsPaper}
 use Rattle.pieces.specs.declared.entries.Ends.{Ends}
 use Rattle.pieces.specs.declared.entries.Ends.the-variants as N
 use Rattle.pieces.specs.declared.joined.Joined.{Joined as Put}
-use Rattle.pieces.proofs.CountLaws.{lacks-is}
+use Rattle.pieces.proofs.CountLaws.{lacks-yes, lacks-no}
 use Rattle.pieces.proofs.EntryLaws.{start-later, entries-length, entry-here, entry-past, ends-tell}
 use Rattle.pieces.proofs.PlaceLaws as place
 use Rattle.pieces.proofs.JoinedLaws.{list-length, joined-fits}
@@ -46,11 +46,11 @@ use Rattle.join.proofs.columns.Joined.{the-type}
 
 -- a byte stands in a text where it is counted at least once
 pub count-held : (b : ℕ) (s : List ℕ) {n : ℕ} → n ≡ countOf b s → ltb 0 n ≡ not (lacks b s)
-count-held b s {n} e = rw (lacks-is b s e) (by n)
+count-held b s {n} e = by (decLe n 0)
   where
-    by : (n : ℕ) → ltb 0 n ≡ not (eqb n 0)
-    by zero = refl
-    by (suc n) = refl
+    by : Dec (n ≤ 0) → ltb 0 n ≡ not (lacks b s)
+    by (yes h) = rw (lacks-yes b s e h) (le-ltb 0 n h)
+    by (no h) = rw (lacks-no b s e (omega arith)) (lt-ltb 0 n (omega arith))
 
 module _ (c : List ℕ) where
   pub bad-empty : length c ≡ 0 → true ≡ isBad c
