@@ -15,6 +15,7 @@ use Rattle.text.specs.Pick.{pick}
 use Rattle.text.specs.Bytes.{isEmpty, endsIn}
 use Rattle.text.proofs.Lists.{here, rest-all}
 use Rattle.text.proofs.ByteLaws.{none-empty, some-empty, ends-none, ends-some, ends-at}
+use Rattle.pieces.specs.Block.{Quiet}
 use Rattle.pieces.specs.Pieces.{split}
 use Rattle.pieces.specs.Demands.{Free}
 use Rattle.pieces.proofs.PieceLaws.{free-nil, free-cons, free-head, free-tail, split-whole, split-append, split-nil}
@@ -42,19 +43,22 @@ search-first h =
       clear = record { no-tab = λ k p q e. omega arith; no-feed = λ k p q e. omega arith };
     }
 
--- what holds of no byte before i, and not of that at i, holds of none before i + 1
-none-more : (s : List ℕ) (b : ℕ) {from i : ℕ} → ((k : ℕ) → from ≤ k → k < i → getD s k 0 ≡ b → ⊥) → (getD s i 0 ≡ b → ⊥)
-    → (k : ℕ) → from ≤ k → k < i + 1 → getD s k 0 ≡ b → ⊥
-none-more s b {from} {i} f n k p q e =
-    elim (decLt k i) [ yes l ↦ f k p l e | no l ↦ let z : k ≡ i = omega arith in n (rw z at e) ]
+-- what holds of no byte before i, not of that at i, and of none past it before r, holds of none before r
+none-more : (s : List ℕ) (b : ℕ) {from i r : ℕ} → ((k : ℕ) → from ≤ k → k < i → getD s k 0 ≡ b → ⊥) → (getD s i 0 ≡ b → ⊥)
+    → ((k : ℕ) → i + 1 ≤ k → k < r → getD s k 0 ≡ b → ⊥) → (k : ℕ) → from ≤ k → k < r → getD s k 0 ≡ b → ⊥
+none-more s b {from} {i} f n later k p q e =
+    elim (decLt k i) [
+      | yes l ↦ f k p l e
+      | no l ↦ elim (decLt i k) [ yes m ↦ later k (omega arith) q e | no m ↦ let z : k ≡ i = omega arith in n (rw z at e) ]
+    ]
 
 module _ {s : List ℕ} {from i : ℕ} (g : Searching s from i) where
-  pub search-turn : i < length s → (getD s i 0 ≡ 9 → ⊥) → (getD s i 0 ≡ 10 → ⊥) → Searching s from (i + 1)
-  search-turn h n m =
+  pub search-turn : {r : ℕ} → (getD s i 0 ≡ 9 → ⊥) → (getD s i 0 ≡ 10 → ⊥) → Quiet 9 10 s (i + 1) r → Searching s from r
+  search-turn n m q =
       record {
-        after = omega arith;
-        within = omega arith;
-        clear = record { no-tab = none-more s 9 (g .clear .no-tab) n; no-feed = none-more s 10 (g .clear .no-feed) m };
+        after = omega (arith, q .after);
+        within = q .within;
+        clear = record { no-tab = none-more s 9 (g .clear .no-tab) n (q .no-first); no-feed = none-more s 10 (g .clear .no-feed) m (q .no-second) };
       }
 
   pub search-found : {b : ℕ} → i < length s → getD s i 0 ≡ b → Stopped s from i b

@@ -1,12 +1,14 @@
 // Reading a line: where its columns end, whether they are in order, and the places of its fields.
+use pieces::block::past_quiet;
 use pieces::step::Step;
 use pieces::step::piece_at;
 use text::range::Range;
 use text::utf8::Utf8;
 use text::utf8::check_utf8;
 ghost use mathlib.Core.Path.{_≡_};
-ghost use Prim.Native.Nat.{_≤_, _<_};
+ghost use Prim.Native.Nat.{_≤_, _<_, _+_};
 ghost use lib.ListN.{length, drop};
+ghost use Rattle.pieces.specs.Block.{Quiet};
 ghost use Rattle.pieces.specs.Pieces.{split};
 ghost use Rattle.line.specs.Line.{required, lineOf, fieldPlaces, lineAnswer, readAnswer};
 ghost use Rattle.line.specs.Paper.{recordPlaces, readPaper};
@@ -76,8 +78,21 @@ fn column_end(s: &[u8], from: usize) -> Stop
         if b == 10 {
             break Stop::Feed(i);
         }
-        i += 1;
+        i = onward(s, from, i);
     }
+}
+
+// Where to look after the place i of a column that starts at `from`: at the next; past its first 32 bytes, behind all
+// blocks without tab and LF.
+fn onward(s: &[u8], from: usize, i: usize) -> usize
+    requires { ⌜ from ≤ i ⌝ }
+    requires { ⌜ i < length (now s) ⌝ }
+    ensures { λ r. ⌜ Quiet 9 10 (now (s .entry)) (i + 1) r ⌝ }
+{
+    if i - from == 31 {
+        return past_quiet(s, 9, 10, i + 1);
+    }
+    i + 1
 }
 
 // Columns 1 to 7 and FORMAT must be ended by a tab.

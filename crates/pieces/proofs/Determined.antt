@@ -4,6 +4,7 @@ use mathlib.Core.Path.{_≡_, sym, _∙_}
 use mathlib.Core.List.{List}
 use lib.ListN.{length}
 use Rattle.pieces.specs.Pieces.{pieces, countOf, stepAnswer}
+use Rattle.pieces.specs.Block.{pastQuiet}
 use Rattle.pieces.specs.Nth.{nthAnswer}
 use Rattle.pieces.specs.Entries.{endsAnswer, entryAnswer}
 use Rattle.pieces.specs.Joined.{JoinsList}
@@ -20,6 +21,9 @@ count-determined b t r r′ e f = e ∙ sym f
 
 pub count-pieces-determined : (b : ℕ) (t : List ℕ) (r r′ : ℕ) → r ≡ length (pieces b t) → r′ ≡ length (pieces b t) → r ≡ r′
 count-pieces-determined b t r r′ e f = e ∙ sym f
+
+pub past-determined : (a b : ℕ) (t : List ℕ) (at r r′ : ℕ) → r ≡ pastQuiet a b t at → r′ ≡ pastQuiet a b t at → r ≡ r′
+past-determined a b t at r r′ e f = e ∙ sym f
 
 pub step-determined : (b : ℕ) (t : List ℕ) (at : ℕ) (r r′ : Step) → stepPaper r ≡ stepAnswer b t at → stepPaper r′ ≡ stepAnswer b t at → r ≡ r′
 step-determined b t at r r′ e f = step-paper-injective r r′ (e ∙ sym f)

@@ -1,6 +1,7 @@
 pub mod PaperLaws
 pub mod PieceLaws
 pub mod CountLaws
+pub mod BlockLaws
 pub mod StepLaws
 pub mod NthLaws
 pub mod NumberLaws

@@ -1,4 +1,5 @@
 // A text as a list: of the pieces between separators, and of the entries that their ends give.
+pub mod block;
 pub mod count;
 pub mod entries;
 pub mod joined;

@@ -1,8 +1,10 @@
 // The pieces of a text between separators, one step from a place at a time.
+use crate::block::past_quiet;
 use text::range::Range;
 ghost use mathlib.Core.Path.{_≡_};
-ghost use Prim.Native.Nat.{_≤_, _+_};
+ghost use Prim.Native.Nat.{_≤_, _<_, _+_};
 ghost use lib.ListN.{length, drop};
+ghost use Rattle.pieces.specs.Block.{Quiet};
 ghost use Rattle.pieces.specs.Pieces.{firstOf, split, stepAnswer};
 ghost use Rattle.pieces.specs.Paper.{stepPaper};
 
@@ -29,9 +31,22 @@ fn piece_end(s: &[u8], separator: u8, from: usize) -> usize
         if s[i] == separator {
             return i;
         }
-        i += 1;
+        i = onward(s, separator, from, i);
     }
     i
+}
+
+// Where to look after the place i of a piece that starts at `from`: at the next; past its first 32 bytes, behind all
+// blocks without a separator.
+fn onward(s: &[u8], separator: u8, from: usize, i: usize) -> usize
+    requires { ⌜ from ≤ i ⌝ }
+    requires { ⌜ i < length (now s) ⌝ }
+    ensures { λ r. ⌜ Quiet separator separator (now (s .entry)) (i + 1) r ⌝ }
+{
+    if i - from == 31 {
+        return past_quiet(s, separator, separator, i + 1);
+    }
+    i + 1
 }
 
 // The piece that starts at the place `at`.

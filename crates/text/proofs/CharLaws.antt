@@ -7,7 +7,7 @@ use mathlib.Core.Option.{Option, some, none}
 use native.Mathlib.Omega.{arith}
 use native.Mathlib.Numerals.{unary-clauses}
 use native.Mathlib.Decide.{ℕ-discrete}
-use lib.ListN.{length, take, drop, length-drop, length-take, drop-of-length-le}
+use lib.ListN.{length, take, drop, length-drop, length-take}
 use lib.Dec.{leb, eqb}
 use lib.Seq.{take-at, drop-drop}
 use borrow.Author.Tests.{eqb-true, leb-true, lt-leb}
@@ -174,7 +174,7 @@ chars-next [] n e z = absurd (z (sym e))
 chars-next (a ∷ s) zero e z = absurd (z refl)
 chars-next (a ∷ s) (suc n) e z = rw (e, charsFrom) (ap (before (a ∷ take n s)) (chars-passed n s))
 
-there-before : (c : List ℕ) (o : Option (List (List ℕ))) → there (before c o) ≡ there o
+pub there-before : (c : List ℕ) (o : Option (List (List ℕ))) → there (before c o) ≡ there o
 unfolding there before
 there-before c none = refl
 there-before c (some cs) = refl
@@ -195,33 +195,6 @@ module _ {s : List ℕ} {i n : ℕ} (h : i < length s) (g : CharAt s i n) where
   pub char-none : n ≡ 0 → charsOf (drop i s) ≡ none
   char-none z = chars-stop (drop i s) (let d = length-drop i s in omega arith) (sym (g .size) ∙ z)
 
--- ---- the check's loop
-
--- what is left from i on is UTF-8 exactly when the whole is
-pub record Checking (s : List ℕ) (i : ℕ) : Type 0 where
-  pub reached : i ≤ length s
-  pub same : isUtf8 (drop i s) ≡ isUtf8 s
-
-pub check-first : (s : List ℕ) → Checking s 0
-check-first s = record { reached = omega arith; same = refl }
-
-module _ {s : List ℕ} {i n : ℕ} (c : Checking s i) (h : i < length s) (g : CharAt s i n) where
-  pub check-turn : (n ≡ 0 → ⊥) → Checking s (i + n)
-  unfolding isUtf8
-  check-turn z =
-      record {
-        reached = g .fits;
-        same = sym (there-before (take n (drop i s)) _) ∙ ap there (sym (char-next h g z)) ∙ c .same;
-      }
-
-  pub check-stop : n ≡ 0 → utf8Paper Broken ≡ utf8Answer s
-  unfolding utf8Paper utf8Answer isUtf8 there
-  check-stop z = rw (← c .same, char-none h g z)
-
-pub check-past : {s : List ℕ} {i : ℕ} → Checking s i → length s ≤ i → utf8Paper Text ≡ utf8Answer s
-unfolding utf8Paper utf8Answer isUtf8 there charsOf charsFrom
-check-past {s} c h = rw (← c .same, drop-of-length-le s h)
-
 -- what each verdict tells
 pub told-text : (t : List ℕ) → utf8Paper Text ≡ utf8Answer t → isUtf8 t ≡ true
 unfolding utf8Paper utf8Answer
@@ -238,5 +211,3 @@ told-broken t e = by (isUtf8 t) e
     by : (b : Bool) → says 5 [] ≡ pick b (says 0 []) (says 5 []) → b ≡ false
     by true e = cc
     by false e = refl
-
-pub ruleset laws = (char-at, check-first, check-turn, check-stop, check-past)

@@ -3,6 +3,7 @@ pub mod CopyLaws
 pub mod WrittenLaws
 pub mod Utf8Laws
 pub mod CharLaws
+pub mod RunLaws
 pub mod SameLaws
 pub mod ByteLaws
 pub mod SpaceLaws

@@ -1,10 +1,12 @@
 // Whether bytes are UTF-8.
 ghost use mathlib.Core.Path.{_≡_};
-ghost use Prim.Native.Nat.{_<_};
-ghost use lib.ListN.{length};
+ghost use mathlib.Core.Bool.{_&&_};
+ghost use Prim.Native.Nat.{_+_, _<_, _≤_};
+ghost use lib.ListN.{length, drop};
+ghost use lib.Dec.{ltb};
 ghost use Rattle.text.specs.Utf8.{within, utf8Answer};
 ghost use Rattle.text.specs.Paper.{utf8Paper};
-ghost use Rattle.text.specs.Inner.{Asks, CharAt};
+ghost use Rattle.text.specs.Inner.{Asks, CharAt, RunAt, ascii};
 
 // What a check of UTF-8 finds.
 pub enum Utf8 {
@@ -90,13 +92,64 @@ pub(crate) fn char_size(s: &[u8], at: usize) -> usize
     4
 }
 
-// Judges whether bytes are UTF-8, character by character.
+// Whether a byte is ASCII, and those before it were.
+fn still_ascii(ok: bool, b: u8) -> bool
+    ensures { λ r. ⌜ r ≡ (ok && ltb b 128) ⌝ }
+{
+    if b < 128 { ok } else { false }
+}
+
+// Whether the 32 bytes from `at` on are ASCII. With no way out before the last byte the loop becomes vector code.
+fn is_ascii(s: &[u8], at: usize) -> bool
+    requires { ⌜ at + 32 ≤ length (now s) ⌝ }
+    ensures { λ r. ⌜ r ≡ ascii 32 (drop at (now (s .entry))) ⌝ }
+{
+    let mut ok = true;
+    let mut i = 0;
+    while i < 32 {
+        ok = still_ascii(ok, s[at + i]);
+        i += 1;
+    }
+    ok
+}
+
+// The size of the characters from `at` on, up to the first that ends 32 bytes on or further, or to where none starts.
+fn chars_size(s: &[u8], at: usize) -> usize
+    requires { ⌜ at < length (now s) ⌝ }
+    ensures { λ r. ⌜ RunAt (now (s .entry)) at r ⌝ }
+{
+    let mut n = 0;
+    while n < 32 && n < s.len() - at {
+        let size = char_size(s, at + n);
+        if size == 0 {
+            return n;
+        }
+        n += size;
+    }
+    n
+}
+
+// The size of some characters from `at` on, or 0 where none starts there.
+fn run_size(s: &[u8], at: usize) -> usize
+    requires { ⌜ at < length (now s) ⌝ }
+    ensures { λ r. ⌜ RunAt (now (s .entry)) at r ⌝ }
+{
+    if s.len() - at < 32 {
+        return chars_size(s, at);
+    }
+    if is_ascii(s, at) {
+        return 32;
+    }
+    chars_size(s, at)
+}
+
+// Judges whether bytes are UTF-8, run by run.
 pub fn check_utf8(s: &[u8]) -> Utf8
     ensures { λ r. ⌜ utf8Paper r ≡ utf8Answer (now (s .entry)) ⌝ }
 {
     let mut i = 0;
     while i < s.len() {
-        let n = char_size(s, i);
+        let n = run_size(s, i);
         if n == 0 {
             return Utf8::Broken;
         }

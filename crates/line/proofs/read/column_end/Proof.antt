@@ -1,5 +1,6 @@
 -- `line::read::column_end` meets its contract: neither a tab nor an LF stands before i. Assumes nothing.
 use Prim.Native.Nat.{_-_}
+use native.Mathlib.Omega.{arith}
 use lib.ListN.{length}
 use borrow.Author.Needs.{needs}
 use Rattle.line.proofs.ReadLaws.{Searching, laws}
@@ -18,11 +19,11 @@ loop-holds c = search (needs, laws)
 shared-slice-read-b : tie.Need-shared-slice-read-b Inv-loop μ-loop
 shared-slice-read-b c = search (needs, laws)
 
-add-i : tie.Need-add-i Inv-loop μ-loop
-add-i c = search (needs, laws)
+onward-requires : tie.Need-onward-requires Inv-loop μ-loop
+onward-requires c κs = search (needs, laws)
 
 loop-less : tie.Need-loop-less Inv-loop μ-loop
-loop-less c = search (needs, laws)
+loop-less c = omega (arith, c .onward .ensures .after)
 
 loop-again : tie.Need-loop-again Inv-loop μ-loop
 loop-again c = search (needs, laws)
@@ -44,7 +45,7 @@ column-end-spec =
     μ-loop
     loop-holds
     shared-slice-read-b
-    add-i
+    onward-requires
     loop-less
     loop-again
     returns

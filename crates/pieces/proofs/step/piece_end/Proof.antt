@@ -1,5 +1,6 @@
 -- The invariant says that the first separator from i on is the first from `from` on. Assumes nothing.
 use Prim.Native.Nat.{_-_}
+use native.Mathlib.Omega.{arith}
 use lib.ListN.{length}
 use borrow.Author.Needs.{needs}
 use Rattle.pieces.proofs.StepLaws.{Seeking, laws}
@@ -21,11 +22,11 @@ shared-slice-read-if1 c = search (needs, laws)
 returns : tie.Need-returns Inv-loop μ-loop
 returns c = search (needs, laws)
 
-add-i : tie.Need-add-i Inv-loop μ-loop
-add-i c = search (needs, laws)
+onward-requires : tie.Need-onward-requires Inv-loop μ-loop
+onward-requires c κs = search (needs, laws)
 
 loop-less : tie.Need-loop-less Inv-loop μ-loop
-loop-less c = search (needs, laws)
+loop-less c = omega (arith, c .onward .ensures .after)
 
 loop-again : tie.Need-loop-again Inv-loop μ-loop
 loop-again c = search (needs, laws)
@@ -42,7 +43,7 @@ piece-end-spec =
     loop-holds
     shared-slice-read-if1
     returns
-    add-i
+    onward-requires
     loop-less
     loop-again
     returns-2)

@@ -2,7 +2,7 @@
 use Prim.Native.Nat.{_-_}
 use borrow.Author.Needs.{needs}
 use lib.ListN.{length}
-use Rattle.text.proofs.CharLaws.{Checking, laws}
+use Rattle.text.proofs.RunLaws.{Checking, laws}
 use Rattle.text.proofs.utf8.check_utf8.Statement.{statement}
 use Rattle.text.proofs.utf8.check_utf8.Tie as tie
 
@@ -15,8 +15,8 @@ abbrev μ-loop : tie.MeasureT-loop
 loop-holds : tie.Need-loop-holds Inv-loop μ-loop
 loop-holds c = search (needs, laws)
 
-char-size-requires : tie.Need-char-size-requires Inv-loop μ-loop
-char-size-requires c κs = search (needs, laws)
+run-size-requires : tie.Need-run-size-requires Inv-loop μ-loop
+run-size-requires c κs = search (needs, laws)
 
 returns : tie.Need-returns Inv-loop μ-loop
 returns c = search (needs, laws)
@@ -40,7 +40,7 @@ check-utf8-spec =
     Inv-loop
     μ-loop
     loop-holds
-    char-size-requires
+    run-size-requires
     returns
     add-i
     loop-less
