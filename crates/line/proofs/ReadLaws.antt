@@ -15,9 +15,10 @@ use Rattle.text.specs.Pick.{pick}
 use Rattle.text.specs.Bytes.{isEmpty, endsIn}
 use Rattle.text.proofs.Lists.{here, rest-all}
 use Rattle.text.proofs.ByteLaws.{none-empty, some-empty, ends-none, ends-some, ends-at}
-use Rattle.pieces.specs.Block.{Quiet}
+use Rattle.pieces.specs.Block.{pastQuiet}
 use Rattle.pieces.specs.Pieces.{split}
 use Rattle.pieces.specs.Demands.{Free}
+use Rattle.pieces.proofs.BlockLaws.{past-quiet}
 use Rattle.pieces.proofs.PieceLaws.{free-nil, free-cons, free-head, free-tail, split-whole, split-append, split-nil}
 use Rattle.line.specs.Line.{Ending, feed, return-feed, endingBytes, Line, line, fed, lineOf, fine, refused, required, lastVerdict, verdict}
 use Rattle.line.specs.Inner.{Clear, Stopped, StopsAt, TextEnd, input, none, bare, return, denied, judgement, judgementOf, judgedPaper}
@@ -43,22 +44,19 @@ search-first h =
       clear = record { no-tab = λ k p q e. omega arith; no-feed = λ k p q e. omega arith };
     }
 
--- what holds of no byte before i, not of that at i, and of none past it before r, holds of none before r
-none-more : (s : List ℕ) (b : ℕ) {from i r : ℕ} → ((k : ℕ) → from ≤ k → k < i → getD s k 0 ≡ b → ⊥) → (getD s i 0 ≡ b → ⊥)
-    → ((k : ℕ) → i + 1 ≤ k → k < r → getD s k 0 ≡ b → ⊥) → (k : ℕ) → from ≤ k → k < r → getD s k 0 ≡ b → ⊥
-none-more s b {from} {i} f n later k p q e =
-    elim (decLt k i) [
-      | yes l ↦ f k p l e
-      | no l ↦ elim (decLt i k) [ yes m ↦ later k (omega arith) q e | no m ↦ let z : k ≡ i = omega arith in n (rw z at e) ]
-    ]
+-- what holds of no byte before i, and not of that at i, holds of none before i + 1
+none-more : (s : List ℕ) (b : ℕ) {from i : ℕ} → ((k : ℕ) → from ≤ k → k < i → getD s k 0 ≡ b → ⊥) → (getD s i 0 ≡ b → ⊥)
+    → (k : ℕ) → from ≤ k → k < i + 1 → getD s k 0 ≡ b → ⊥
+none-more s b {from} {i} f n k p q e =
+    elim (decLt k i) [ yes l ↦ f k p l e | no l ↦ let z : k ≡ i = omega arith in n (rw z at e) ]
 
 module _ {s : List ℕ} {from i : ℕ} (g : Searching s from i) where
-  pub search-turn : {r : ℕ} → (getD s i 0 ≡ 9 → ⊥) → (getD s i 0 ≡ 10 → ⊥) → Quiet 9 10 s (i + 1) r → Searching s from r
-  search-turn n m q =
+  pub search-turn : i < length s → (getD s i 0 ≡ 9 → ⊥) → (getD s i 0 ≡ 10 → ⊥) → Searching s from (i + 1)
+  search-turn h n m =
       record {
-        after = omega (arith, q .after);
-        within = q .within;
-        clear = record { no-tab = none-more s 9 (g .clear .no-tab) n (q .no-first); no-feed = none-more s 10 (g .clear .no-feed) m (q .no-second) };
+        after = omega arith;
+        within = omega arith;
+        clear = record { no-tab = none-more s 9 (g .clear .no-tab) n; no-feed = none-more s 10 (g .clear .no-feed) m };
       }
 
   pub search-found : {b : ℕ} → i < length s → getD s i 0 ≡ b → Stopped s from i b
@@ -66,6 +64,32 @@ module _ {s : List ℕ} {from i : ℕ} (g : Searching s from i) where
 
   pub search-past : length s ≤ i → Clear s from (length s)
   search-past h = let e : i ≡ length s = omega arith in rw e at (g .clear)
+
+-- past quiet blocks
+pub search-far : {s : List ℕ} {from r : ℕ} → from ≤ length s → r ≡ pastQuiet 9 10 s from → Searching s from r
+search-far h e =
+    let q = past-quiet h e in
+    record { after = q .after; within = q .within; clear = record { no-tab = q .no-first; no-feed = q .no-second } }
+
+-- what was found from i on is found from `from` on
+none-over : (s : List ℕ) (b : ℕ) {from i r : ℕ} → ((k : ℕ) → from ≤ k → k < i → getD s k 0 ≡ b → ⊥)
+    → ((k : ℕ) → i ≤ k → k < r → getD s k 0 ≡ b → ⊥) → (k : ℕ) → from ≤ k → k < r → getD s k 0 ≡ b → ⊥
+none-over s b {from} {i} f g k p q = elim (decLt k i) [ yes l ↦ f k p l | no l ↦ g k (omega arith) q ]
+
+clear-over : {s : List ℕ} {from i r : ℕ} → Clear s from i → Clear s i r → Clear s from r
+clear-over {s} c d = record { no-tab = none-over s 9 (c .no-tab) (d .no-tab); no-feed = none-over s 10 (c .no-feed) (d .no-feed) }
+
+stopped-over : {s : List ℕ} {from i j b : ℕ} → Searching s from i → Stopped s i j b → Stopped s from j b
+stopped-over g t = record { after = omega (arith, g .after, t .after); within = t .within; is = t .is; clear = clear-over (g .clear) (t .clear) }
+
+pub search-over : {s : List ℕ} {from i : ℕ} (x : Stop) → Searching s from i → StopsAt s i x → StopsAt s from x
+search-over (S.Tab j) g t = stopped-over g t
+search-over (S.Feed j) g t = stopped-over g t
+search-over S.Input g t = clear-over (g .clear) t
+
+-- a place before the near end is one of the input
+pub near-within : {i near n : ℕ} → i < near → near ≤ n → i < n
+near-within h l = omega arith
 
 -- what the search's answer tells, case by case
 module _ {s : List ℕ} {from : ℕ} {x : Stop} (h : StopsAt s from x) where
@@ -345,4 +369,4 @@ module _ {s : List ℕ} {at k start tab : ℕ} (g : Going s at k start) (h : Sto
       }
 
 pub ruleset laws =
-    (search-first, search-turn, search-found, search-past, stop-tab, stop-feed, stop-input, required-low, required-high, end-input, end-none, end-return, end-bare, cut-required, cut-empty, cut-fine, fed-required, fed-empty, fed-fine, judge-first, judge-last, judge-empty, judge-turn)
+    (search-first, search-far, search-over, search-turn, search-found, search-past, stop-tab, stop-feed, stop-input, required-low, required-high, end-input, end-none, end-return, end-bare, cut-required, cut-empty, cut-fine, fed-required, fed-empty, fed-fine, judge-first, judge-last, judge-empty, judge-turn)

@@ -6,9 +6,8 @@ use text::range::Range;
 use text::utf8::Utf8;
 use text::utf8::check_utf8;
 ghost use mathlib.Core.Path.{_≡_};
-ghost use Prim.Native.Nat.{_≤_, _<_, _+_};
+ghost use Prim.Native.Nat.{_≤_, _<_};
 ghost use lib.ListN.{length, drop};
-ghost use Rattle.pieces.specs.Block.{Quiet};
 ghost use Rattle.pieces.specs.Pieces.{split};
 ghost use Rattle.line.specs.Line.{required, lineOf, fieldPlaces, lineAnswer, readAnswer};
 ghost use Rattle.line.specs.Paper.{recordPlaces, readPaper};
@@ -61,12 +60,45 @@ enum Judged {
     Cut(usize),
 }
 
-// Stops at the first tab or LF.
+// The end of the first 32 bytes from `from` on, or the input's where there are fewer.
+fn near_end(from: usize, len: usize) -> usize
+    requires { ⌜ from ≤ len ⌝ }
+    ensures { λ r. ⌜ r ≤ len ⌝ }
+{
+    if len - from < 32 {
+        return len;
+    }
+    from + 32
+}
+
+// Stops at the first tab or LF. Behind 32 bytes it is sought by blocks.
 fn column_end(s: &[u8], from: usize) -> Stop
     requires { ⌜ from ≤ length (now s) ⌝ }
     ensures { λ r. ⌜ StopsAt (now (s .entry)) from r ⌝ }
 {
+    let near = near_end(from, s.len());
     let mut i = from;
+    loop {
+        if i >= near {
+            break far_end(s, i);
+        }
+        let b = s[i];
+        if b == 9 {
+            break Stop::Tab(i);
+        }
+        if b == 10 {
+            break Stop::Feed(i);
+        }
+        i += 1;
+    }
+}
+
+// The same, by blocks first.
+fn far_end(s: &[u8], from: usize) -> Stop
+    requires { ⌜ from ≤ length (now s) ⌝ }
+    ensures { λ r. ⌜ StopsAt (now (s .entry)) from r ⌝ }
+{
+    let mut i = past_quiet(s, 9, 10, from);
     loop {
         if i >= s.len() {
             break Stop::Input;
@@ -78,21 +110,8 @@ fn column_end(s: &[u8], from: usize) -> Stop
         if b == 10 {
             break Stop::Feed(i);
         }
-        i = onward(s, from, i);
+        i += 1;
     }
-}
-
-// Where to look after the place i of a column that starts at `from`: at the next; past its first 32 bytes, behind all
-// blocks without tab and LF.
-fn onward(s: &[u8], from: usize, i: usize) -> usize
-    requires { ⌜ from ≤ i ⌝ }
-    requires { ⌜ i < length (now s) ⌝ }
-    ensures { λ r. ⌜ Quiet 9 10 (now (s .entry)) (i + 1) r ⌝ }
-{
-    if i - from == 31 {
-        return past_quiet(s, 9, 10, i + 1);
-    }
-    i + 1
 }
 
 // Columns 1 to 7 and FORMAT must be ended by a tab.

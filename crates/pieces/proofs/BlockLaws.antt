@@ -12,7 +12,7 @@ use lib.Dec.{leb, eqb}
 use borrow.Author.Tests.{le-leb, lt-leb, leb-true, leb-false, eq-eqb, ne-eqb, eqb-false}
 use Rattle.text.specs.Pick.{pick}
 use Rattle.text.proofs.Lists.{here}
-use Rattle.pieces.specs.Block.{quietLength, pastQuiet, Quiet}
+use Rattle.pieces.specs.Block.{quietLength, pastQuiet}
 
 -- ---- a byte that is one of the two
 
@@ -138,6 +138,13 @@ module _ {a b : ℕ} {s : List ℕ} {at i : ℕ} (g : Passing a b s at i) where
 
 -- ---- for callers
 
+-- no a and no b from one place of a text up to another
+pub record Quiet (a b : ℕ) (s : List ℕ) (from end : ℕ) : Type 0 where
+  pub after : from ≤ end
+  pub within : end ≤ length s
+  pub no-first : (k : ℕ) → from ≤ k → k < end → getD s k 0 ≡ a → ⊥
+  pub no-second : (k : ℕ) → from ≤ k → k < end → getD s k 0 ≡ b → ⊥
+
 -- the same from a later place on
 pub quiet-later : {a b : ℕ} {s : List ℕ} {from from′ end : ℕ} → Quiet a b s from end → from ≤ from′ → from′ ≤ end → Quiet a b s from′ end
 quiet-later q h l =
@@ -147,10 +154,6 @@ quiet-later q h l =
       no-first = λ k p. q .no-first k (omega arith);
       no-second = λ k p. q .no-second k (omega arith);
     }
-
--- the place alone
-pub quiet-nothing : {a b : ℕ} {s : List ℕ} {at : ℕ} → at ≤ length s → Quiet a b s at at
-quiet-nothing h = record { after = omega arith; within = h; no-first = λ k p l. absurd (omega arith); no-second = λ k p l. absurd (omega arith) }
 
 -- up to the place past the blocks
 pub past-quiet : {a b : ℕ} {s : List ℕ} {at r : ℕ} → at ≤ length s → r ≡ pastQuiet a b s at → Quiet a b s at r
@@ -165,4 +168,4 @@ past-quiet {a} {b} {s} {at} {r} h e =
         let z : at + (k - at) ≡ k = omega arith in
         rw (getD-drop, z) at (quiet-none a b (drop at s) (k - at) (omega arith))
 
-pub ruleset laws = (struck-first, struck-second, struck-none, block-short, block-beyond, gather-first, gather-turn, gather-past, pass-first, pass-turn, pass-end, quiet-nothing)
+pub ruleset laws = (struck-first, struck-second, struck-none, block-short, block-beyond, gather-first, gather-turn, gather-past, pass-first, pass-turn, pass-end)

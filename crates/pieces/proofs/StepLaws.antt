@@ -15,26 +15,25 @@ use Rattle.text.specs.Answer.{says}
 use Rattle.text.specs.Range.{cut}
 use Rattle.text.specs.declared.range.Range.{Range}
 use Rattle.text.proofs.Lists.{here, cut-is}
-use Rattle.pieces.specs.Block.{Quiet}
+use Rattle.pieces.specs.Block.{pastQuiet}
 use Rattle.pieces.specs.Pieces.{firstOf, longer, split, pieceAnswer, innerAnswer, stepAnswer}
 use Rattle.pieces.specs.Paper.{stepPaper}
 use Rattle.pieces.specs.declared.step.Step.{Step}
 use Rattle.pieces.specs.declared.step.Step.the-variants as S
 use Rattle.pieces.proofs.step.Step.{the-type}
 use Rattle.pieces.proofs.PaperLaws.{step-paper-injective}
-use Rattle.pieces.proofs.BlockLaws.{quiet-later}
+use Rattle.pieces.proofs.BlockLaws.{Quiet, quiet-later, past-quiet}
 use Rattle.pieces.proofs.PieceLaws.{split-mark, split-byte, split-nil, one-text, more-text, more-rest}
 
 -- ---- the first separator
 
 -- the first separator from i on is the first from `from` on
 pub record Seeking (b : ℕ) (s : List ℕ) (from i : ℕ) : Type 0 where
-  pub after : from ≤ i
   pub within : i ≤ length s
   pub same : i + length (firstOf (split b (drop i s))) ≡ from + length (firstOf (split b (drop from s)))
 
 pub seek-first : {b : ℕ} {s : List ℕ} {from : ℕ} → from ≤ length s → Seeking b s from from
-seek-first h = record { after = omega arith; within = h; same = refl }
+seek-first h = record { within = h; same = refl }
 
 first-longer : (a : ℕ) (ps : List (List ℕ)) → length (firstOf (longer a ps)) ≡ suc (length (firstOf ps))
 unfolding firstOf longer
@@ -47,25 +46,30 @@ module _ {b : ℕ} {s : List ℕ} {from i : ℕ} (g : Seeking b s from i) where
   seek-found h e = omega (arith, rw (here s i h, e, split-mark) at (g .same))
 
   pub seek-turn : i < length s → (getD s i 0 ≡ b → ⊥) → Seeking b s from (i + 1)
-  seek-turn h n = record { after = omega arith; within = omega arith; same = omega (arith, rw (here s i h, split-byte _ n, first-longer) at (g .same)) }
+  seek-turn h n = record { within = omega arith; same = omega (arith, rw (here s i h, split-byte _ n, first-longer) at (g .same)) }
 
   pub seek-past : length s ≤ i → i ≡ from + length (firstOf (split b (drop from s)))
   unfolding firstOf split
   seek-past h = omega (arith, rw (drop-of-length-le s h) at (g .same))
 
+  -- the rest of the search, from i on
+  pub seek-rest : {r : ℕ} → r ≡ i + length (firstOf (split b (drop i s))) → r ≡ from + length (firstOf (split b (drop from s)))
+  seek-rest e = e ∙ g .same
+
 -- n bytes that are no separators can be passed at once
 seek-over : {b : ℕ} {s : List ℕ} {from : ℕ} (i n : ℕ) → Seeking b s from i → Quiet b b s i (i + n) → Seeking b s from (i + n)
 seek-over i zero g q = rw add-zero g
-seek-over {b} {s} {from} i (suc n) g q =
+seek-over i (suc n) g q =
     let w = q .within in
     let e : i + 1 + n ≡ i + suc n = omega arith in
     let t = seek-turn g (omega arith) (q .no-first i (omega arith) (omega arith)) in
     rw e at (seek-over (i + 1) n t (rw (← e) at (quiet-later {from′ = i + 1} q (omega arith) (omega arith))))
 
-pub seek-on : {b : ℕ} {s : List ℕ} {from i r : ℕ} → Seeking b s from i → i < length s → (getD s i 0 ≡ b → ⊥) → Quiet b b s (i + 1) r → Seeking b s from r
-seek-on {i = i} {r = r} g h n q =
-    let e : i + 1 + (r - (i + 1)) ≡ r = omega (arith, q .after) in
-    rw e at (seek-over (i + 1) (r - (i + 1)) (seek-turn g h n) (rw (← e) at q))
+pub seek-far : {b : ℕ} {s : List ℕ} {from r : ℕ} → from ≤ length s → r ≡ pastQuiet b b s from → Seeking b s from r
+seek-far {from = from} {r = r} h p =
+    let q = past-quiet h p in
+    let e : from + (r - from) ≡ r = omega (arith, q .after) in
+    rw e at (seek-over from (r - from) (seek-first h) (rw (← e) at q))
 
 -- ---- the pieces from a place on
 
@@ -226,4 +230,4 @@ rest-tells b t at (S.Last r) e w h = absurd (miss (2 ∷ 3 ∷ []) 1 tt h)
 rest-tells b t at S.Nothing e w h = step-tells b t at S.Nothing e
 rest-tells b t at S.Beyond e w h = absurd (let f = step-tells b t at S.Beyond e in omega arith)
 
-pub ruleset laws = (seek-first, seek-found, seek-on, seek-past, finds-beyond, finds-nothing, finds-last, finds-more)
+pub ruleset laws = (seek-first, seek-found, seek-turn, seek-past, seek-rest, seek-far, finds-beyond, finds-nothing, finds-last, finds-more)

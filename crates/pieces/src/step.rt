@@ -2,9 +2,8 @@
 use crate::block::past_quiet;
 use text::range::Range;
 ghost use mathlib.Core.Path.{_≡_};
-ghost use Prim.Native.Nat.{_≤_, _<_, _+_};
+ghost use Prim.Native.Nat.{_≤_, _+_};
 ghost use lib.ListN.{length, drop};
-ghost use Rattle.pieces.specs.Block.{Quiet};
 ghost use Rattle.pieces.specs.Pieces.{firstOf, split, stepAnswer};
 ghost use Rattle.pieces.specs.Paper.{stepPaper};
 
@@ -20,33 +19,48 @@ pub enum Step {
     Beyond,
 }
 
-// The index of the first separator at or after `from`, or the text's length.
+// The end of the first 32 bytes from `from` on, or the text's where there are fewer.
+fn near_end(from: usize, len: usize) -> usize
+    requires { ⌜ from ≤ len ⌝ }
+    ensures { λ r. ⌜ r ≤ len ⌝ }
+{
+    if len - from < 32 {
+        return len;
+    }
+    from + 32
+}
+
+// The index of the first separator at or after `from`, or the text's length. Behind 32 bytes it is sought by blocks.
 fn piece_end(s: &[u8], separator: u8, from: usize) -> usize
     requires { ⌜ from ≤ length (now s) ⌝ }
     ensures { λ r. ⌜ r ≡ from + length (firstOf (split separator (drop from (now (s .entry))))) ⌝ }
     ensures { λ r. ⌜ r ≤ length (now (s .entry)) ⌝ }
 {
+    let near = near_end(from, s.len());
     let mut i = from;
+    while i < near {
+        if s[i] == separator {
+            return i;
+        }
+        i += 1;
+    }
+    far_end(s, separator, i)
+}
+
+// The same, by blocks first.
+fn far_end(s: &[u8], separator: u8, from: usize) -> usize
+    requires { ⌜ from ≤ length (now s) ⌝ }
+    ensures { λ r. ⌜ r ≡ from + length (firstOf (split separator (drop from (now (s .entry))))) ⌝ }
+    ensures { λ r. ⌜ r ≤ length (now (s .entry)) ⌝ }
+{
+    let mut i = past_quiet(s, separator, separator, from);
     while i < s.len() {
         if s[i] == separator {
             return i;
         }
-        i = onward(s, separator, from, i);
+        i += 1;
     }
     i
-}
-
-// Where to look after the place i of a piece that starts at `from`: at the next; past its first 32 bytes, behind all
-// blocks without a separator.
-fn onward(s: &[u8], separator: u8, from: usize, i: usize) -> usize
-    requires { ⌜ from ≤ i ⌝ }
-    requires { ⌜ i < length (now s) ⌝ }
-    ensures { λ r. ⌜ Quiet separator separator (now (s .entry)) (i + 1) r ⌝ }
-{
-    if i - from == 31 {
-        return past_quiet(s, separator, separator, i + 1);
-    }
-    i + 1
 }
 
 // The piece that starts at the place `at`.
