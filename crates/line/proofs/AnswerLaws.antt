@@ -1,11 +1,11 @@
 -- From columns in order to the answer: the line's text is the part of the buffer that is checked and cut. Assumes nothing.
-use Prim.Native.Nat.{ℕ, _+_, _-_, _≤_, _<_}
+use Prim.Native.Nat.{ℕ, zero, suc, _+_, _-_, _≤_, _<_}
 use mathlib.Core.Path.{_≡_, refl, sym, ap, _∙_}
 use mathlib.Core.Bool.{true, false}
-use mathlib.Core.Logic.{⊎-elim}
+use mathlib.Core.Logic.{_⊎_}
 use mathlib.Core.List.{List, [], _∷_, _++_}
 use native.Mathlib.Omega.{arith}
-use lib.ListN.{length, take, drop, length-append, length-drop}
+use lib.ListN.{length, getD, replicate, take, drop, length-append, length-drop}
 use lib.Seq.{take-at, length-take-le}
 use Rattle.text.specs.Answer.{says}
 use Rattle.text.specs.Utf8.{utf8Answer}
@@ -19,7 +19,7 @@ use Rattle.pieces.proofs.PieceLaws.{split-some}
 use Rattle.line.specs.Line.{Ending, endingBytes, Line, line, lineOf, Verdict, fine, refused, verdict, fieldPlaces, allUtf8, judgedAnswer, lineAnswer, readAnswer}
 use Rattle.line.specs.Paper.{recordPlaces, readPaper}
 use Rattle.line.specs.Demands.{ByColumns}
-use Rattle.line.specs.Inner.{accepted, denied, judgement, judgementOf, judgedPaper, InOrder, Enough}
+use Rattle.line.specs.Inner.{accepted, denied, judgement, judgementOf, judgedPaper, InOrder, Unset, Marks, Told}
 use Rattle.line.specs.declared.read.Record.{Record}
 use Rattle.line.specs.declared.read.Read.{Read}
 use Rattle.line.specs.declared.read.Read.the-variants as R
@@ -87,17 +87,12 @@ module _ {s : List ℕ} {at end next : ℕ} (g : InOrder s at end next) where
   text-cut : (o : Ordered s at end next) → drop at (take end s) ≡ o .text
   text-cut o = drop-take s at end order-after (o .within) ∙ o .stands
 
-  pub order-enough : Enough (take end s) at
-  order-enough = by (ordered g)
+  -- it has eight columns, or at least ten
+  pub order-columns : (length (split 9 (drop at (take end s))) ≡ 8) ⊎ (10 ≤ length (split 9 (drop at (take end s))))
+  order-columns = by (ordered g)
     where
-      by : Ordered s at end next → Enough (take end s) at
-      by o =
-          let l = length-take-le end s (o .within) in
-          let a = order-after in
-          let t = ap (λ (x : List ℕ). length (split 9 x)) (text-cut o) in
-          ⊎-elim (λ c. record { reached = omega arith; some = omega arith; count = λ e. omega arith })
-          (λ c. record { reached = omega arith; some = omega arith; count = λ e. omega arith })
-          (fine-count at (split 9 (o .text)) (o .ending) next (split-some 9 (o .text)) (o .order))
+      by : Ordered s at end next → (length (split 9 (drop at (take end s))) ≡ 8) ⊎ (10 ≤ length (split 9 (drop at (take end s))))
+      by o = rw (text-cut o) (fine-count at (split 9 (o .text)) (o .ending) next (split-some 9 (o .text)) (o .order))
 
   -- the answer, by whether the columns are UTF-8
   line-judged : (o : Ordered s at end next) → lineAnswer at (lineOf (drop at s)) ≡ judgedAnswer fine at end (split 9 (o .text)) next
@@ -135,6 +130,19 @@ refused-says at (line t e rest) {k} {next} d = by (verdict 1 at (split 9 t) e (a
     by fine d = cc
     by (refused n p) d = cc
 
+-- no tab is kept before the judge begins
+naught : (n j : ℕ) → getD {A = ℕ} (replicate n 0) j 0 ≡ 0
+naught zero j = refl
+naught (suc n) zero = refl
+naught (suc n) (suc j) = naught n j
+
+pub reads-unset : Unset (0 ∷ 0 ∷ 0 ∷ 0 ∷ 0 ∷ 0 ∷ 0 ∷ 0 ∷ 0 ∷ [])
+reads-unset =
+    record {
+      size = refl;
+      naught = naught 9;
+    }
+
 module _ (s : List ℕ) (at : ℕ) where
   pub reads-beyond : length s < at → readPaper (R.Beyond at) ≡ readAnswer s at
   unfolding readPaper
@@ -156,6 +164,9 @@ module _ (s : List ℕ) (at : ℕ) where
       unfolding judgedPaper
       reads-ordered q = record { reached = h; judged = sym (rw q at j) }
 
+      pub reads-told : {end next : ℕ} {tabs : List ℕ} → Marks s at x tabs → x ≡ J.Fine end next → Told (take end s) at tabs
+      reads-told m q = m .told _ _ q
+
       -- a refusal is the line's
       refusal : {k next : ℕ} → judgedPaper x ≡ denied k next → says k (next ∷ []) ≡ readAnswer s at
       refusal {k} {next} q = by (lineOf (drop at s)) refl (sym j ∙ q) ∙ sym (read-line s at inside)
@@ -175,4 +186,4 @@ module _ (s : List ℕ) (at : ℕ) where
       unfolding readPaper judgedPaper
       reads-cut q = refusal (rw q)
 
-pub ruleset laws = (order-after, order-within, order-count, order-enough, finish-line, finish-broken, reads-beyond, reads-end, reads-line, reads-ordered, reads-empty, reads-fed, reads-cut)
+pub ruleset laws = (order-after, order-within, order-count, finish-line, finish-broken, reads-unset, reads-beyond, reads-end, reads-line, reads-ordered, reads-told, reads-empty, reads-fed, reads-cut)

@@ -3,6 +3,7 @@ pub mod LineLaws
 pub mod ReadLaws
 pub mod PlaceLaws
 pub mod AnswerLaws
+pub mod MarkLaws
 pub mod PosLaws
 pub mod FieldLaws
 pub mod Exact

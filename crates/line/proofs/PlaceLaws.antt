@@ -1,213 +1,132 @@
--- The places of a line's fields, column after column: each step over pieces is one column further. Assumes nothing.
-use Prim.Native.Nat.{ℕ, suc, _+_, _-_, _≤_}
-use mathlib.Core.Path.{_≡_, refl, sym, ap}
-use mathlib.Core.List.{List, [], _∷_}
+-- The places of a line's fields by its first tabs: each tab is one column further. Assumes nothing.
+use Prim.Native.Nat.{ℕ, suc, _+_, _-_, _≤_, _<_}
+use mathlib.Core.Path.{_≡_, refl, sym, ap, _∙_}
+use mathlib.Core.List.{List, [], _∷_, _++_}
 use native.Mathlib.Omega.{arith}
-use lib.ListN.{length, drop, length-drop, drop-of-length-le}
+use lib.ListN.{length, getD, set, take, drop, length-drop}
+use lib.Seq.{length-take-le, set-out}
 use borrow.Author.Tests.{eq-eqb, ne-eqb}
 use Rattle.text.specs.declared.range.Range.{Range}
-use Rattle.text.proofs.Lists.{cut-length}
-use Rattle.pieces.specs.Pieces.{split, stepAnswer}
-use Rattle.pieces.specs.Paper.{stepPaper}
-use Rattle.pieces.specs.declared.step.Step.{Step}
-use Rattle.pieces.specs.declared.step.Step.the-variants as S
-use Rattle.pieces.proofs.PieceLaws.{first-is, free-nil, split-whole, split-some, split-nil, split-joined}
-use Rattle.pieces.proofs.StepLaws.{step-tells, last-length, next-within, next-pieces}
+use Rattle.pieces.specs.Pieces.{split}
+use Rattle.pieces.proofs.PieceLaws.{split-nil, split-joined}
 use Rattle.line.specs.Line.{columnPlaces, leadingPlaces, fieldPlaces}
 use Rattle.line.specs.Paper.{recordPlaces}
-use Rattle.line.specs.Inner.{Placed, Standing, columnsFrom, Next, Enough}
+use Rattle.line.specs.Inner.{Tab, Told, Spans, Rising, rangePlaces, tabPlaces, sevenPlaces}
+use Rattle.line.specs.declared.read.Record.{Record}
 
--- ---- the column at a place
+-- ---- a tab is kept
 
-module _ (t : List ℕ) (start : ℕ) {x : Step} (e : stepPaper x ≡ stepAnswer 9 t start) where
-  pub column-more : {r : Range} {next : ℕ} → x ≡ S.More r next → Placed t start r
-  column-more {r} {next} q =
-      let f = step-tells 9 t start (S.More r next) (rw q at e) in
-      let w : r .start + r .len ≤ length t = omega arith in
-      record {
-        starts = f .start;
-        size = rw (f .pieces, first-is) (sym (cut-length r t w));
-        fits = omega arith;
-        columns = rw (f .start);
-      }
+pub keep-out : (tabs : List ℕ) {k : ℕ} (tab : ℕ) → 1 ≤ k → length tabs < k → tabs ≡ set tabs (k - 1) tab
+keep-out tabs {k} tab h l = sym (set-out tabs (k - 1) tab (omega arith))
 
-  pub column-final : {r : Range} → x ≡ S.Last r → Placed t start r
-  column-final {r} q =
-      let f = step-tells 9 t start (S.Last r) (rw q at e) in
-      let w : r .start + r .len ≤ length t = omega arith in
-      record {
-        starts = f .start;
-        size = rw (f .pieces, first-is) (sym (cut-length r t w));
-        fits = omega arith;
-        columns = rw (f .start);
-      }
+-- ---- one column further
 
-  pub column-none : start ≤ length t → x ≡ S.Nothing → Placed t start (record { start = start; len = 0 })
-  column-none h q =
-      let z = step-tells 9 t start S.Nothing (rw q at e) in
-      record {
-        starts = refl;
-        size = rw (drop-of-length-le t {i = start} (omega arith), split-whole [] free-nil, first-is);
-        fits = omega arith;
-        columns = refl;
-      }
+module _ {t : List ℕ} {from i : ℕ} (p : Tab t from i) where
+  column-length : length (take (i - from) (drop from t)) ≡ i - from
+  column-length = length-take-le (i - from) (drop from t) (let l = length-drop from t in let a = p .after in let w = p .within in omega arith)
 
-  pub column-beyond : start ≤ length t → x ≡ S.Beyond → Placed t start (record { start = start; len = 0 })
-  column-beyond h q = absurd (let f = step-tells 9 t start S.Beyond (rw q at e) in omega arith)
+  column-past : from + (i - from) + 1 ≡ i + 1
+  column-past = let a = p .after in omega arith
 
-pub standing : {t : List ℕ} {start : ℕ} {r : Range} → Placed t start r → Standing t r
-standing {t} {start} {r} p =
-    record {
-      starts = refl;
-      size = rw (p .starts) (p .size);
-      fits = (let e = p .starts in let f = p .fits in omega arith);
-      columns = refl;
-    }
-
--- ---- the column after it
-
--- two columns or more
-record Two (b : ℕ) (s : List ℕ) : Type 0 where
-  first : List ℕ
-  second : List ℕ
-  others : List (List ℕ)
-  are : split b s ≡ first ∷ second ∷ others
-
-two : (b : ℕ) (s : List ℕ) → 2 ≤ length (split b s) → Two b s
-two b s h = by (split b s) refl h
-  where
-    by : (ps : List (List ℕ)) → split b s ≡ ps → 2 ≤ length ps → Two b s
-    by [] e h = absurd (omega arith)
-    by (p ∷ []) e h = absurd (omega arith)
-    by (p ∷ q ∷ ps) e h = record { first = p; second = q; others = ps; are = e }
-
-module _ (t : List ℕ) (r : Range) (p : Standing t r) where
-  -- its length is that of the first piece
-  first-length : {c : List ℕ} {cs : List (List ℕ)} → split 9 (drop (r .start) t) ≡ c ∷ cs → r .len ≡ length c
-  first-length e = rw (e, first-is) at (p .size)
-
-  module _ (h : 2 ≤ columnsFrom t r) where
-    pub next-start : r .start + r .len + 1 ≤ length t
-    next-start =
-        let w = two 9 (drop (r .start) t) h in
-        let l = first-length (w .are) in
-        let n = next-within 9 t (r .start) (w .are) in
-        omega arith
-
-    next-split : (w : Two 9 (drop (r .start) t)) → split 9 (drop (r .start + r .len + 1) t) ≡ w .second ∷ w .others
-    next-split w = rw (first-length (w .are)) (next-pieces 9 t (r .start) (w .are))
-
-    pub next-placed : {r′ : Range} → Placed t (r .start + r .len + 1) r′ → Next t r r′
-    next-placed {r′} q =
-        let w = two 9 (drop (r .start) t) h in
-        record {
-          starts = q .starts;
-          stands = standing q;
-          fewer = (let a = ap length (w .are) in let b = ap length (next-split w) in let c = q .columns in omega arith);
-        }
-
--- ---- the places of all columns
-
--- the last column is alone
-last-alone : (t : List ℕ) (r : Range) → Standing t r → r .start + r .len ≡ length t → columnsFrom t r ≡ 1
-last-alone t r p e = by (split 9 (drop (r .start) t)) refl
-  where
-    by : (cs : List (List ℕ)) → split 9 (drop (r .start) t) ≡ cs → length cs ≡ 1
-    by [] q = absurd (split-nil 9 _ q)
-    by (c ∷ []) q = refl
-    by (c ∷ d ∷ cs) q = absurd (let l = first-length t r p q in let w = next-within 9 t (r .start) q in omega arith)
-
--- any other is not
-pub not-alone : (t : List ℕ) (r : Range) → Standing t r → (r .start + r .len ≡ length t → ⊥) → 2 ≤ columnsFrom t r
-not-alone t r p n = by (split 9 (drop (r .start) t)) refl
-  where
-    by : (cs : List (List ℕ)) → split 9 (drop (r .start) t) ≡ cs → 2 ≤ length cs
-    by [] q = absurd (split-nil 9 _ q)
-    by (c ∷ []) q = absurd (let l = first-length t r p q in let w = last-length 9 t (r .start) q in let f = p .fits in n (omega arith))
-    by (c ∷ d ∷ cs) q = omega arith
-
-module _ {t : List ℕ} {r r′ : Range} (p : Standing t r) (n : Next t r r′) where
-  many : 2 ≤ columnsFrom t r
-  many = let f = n .fewer in let s = split-some 9 (drop (r′ .start) t) in omega arith
-
-  leading-next : (k : ℕ) → leadingPlaces (suc k) (r .start) (split 9 (drop (r .start) t)) ≡ r .start ∷ r .len ∷ leadingPlaces k (r′ .start) (split 9 (drop (r′ .start) t))
+  leading-tab : (n : ℕ) → leadingPlaces (suc n) from (split 9 (drop from t)) ≡ from ∷ (i - from) ∷ leadingPlaces n (i + 1) (split 9 (drop (i + 1) t))
   unfolding leadingPlaces
-  leading-next k = by (two 9 (drop (r .start) t) many)
-    where
-      by : Two 9 (drop (r .start) t)
-          → leadingPlaces (suc k) (r .start) (split 9 (drop (r .start) t)) ≡ r .start ∷ r .len ∷ leadingPlaces k (r′ .start) (split 9 (drop (r′ .start) t))
-      by w = rw (w .are, ← first-length t r p (w .are), n .starts, next-split t r p many w)
+  leading-tab n = rw (p .columns, column-length, column-past)
 
-  column-next : columnPlaces (r .start) (split 9 (drop (r .start) t)) ≡ r .start ∷ r .len ∷ columnPlaces (r′ .start) (split 9 (drop (r′ .start) t))
+  column-tab : columnPlaces from (split 9 (drop from t)) ≡ from ∷ (i - from) ∷ columnPlaces (i + 1) (split 9 (drop (i + 1) t))
   unfolding columnPlaces
-  column-next = by (two 9 (drop (r .start) t) many)
-    where
-      by : Two 9 (drop (r .start) t)
-          → columnPlaces (r .start) (split 9 (drop (r .start) t)) ≡ r .start ∷ r .len ∷ columnPlaces (r′ .start) (split 9 (drop (r′ .start) t))
-      by w = rw (w .are, ← first-length t r p (w .are), n .starts, next-split t r p many w)
+  column-tab = rw (p .columns, column-length, column-past)
 
-column-alone : {t : List ℕ} {r : Range} → Standing t r → columnsFrom t r ≡ 1 → columnPlaces (r .start) (split 9 (drop (r .start) t)) ≡ r .start ∷ r .len ∷ []
-unfolding columnPlaces
-column-alone {t} {r} p e = by (split 9 (drop (r .start) t)) refl e
-  where
-    by : (cs : List (List ℕ)) → split 9 (drop (r .start) t) ≡ cs → length cs ≡ 1 → columnPlaces (r .start) cs ≡ r .start ∷ r .len ∷ []
-    by [] q e = absurd (omega arith)
-    by (c ∷ []) q e = rw (first-length t r p q)
-    by (c ∷ d ∷ cs) q e = absurd (omega arith)
+  count-tab : length (split 9 (drop from t)) ≡ suc (length (split 9 (drop (i + 1) t)))
+  count-tab = ap length (p .columns)
 
--- one column by itself, and the samples after it
-leading-last : {t : List ℕ} {r : Range} → Standing t r → 2 ≤ columnsFrom t r
-    → leadingPlaces 1 (r .start) (split 9 (drop (r .start) t)) ≡ r .start ∷ r .len ∷ (r .start + r .len + 1) ∷ (length t - (r .start + r .len + 1)) ∷ []
+-- all that is left is one
+leading-rest : (t : List ℕ) (from : ℕ) → leadingPlaces 0 from (split 9 (drop from t)) ≡ from ∷ (length t - from) ∷ []
 unfolding leadingPlaces
-leading-last {t} {r} p h = by (two 9 (drop (r .start) t) h)
+leading-rest t from = by (split 9 (drop from t)) refl
   where
-    by : Two 9 (drop (r .start) t)
-        → leadingPlaces 1 (r .start) (split 9 (drop (r .start) t)) ≡ r .start ∷ r .len ∷ (r .start + r .len + 1) ∷ (length t - (r .start + r .len + 1)) ∷ []
-    by w = rw (w .are, ← first-length t r p (w .are), ← next-split t r p h w, split-joined 9 (drop (r .start + r .len + 1) t), length-drop (r .start + r .len + 1) t)
+    by : (cs : List (List ℕ)) → split 9 (drop from t) ≡ cs → leadingPlaces 0 from cs ≡ from ∷ (length t - from) ∷ []
+    by [] e = absurd (split-nil 9 _ e)
+    by (c ∷ cs) e = rw (← e, split-joined 9 (drop from t), length-drop from t)
+
+column-rest : (t : List ℕ) (from : ℕ) → split 9 (drop from t) ≡ drop from t ∷ [] → columnPlaces from (split 9 (drop from t)) ≡ from ∷ (length t - from) ∷ []
+unfolding columnPlaces
+column-rest t from e = rw (e, length-drop from t)
+
+-- ---- the tabs stand behind each other
+
+module _ {t : List ℕ} {at : ℕ} {tabs : List ℕ} (h : Told t at tabs) where
+  pub rising : Rising at tabs
+  rising =
+      record {
+        size = h .size;
+        chrom = h .seven 0 (omega arith) .after;
+        pos = (let a = h .seven 1 (omega arith) .after in omega arith);
+        id = (let a = h .seven 2 (omega arith) .after in omega arith);
+        reference = (let a = h .seven 3 (omega arith) .after in omega arith);
+        alt = (let a = h .seven 4 (omega arith) .after in omega arith);
+        qual = (let a = h .seven 5 (omega arith) .after in omega arith);
+        filter = (let a = h .seven 6 (omega arith) .after in omega arith);
+      }
+
+  pub last-eight : getD tabs 6 0 < length t
+  last-eight = h .seven 6 (omega arith) .within
+
+  module _ (n : getD tabs 7 0 ≡ 0 → ⊥) where
+    pub info-before : getD tabs 6 0 < getD tabs 7 0
+    info-before = let a = h .nine n 7 (omega arith) .after in omega arith
+
+    pub format-before : getD tabs 7 0 < getD tabs 8 0
+    format-before = let a = h .nine n 8 (omega arith) .after in omega arith
+
+    pub samples-before : getD tabs 8 0 < length t
+    samples-before = h .nine n 8 (omega arith) .within
 
 -- ---- the ten fields
 
-module _ {t : List ℕ} {at : ℕ} {chrom pos id reference alt qual filter info : Range} (p : Placed t at chrom) (n₂ : Next t chrom pos) (n₃ : Next t pos id)
-    (n₄ : Next t id reference) (n₅ : Next t reference alt) (n₆ : Next t alt qual) (n₇ : Next t qual filter) (n₈ : Next t filter info) where
-  -- how many columns there are, by how many stand from INFO on
-  count-is : length (split 9 (drop at t)) ≡ columnsFrom t info + 7
+pub filled : (at : ℕ) (tabs : List ℕ) {pos id reference alt qual filter : Range} (info format samples : Range) → Spans (getD tabs 0 0 + 1) (getD tabs 1 0) pos
+    → Spans (getD tabs 1 0 + 1) (getD tabs 2 0) id → Spans (getD tabs 2 0 + 1) (getD tabs 3 0) reference → Spans (getD tabs 3 0 + 1) (getD tabs 4 0) alt
+    → Spans (getD tabs 4 0 + 1) (getD tabs 5 0) qual → Spans (getD tabs 5 0 + 1) (getD tabs 6 0) filter
+    → recordPlaces (record { chrom = record { start = at; len = getD tabs 0 0 - at }; pos = pos; id = id; reference = reference; alt = alt; qual = qual; filter = filter; info = info; format = format; samples = samples })
+    ≡ sevenPlaces at tabs ++ rangePlaces info ++ rangePlaces format ++ rangePlaces samples
+unfolding recordPlaces sevenPlaces tabPlaces rangePlaces
+filled at tabs info format samples a b c d e f =
+    rw (a .starts, a .size, b .starts, b .size, c .starts, c .size, d .starts, d .size, e .starts, e .size, f .starts, f .size)
+
+module _ {t : List ℕ} {at : ℕ} {tabs : List ℕ} (h : Told t at tabs) where
+  -- how many columns there are, by how many stand past the seventh tab
+  count-is : length (split 9 (drop at t)) ≡ length (split 9 (drop (getD tabs 6 0 + 1) t)) + 7
   count-is =
-      let c₁ = p .columns in
-      let c₂ = n₂ .fewer in
-      let c₃ = n₃ .fewer in
-      let c₄ = n₄ .fewer in
-      let c₅ = n₅ .fewer in
-      let c₆ = n₆ .fewer in
-      let c₇ = n₇ .fewer in
-      let c₈ = n₈ .fewer in
+      let c₁ = count-tab (h .seven 0 (omega arith)) in
+      let c₂ = count-tab (h .seven 1 (omega arith)) in
+      let c₃ = count-tab (h .seven 2 (omega arith)) in
+      let c₄ = count-tab (h .seven 3 (omega arith)) in
+      let c₅ = count-tab (h .seven 4 (omega arith)) in
+      let c₆ = count-tab (h .seven 5 (omega arith)) in
+      let c₇ = count-tab (h .seven 6 (omega arith)) in
       omega arith
 
-  pub filled-eight : info .start + info .len ≡ length t
-      → recordPlaces (record { chrom = chrom; pos = pos; id = id; reference = reference; alt = alt; qual = qual; filter = filter; info = info; format = record { start = info .start + info .len; len = 0 }; samples = record { start = info .start + info .len; len = 0 } })
-      ≡ fieldPlaces at (split 9 (drop at t)) (length t)
-  unfolding recordPlaces fieldPlaces
-  filled-eight e =
-      let l = last-alone t info (n₈ .stands) e in
+  pub filled-eight : {info : Range} (r : Record) → getD tabs 7 0 ≡ 0 → Spans (getD tabs 6 0 + 1) (length t) info
+      → recordPlaces r ≡ sevenPlaces at tabs ++ rangePlaces info ++ rangePlaces (record { start = length t; len = 0 }) ++ rangePlaces (record { start = length t; len = 0 })
+      → recordPlaces r ≡ fieldPlaces at (split 9 (drop at t)) (length t)
+  unfolding fieldPlaces sevenPlaces tabPlaces rangePlaces
+  filled-eight r z i e =
+      let l = ap length (h .eight z) in
       let c = count-is in
       let eight : length (split 9 (drop at t)) ≡ 8 = omega arith in
-      rw (eq-eqb _ 8 eight, e, ← p .starts, column-next (standing p) n₂, column-next (n₂ .stands) n₃, column-next (n₃ .stands) n₄, column-next (n₄ .stands) n₅, column-next (n₅ .stands) n₆, column-next (n₆ .stands) n₇, column-next (n₇ .stands) n₈, column-alone (n₈ .stands) l)
+      e
+      ∙ rw (i .starts, i .size, eq-eqb _ 8 eight, column-tab (h .seven 0 (omega arith)), column-tab (h .seven 1 (omega arith)), column-tab (h .seven 2 (omega arith)), column-tab (h .seven 3 (omega arith)), column-tab (h .seven 4 (omega arith)), column-tab (h .seven 5 (omega arith)), column-tab (h .seven 6 (omega arith)), column-rest t (getD tabs 6 0 + 1) (h .eight z))
 
-  module _ {format : Range} (h : Enough t at) (n₉ : Next t info format) where
-    -- a sample follows FORMAT
-    sampled : 2 ≤ columnsFrom t format
-    sampled = let c = count-is in let f = n₉ .fewer in let s = split-some 9 (drop (format .start) t) in let m = h .count in omega arith
+  pub filled-ten : {info format samples : Range} (r : Record) → (getD tabs 7 0 ≡ 0 → ⊥) → Spans (getD tabs 6 0 + 1) (getD tabs 7 0) info
+      → Spans (getD tabs 7 0 + 1) (getD tabs 8 0) format → Spans (getD tabs 8 0 + 1) (length t) samples
+      → recordPlaces r ≡ sevenPlaces at tabs ++ rangePlaces info ++ rangePlaces format ++ rangePlaces samples
+      → recordPlaces r ≡ fieldPlaces at (split 9 (drop at t)) (length t)
+  unfolding fieldPlaces sevenPlaces tabPlaces rangePlaces
+  filled-ten r n i f s e =
+      let c = count-is in
+      let c₈ = count-tab (h .nine n 7 (omega arith)) in
+      let c₉ = count-tab (h .nine n 8 (omega arith)) in
+      let more : length (split 9 (drop at t)) ≡ 8 → ⊥ = λ z. omega arith in
+      e
+      ∙ rw (i .starts, i .size, f .starts, f .size, s .starts, s .size, ne-eqb _ 8 more, leading-tab (h .seven 0 (omega arith)) 8, leading-tab (h .seven 1 (omega arith)) 7, leading-tab (h .seven 2 (omega arith)) 6, leading-tab (h .seven 3 (omega arith)) 5, leading-tab (h .seven 4 (omega arith)) 4, leading-tab (h .seven 5 (omega arith)) 3, leading-tab (h .seven 6 (omega arith)) 2, leading-tab (h .nine n 7 (omega arith)) 1, leading-tab (h .nine n 8 (omega arith)) 0, leading-rest t (getD tabs 8 0 + 1))
 
-    pub first-sample : format .start + format .len + 1 ≤ length t
-    first-sample = next-start t format (n₉ .stands) sampled
-
-    pub filled-ten : recordPlaces (record { chrom = chrom; pos = pos; id = id; reference = reference; alt = alt; qual = qual; filter = filter; info = info; format = format; samples = record { start = format .start + format .len + 1; len = length t - (format .start + format .len + 1) } })
-        ≡ fieldPlaces at (split 9 (drop at t)) (length t)
-    unfolding recordPlaces fieldPlaces
-    filled-ten =
-        let c = count-is in
-        let f = n₉ .fewer in
-        let s = sampled in
-        let n : length (split 9 (drop at t)) ≡ 8 → ⊥ = λ e. omega arith in
-        rw (ne-eqb _ 8 n, ← p .starts, leading-next (standing p) n₂ 8, leading-next (n₂ .stands) n₃ 7, leading-next (n₃ .stands) n₄ 6, leading-next (n₄ .stands) n₅ 5, leading-next (n₅ .stands) n₆ 4, leading-next (n₆ .stands) n₇ 3, leading-next (n₇ .stands) n₈ 2, leading-next (n₈ .stands) n₉ 1, leading-last (n₉ .stands) sampled)
-
-pub ruleset laws = (column-more, column-final, column-none, column-beyond, standing, next-start, next-placed, not-alone, filled-eight, first-sample, filled-ten)
+pub ruleset laws = (keep-out, rising, last-eight, info-before, format-before, samples-before, filled, filled-eight, filled-ten)

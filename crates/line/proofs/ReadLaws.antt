@@ -20,8 +20,8 @@ use Rattle.pieces.specs.Pieces.{split}
 use Rattle.pieces.specs.Demands.{Free}
 use Rattle.pieces.proofs.BlockLaws.{past-quiet}
 use Rattle.pieces.proofs.PieceLaws.{free-nil, free-cons, free-head, free-tail, split-whole, split-append, split-nil}
-use Rattle.line.specs.Line.{Ending, feed, return-feed, endingBytes, Line, line, fed, lineOf, fine, refused, required, lastVerdict, verdict}
-use Rattle.line.specs.Inner.{Clear, Stopped, StopsAt, TextEnd, input, none, bare, return, denied, judgement, judgementOf, judgedPaper}
+use Rattle.line.specs.Line.{Ending, feed, return-feed, endingBytes, Line, line, fed, lineOf, Verdict, fine, refused, required, lastVerdict, verdict}
+use Rattle.line.specs.Inner.{Clear, Stopped, StopsAt, TextEnd, input, none, bare, return, accepted, denied, judgement, judgementOf, judgedPaper}
 use Rattle.line.specs.declared.read.Stop.{Stop}
 use Rattle.line.specs.declared.read.Stop.the-variants as S
 use Rattle.line.specs.declared.read.Judged.{Judged}
@@ -137,7 +137,7 @@ input-end s (return h l e) = absurd (omega arith)
 -- ---- a part of the input as a text
 
 -- no byte b from one place up to another, said of the part
-part-free : (s : List ℕ) (b from end : ℕ) → from ≤ end → end ≤ length s → ((k : ℕ) → from ≤ k → k < end → getD s k 0 ≡ b → ⊥) → Free b (take (end - from) (drop from s))
+pub part-free : (s : List ℕ) (b from end : ℕ) → from ≤ end → end ≤ length s → ((k : ℕ) → from ≤ k → k < end → getD s k 0 ≡ b → ⊥) → Free b (take (end - from) (drop from s))
 part-free s b from end h w f =
     record {
       free = λ k l e.
@@ -146,7 +146,7 @@ part-free s b from end h w f =
     }
 
 -- the input from a place on: what stands before a byte, the byte, and the rest
-part-byte : (s : List ℕ) {from i b : ℕ} → Stopped s from i b → drop from s ≡ take (i - from) (drop from s) ++ b ∷ drop (i + 1) s
+pub part-byte : (s : List ℕ) {from i b : ℕ} → Stopped s from i b → drop from s ≡ take (i - from) (drop from s) ++ b ∷ drop (i + 1) s
 part-byte s {from} {i} {b} g =
     let d : from + (i - from) ≡ i = (let a = g .after in omega arith) in
     sym (take-append-drop (i - from) (drop from s))
@@ -157,7 +157,7 @@ part-length : (s : List ℕ) {from i b : ℕ} → Stopped s from i b → length 
 part-length s {from} {i} g = length-take-le (i - from) (drop from s) (let l = length-drop from s in let a = g .after in let w = g .within in omega arith)
 
 module _ (s : List ℕ) {from i b : ℕ} (g : Stopped s from i b) where
-  part-no-tab : Free 9 (take (i - from) (drop from s))
+  pub part-no-tab : Free 9 (take (i - from) (drop from s))
   part-no-tab = part-free s 9 from i (g .after) (let w = g .within in omega arith) (g .clear .no-tab)
 
   part-no-feed : Free 10 (take (i - from) (drop from s))
@@ -167,6 +167,12 @@ module _ (s : List ℕ) {from i b : ℕ} (g : Stopped s from i b) where
 rest-free : (s : List ℕ) (b from : ℕ) → from ≤ length s → ((k : ℕ) → from ≤ k → k < length s → getD s k 0 ≡ b → ⊥) → Free b (drop from s)
 rest-free s b from h f =
     rw (rest-all s from) at (part-free s b from (length s) h (le-refl _) f)
+
+-- an accepted line's text ends where its judgement says
+judged-end : (v : Verdict) (end past : ℕ) {end′ next : ℕ} → judgement v end past ≡ accepted end′ next → end′ ≡ end
+unfolding judgement
+judged-end fine end past e = cc
+judged-end (refused n p) end past e = absurd (let z : _≡_ {A = ℕ} 0 1 = cc in omega arith)
 
 -- ---- the last column, cut by the end of the input
 
@@ -178,6 +184,9 @@ module _ (s : List ℕ) (k start : ℕ) (h : start ≤ length s) (g : Clear s st
       let e : start + length (drop start s) ≡ length s = omega arith in
       let z : length s + 0 ≡ length s = omega arith in
       rw (line-end (drop start s) (rest-free s 10 start h (g .no-feed)), split-whole (drop start s) (rest-free s 9 start h (g .no-tab)), e, z)
+
+  pub cut-ends : {end next : ℕ} → judgementOf k start (lineOf (drop start s)) ≡ accepted end next → end ≡ length s
+  cut-ends e = judged-end (pick (required k || isEmpty (drop start s)) (refused 4 (length s)) fine) (length s) (length s) (sym cut-judged ∙ e)
 
   pub cut-required : {q : Bool} → q ≡ required k → q ≡ true → judgedPaper (J.Cut (length s)) ≡ judgementOf k start (lineOf (drop start s))
   unfolding judgedPaper judgement
@@ -216,6 +225,13 @@ strip-return : (c : List ℕ) → endsIn 13 c ≡ true → length (stripped c) �
 unfolding stripped
 strip-return c e = rw e (length-last c)
 
+strip-most : (c : List ℕ) → length (stripped c) ≤ length c
+strip-most c = by (endsIn 13 c) refl
+  where
+    by : (t : Bool) → endsIn 13 c ≡ t → length (stripped c) ≤ length c
+    by true e = let l = strip-return c e in omega arith
+    by false e = let l = strip-bare c e in omega arith
+
 -- one column, by which of the two endings it ends
 fed-judged : (k start : ℕ) (c rest : List ℕ) → Free 9 c
     → judgementOf k start (fed c rest)
@@ -245,6 +261,15 @@ module _ (s : List ℕ) (k start feed : ℕ) (g : Stopped s start feed 10) where
       ap (judgementOf k start) (ap lineOf (part-byte s g) ∙ line-feed column (drop (feed + 1) s) (part-no-feed s g))
       ∙ fed-judged k start column (drop (feed + 1) s) (part-no-tab s g)
       ∙ rw n
+
+  pub feed-ends : {end next : ℕ} → judgementOf k start (lineOf (drop start s)) ≡ accepted end next → (start ≤ end) × (end ≤ feed)
+  unfolding column
+  feed-ends e =
+      let j = judged-end (pick (required k) (refused 3 (feed + 1)) (pick (isEmpty (stripped column)) (refused 2 (feed + 1)) fine)) (start + length (stripped column)) (feed + 1) (sym feed-judged ∙ e) in
+      let l = part-length s g in
+      let m = strip-most column in
+      let a = g .after in
+      (omega arith, omega arith)
 
   -- the byte before the LF decides
   column-ends : start < feed → endsIn 13 column ≡ eqb (getD s (feed - 1) 0) 13

@@ -1,10 +1,10 @@
 -- What the private functions of this crate promise each other. Assumes nothing.
-use Prim.Native.Nat.{ℕ, _+_, _-_, _<_, _≤_}
+use Prim.Native.Nat.{ℕ, zero, suc, _+_, _-_, _<_, _≤_}
 use mathlib.Core.Path.{_≡_}
-use mathlib.Core.List.{List}
-use lib.ListN.{length, getD, drop}
+use mathlib.Core.List.{List, [], _∷_, _++_}
+use lib.ListN.{length, getD, take, drop}
 use Rattle.text.specs.declared.range.Range.{Range}
-use Rattle.pieces.specs.Pieces.{firstOf, split}
+use Rattle.pieces.specs.Pieces.{split}
 use Rattle.line.specs.Line.{endingBytes, Line, line, lineOf, Verdict, fine, refused, verdict}
 use Rattle.line.specs.declared.read.Stop.{Stop}
 use Rattle.line.specs.declared.read.Stop.the-variants as S
@@ -65,31 +65,67 @@ pub record InOrder (s : List ℕ) (at end next : ℕ) : Type 0 where
   pub reached : at ≤ length s
   pub judged : judgementOf 1 at (lineOf (drop at s)) ≡ accepted end next
 
--- ---- the places of columns in a text
+-- ---- the tabs that are kept
 
--- r is the place of the column that starts at `start`
-pub record Placed (t : List ℕ) (start : ℕ) (r : Range) : Type 0 where
+-- nine places, and none is set
+pub record Unset (tabs : List ℕ) : Type 0 where
+  pub size : length tabs ≡ 9
+  pub naught : (j : ℕ) → getD tabs j 0 ≡ 0
+
+-- the first tab of the text from a place on stands at i
+pub record Tab (t : List ℕ) (from i : ℕ) : Type 0 where
+  pub after : from ≤ i
+  pub within : i < length t
+  pub columns : split 9 (drop from t) ≡ take (i - from) (drop from t) ∷ split 9 (drop (i + 1) t)
+
+-- where the column past the first j tabs starts
+abbrev pub startOf : ℕ → List ℕ → ℕ → ℕ
+startOf at tabs zero = at
+startOf at tabs (suc j) = getD tabs j 0 + 1
+
+-- the line that starts at `at` in t, and ends where t ends, has eight columns, and the first seven tabs are kept; or ten
+-- columns or more, and the first nine tabs are kept
+pub record Told (t : List ℕ) (at : ℕ) (tabs : List ℕ) : Type 0 where
+  pub size : length tabs ≡ 9
+  pub seven : (j : ℕ) → j < 7 → Tab t (startOf at tabs j) (getD tabs j 0)
+  pub eight : getD tabs 7 0 ≡ 0 → split 9 (drop (getD tabs 6 0 + 1) t) ≡ drop (getD tabs 6 0 + 1) t ∷ []
+  pub nine : (getD tabs 7 0 ≡ 0 → ⊥) → (j : ℕ) → j < 9 → Tab t (startOf at tabs j) (getD tabs j 0)
+
+-- that is so of the text that the judge accepts
+pub record Marks (s : List ℕ) (at : ℕ) (r : Judged) (tabs : List ℕ) : Type 0 where
+  pub told : (end next : ℕ) → r ≡ J.Fine end next → Told (take end s) at tabs
+
+-- ---- the places of the fields, by the tabs
+
+-- r goes from one place to another
+pub record Spans (start end : ℕ) (r : Range) : Type 0 where
   pub starts : r .start ≡ start
-  pub size : r .len ≡ length (firstOf (split 9 (drop start t)))
-  pub fits : start + r .len ≤ length t
-  pub columns : length (split 9 (drop (r .start) t)) ≡ length (split 9 (drop start t))
+  pub size : r .len ≡ end - start
 
--- the same for a range's own start
-abbrev pub Standing : List ℕ → Range → Type 0
-Standing t r = Placed t (r .start) r
+-- the first seven tabs stand behind each other
+pub record Rising (at : ℕ) (tabs : List ℕ) : Type 0 where
+  pub size : length tabs ≡ 9
+  pub chrom : at ≤ getD tabs 0 0
+  pub pos : getD tabs 0 0 < getD tabs 1 0
+  pub id : getD tabs 1 0 < getD tabs 2 0
+  pub reference : getD tabs 2 0 < getD tabs 3 0
+  pub alt : getD tabs 3 0 < getD tabs 4 0
+  pub qual : getD tabs 4 0 < getD tabs 5 0
+  pub filter : getD tabs 5 0 < getD tabs 6 0
 
--- how many columns stand from the range's start on
-abbrev pub columnsFrom : List ℕ → Range → ℕ
-columnsFrom t r = length (split 9 (drop (r .start) t))
+unfoldable pub rangePlaces : Range → List ℕ
+rangePlaces r = r .start ∷ r .len ∷ []
 
--- r′ is the column after the one at r
-pub record Next (t : List ℕ) (r r′ : Range) : Type 0 where
-  pub starts : r′ .start ≡ r .start + r .len + 1
-  pub stands : Standing t r′
-  pub fewer : columnsFrom t r ≡ columnsFrom t r′ + 1
+-- the column past the first j tabs, which the next tab ends
+unfoldable pub tabPlaces : ℕ → List ℕ → ℕ → List ℕ
+tabPlaces at tabs j = startOf at tabs j ∷ (getD tabs j 0 - startOf at tabs j) ∷ []
 
--- from `at` on there are eight columns, or at least ten
-pub record Enough (t : List ℕ) (at : ℕ) : Type 0 where
-  pub reached : at ≤ length t
-  pub some : 8 ≤ length (split 9 (drop at t))
-  pub count : (length (split 9 (drop at t)) ≡ 9) → ⊥
+unfoldable pub sevenPlaces : ℕ → List ℕ → List ℕ
+sevenPlaces at tabs =
+    tabPlaces at tabs 0
+    ++ tabPlaces at tabs 1
+    ++ tabPlaces at tabs 2
+    ++ tabPlaces at tabs 3
+    ++ tabPlaces at tabs 4
+    ++ tabPlaces at tabs 5
+    ++ tabPlaces at tabs 6

@@ -1,17 +1,16 @@
 // Reading a line: where its columns end, whether they are in order, and the places of its fields.
 use pieces::block::past_quiet;
-use pieces::step::Step;
-use pieces::step::piece_at;
 use text::range::Range;
 use text::utf8::Utf8;
 use text::utf8::check_utf8;
 ghost use mathlib.Core.Path.{_≡_};
-ghost use Prim.Native.Nat.{_≤_, _<_};
-ghost use lib.ListN.{length, drop};
+ghost use Prim.Native.Nat.{_+_, _-_, _≤_, _<_};
+ghost use mathlib.Core.List.{_++_};
+ghost use lib.ListN.{length, take, drop, set};
 ghost use Rattle.pieces.specs.Pieces.{split};
 ghost use Rattle.line.specs.Line.{required, lineOf, fieldPlaces, lineAnswer, readAnswer};
 ghost use Rattle.line.specs.Paper.{recordPlaces, readPaper};
-ghost use Rattle.line.specs.Inner.{StopsAt, Stopped, Clear, TextEnd, judgementOf, judgedPaper, Placed, Standing, columnsFrom, Next, Enough, InOrder};
+ghost use Rattle.line.specs.Inner.{StopsAt, Stopped, Clear, TextEnd, judgementOf, judgedPaper, Unset, Marks, Spans, Rising, rangePlaces, sevenPlaces, Told, InOrder};
 
 // The places of a line's ten fields. Others ask for them by `fields`.
 pub struct Record {
@@ -174,10 +173,23 @@ fn judge_cut(s: &[u8], k: usize, start: usize) -> Judged
     Judged::Fine(end, s.len())
 }
 
-// Judges the columns of the line at a place, from the left.
-fn judge(s: &[u8], at: usize) -> Judged
+// Keeps the place of the tab that ends column k, where there is room for it: the first nine have some.
+fn keep(tabs: &mut [usize], k: usize, tab: usize)
+    requires { ⌜ 1 ≤ k ⌝ }
+    ensures { λ r. ⌜ now (tabs .exit) ≡ set (now (tabs .entry)) (k - 1) tab ⌝ }
+{
+    if k > tabs.len() {
+        return;
+    }
+    tabs[k - 1] = tab;
+}
+
+// Judges the columns of the line at a place, from the left, and keeps the places of the first nine tabs.
+fn judge(s: &[u8], at: usize, tabs: &mut [usize]) -> Judged
     requires { ⌜ at ≤ length (now s) ⌝ }
+    requires { ⌜ Unset (now tabs) ⌝ }
     ensures { λ r. ⌜ judgedPaper r ≡ judgementOf 1 at (lineOf (drop at (now (s .entry)))) ⌝ }
+    ensures { λ r. ⌜ Marks (now (s .entry)) at r (now (tabs .exit)) ⌝ }
 {
     let mut k = 1;
     let mut start = at;
@@ -188,6 +200,7 @@ fn judge(s: &[u8], at: usize) -> Judged
                 if tab == start {
                     break 'columns Judged::Empty(tab + 1);
                 }
+                keep(tabs, k, tab);
                 start = tab + 1;
                 k += 1;
             }
@@ -201,92 +214,64 @@ fn judge(s: &[u8], at: usize) -> Judged
     }
 }
 
-// The place of the column that starts at `start` in the text t.
-fn column_at(t: &[u8], start: usize) -> Range
-    requires { ⌜ start ≤ length (now t) ⌝ }
-    ensures { λ r. ⌜ Placed (now (t .entry)) start r ⌝ }
+// The place between a tab and where its column ends.
+fn between(tab: usize, end: usize) -> Range
+    requires { ⌜ tab < end ⌝ }
+    ensures { λ r. ⌜ Spans (tab + 1) end r ⌝ }
 {
-    let found = piece_at(t, 9, start);
-    match found {
-        Step::More(range, _) => range,
-        Step::Last(range) => range,
-        Step::Nothing => Range { start, len: 0 },
-        Step::Beyond => Range { start, len: 0 },
+    let start = tab + 1;
+    Range {
+        start,
+        len: end - start,
     }
 }
 
-// The place of the column after the one at `range`, which is not the last.
-fn next_column(t: &[u8], range: Range) -> Range
-    requires { ⌜ Standing (now t) range ⌝ }
-    requires { ⌜ 2 ≤ columnsFrom (now t) range ⌝ }
-    ensures { λ r. ⌜ Next (now (t .entry)) range r ⌝ }
+// The first seven fields by the tabs that end them, and the last three as they are given.
+fn record_of(at: usize, tabs: &[usize], info: Range, format: Range, samples: Range) -> Record
+    requires { ⌜ Rising at (now tabs) ⌝ }
+    ensures { λ r. ⌜ recordPlaces r ≡ sevenPlaces at (now (tabs .entry)) ++ rangePlaces info ++ rangePlaces format ++ rangePlaces samples ⌝ }
 {
-    let start = range.start;
-    let len = range.len;
-    column_at(t, start + len + 1)
-}
-
-// The places of the fields of the line that starts at `at` in t and ends where t ends.
-fn fields_of(t: &[u8], at: usize) -> Record
-    requires { ⌜ Enough (now t) at ⌝ }
-    ensures { λ r. ⌜ recordPlaces r ≡ fieldPlaces at (split 9 (drop at (now (t .entry)))) (length (now (t .entry))) ⌝ }
-{
-    let chrom = column_at(t, at);
-    let pos = next_column(t, chrom);
-    let id = next_column(t, pos);
-    let reference = next_column(t, id);
-    let alt = next_column(t, reference);
-    let qual = next_column(t, alt);
-    let filter = next_column(t, qual);
-    let info = next_column(t, filter);
-    let info_start = info.start;
-    let info_len = info.len;
-    let end = info_start + info_len;
-    if end == t.len() {
-        let none = Range { start: end, len: 0 };
-        return Record {
-            chrom,
-            pos,
-            id,
-            reference,
-            alt,
-            qual,
-            filter,
-            info,
-            format: none,
-            samples: none,
-        };
-    }
-    let format = next_column(t, info);
-    let format_start = format.start;
-    let format_len = format.len;
-    let first = format_start + format_len + 1;
-    let samples = Range {
-        start: first,
-        len: t.len() - first,
-    };
     Record {
-        chrom,
-        pos,
-        id,
-        reference,
-        alt,
-        qual,
-        filter,
+        chrom: Range {
+            start: at,
+            len: tabs[0] - at,
+        },
+        pos: between(tabs[0], tabs[1]),
+        id: between(tabs[1], tabs[2]),
+        reference: between(tabs[2], tabs[3]),
+        alt: between(tabs[3], tabs[4]),
+        qual: between(tabs[4], tabs[5]),
+        filter: between(tabs[5], tabs[6]),
         info,
         format,
         samples,
     }
 }
 
+// The places of the fields of the line that starts at `at` in t and ends where t ends, by its first tabs.
+fn fields_of(t: &[u8], at: usize, tabs: &[usize]) -> Record
+    requires { ⌜ Told (now t) at (now tabs) ⌝ }
+    ensures { λ r. ⌜ recordPlaces r ≡ fieldPlaces at (split 9 (drop at (now (t .entry)))) (length (now (t .entry))) ⌝ }
+{
+    let end = t.len();
+    if tabs[7] == 0 {
+        let none = Range { start: end, len: 0 };
+        return record_of(at, tabs, between(tabs[6], end), none, none);
+    }
+    let info = between(tabs[6], tabs[7]);
+    let format = between(tabs[7], tabs[8]);
+    record_of(at, tabs, info, format, between(tabs[8], end))
+}
+
 // A line whose columns are in order, with its text's end and the next place: all that is left to judge is UTF-8.
-fn finish(s: &[u8], at: usize, end: usize, next: usize) -> Read
+fn finish(s: &[u8], at: usize, end: usize, next: usize, tabs: &[usize]) -> Read
     requires { ⌜ InOrder (now s) at end next ⌝ }
+    requires { ⌜ Told (take end (now s)) at (now tabs) ⌝ }
     ensures { λ r. ⌜ readPaper r ≡ lineAnswer at (lineOf (drop at (now (s .entry)))) ⌝ }
 {
     let checked = check_utf8(&s[at..end]);
     match checked {
-        Utf8::Text => Read::Line(fields_of(&s[..end], at), next),
+        Utf8::Text => Read::Line(fields_of(&s[..end], at, tabs), next),
         Utf8::Broken => Read::NotUtf8(next),
     }
 }
@@ -301,9 +286,10 @@ pub fn read_line(s: &[u8], at: usize) -> Read
     if at == s.len() {
         return Read::End(at);
     }
-    let judged = judge(s, at);
+    let mut tabs = [0usize; 9];
+    let judged = judge(s, at, &mut tabs);
     match judged {
-        Judged::Fine(end, next) => finish(s, at, end, next),
+        Judged::Fine(end, next) => finish(s, at, end, next, &tabs),
         Judged::Empty(next) => Read::Empty(next),
         Judged::Fed(next) => Read::Fed(next),
         Judged::Cut(next) => Read::Cut(next),

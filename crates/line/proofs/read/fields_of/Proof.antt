@@ -1,77 +1,78 @@
--- `line::read::fields_of` meets its contract: each column is one further, so the places follow the definition's column by column. Assumes nothing.
-use native.Mathlib.Omega.{arith}
-use Rattle.line.proofs.PlaceLaws.{first-sample, filled-ten, laws}
+-- `line::read::fields_of` meets its contract: each tab is one column further, so the places follow the definition's column by column. Assumes nothing.
+use Rattle.line.proofs.PlaceLaws.{filled-ten, laws}
 use borrow.Author.Needs.{needs}
 use Rattle.line.proofs.read.fields_of.Statement.{statement}
 use Rattle.line.proofs.read.fields_of.Tie as tie
 
-column-at-requires : tie.Need-column-at-requires
-column-at-requires c κs = search (needs, laws)
+shared-slice-read-if1 : tie.Need-shared-slice-read-if1
+shared-slice-read-if1 c = search (needs, laws)
 
-next-column-requires : tie.Need-next-column-requires
-next-column-requires c κs = search (needs, laws)
+shared-slice-read-between : tie.Need-shared-slice-read-between
+shared-slice-read-between c = search (needs, laws)
 
-next-column-requires-2 : tie.Need-next-column-requires-2
-next-column-requires-2 c κs = search (needs, laws)
+between-requires : tie.Need-between-requires
+between-requires c κs = search (needs, laws)
 
-next-column-requires-3 : tie.Need-next-column-requires-3
-next-column-requires-3 c κs = search (needs, laws)
-
-next-column-requires-4 : tie.Need-next-column-requires-4
-next-column-requires-4 c κs = search (needs, laws)
-
-next-column-requires-5 : tie.Need-next-column-requires-5
-next-column-requires-5 c κs = search (needs, laws)
-
-next-column-requires-6 : tie.Need-next-column-requires-6
-next-column-requires-6 c κs = search (needs, laws)
-
-next-column-requires-7 : tie.Need-next-column-requires-7
-next-column-requires-7 c κs = search (needs, laws)
-
-add-end : tie.Need-add-end
-add-end c = omega (arith, c .next-column7 .ensures .stands .fits, c .before .before .before .before .before .before .before .before .before .good)
+record-of-requires : tie.Need-record-of-requires
+record-of-requires c κs = search (needs, laws)
 
 returns : tie.Need-returns
 returns c = search (needs, laws)
 
-next-column-requires-8 : tie.Need-next-column-requires-8
-next-column-requires-8 c κs = search (needs, laws)
+shared-slice-read-between-2 : tie.Need-shared-slice-read-between-2
+shared-slice-read-between-2 c = search (needs, laws)
 
-add-first : tie.Need-add-first
-add-first c = omega (arith, c .next-column8 .ensures .stands .fits, c .before .before .before .before .before .before .before .before .before .before .before .good)
+shared-slice-read-between-3 : tie.Need-shared-slice-read-between-3
+shared-slice-read-between-3 c = search (needs, laws)
 
-add-first-2 : tie.Need-add-first-2
-add-first-2 c =
-    let d = c .before .before in
-    omega (arith, first-sample (d .before .before .before .before .before .before .before .column-at .ensures) (d .before .before .before .before .before .before .next-column .ensures) (d .before .before .before .before .before .next-column2 .ensures) (d .before .before .before .before .next-column3 .ensures) (d .before .before .before .next-column4 .ensures) (d .before .before .next-column5 .ensures) (d .before .next-column6 .ensures) (d .next-column7 .ensures) (d .before .before .before .before .before .before .before .before .before .pre) (c .next-column8 .ensures), d .before .before .before .before .before .before .before .before .before .good)
+between-requires-2 : tie.Need-between-requires-2
+between-requires-2 c κs = search (needs, laws)
 
-sub-t22 : tie.Need-sub-t22
-sub-t22 c =
-    let d = c .before .before in
-    omega (arith, first-sample (d .before .before .before .before .before .before .before .column-at .ensures) (d .before .before .before .before .before .before .next-column .ensures) (d .before .before .before .before .before .next-column2 .ensures) (d .before .before .before .before .next-column3 .ensures) (d .before .before .before .next-column4 .ensures) (d .before .before .next-column5 .ensures) (d .before .next-column6 .ensures) (d .next-column7 .ensures) (d .before .before .before .before .before .before .before .before .before .pre) (c .next-column8 .ensures))
+shared-slice-read-between-4 : tie.Need-shared-slice-read-between-4
+shared-slice-read-between-4 c = search (needs, laws)
+
+shared-slice-read-between-5 : tie.Need-shared-slice-read-between-5
+shared-slice-read-between-5 c = search (needs, laws)
+
+between-requires-3 : tie.Need-between-requires-3
+between-requires-3 c κs = search (needs, laws)
+
+shared-slice-read-between-6 : tie.Need-shared-slice-read-between-6
+shared-slice-read-between-6 c = search (needs, laws)
+
+between-requires-4 : tie.Need-between-requires-4
+between-requires-4 c κs = search (needs, laws)
+
+record-of-requires-2 : tie.Need-record-of-requires-2
+record-of-requires-2 c κs = search (needs, laws)
 
 returns-2 : tie.Need-returns-2
 returns-2 c =
-    let d = c .before .before in
-    filled-ten (d .before .before .before .before .before .before .before .column-at .ensures) (d .before .before .before .before .before .before .next-column .ensures) (d .before .before .before .before .before .next-column2 .ensures) (d .before .before .before .before .next-column3 .ensures) (d .before .before .before .next-column4 .ensures) (d .before .before .next-column5 .ensures) (d .before .next-column6 .ensures) (d .next-column7 .ensures) (d .before .before .before .before .before .before .before .before .before .pre) (c .next-column8 .ensures)
+    filled-ten
+    (c .before .before .before .before .before .before .before .before .before .before .before .before .before .pre)
+    (c .record-of2 .result)
+    (c .before .before .before .before .before .before .before .before .before .if1 .left)
+    (c .before .before .before .before .before .before .between2 .ensures)
+    (c .before .before .before .between3 .ensures)
+    (c .before .between4 .ensures)
+    (c .record-of2 .ensures)
 
 pub fields-of-spec : {M : Type 1} → statement M
 fields-of-spec =
     tie.close
     (tie.spec
-    column-at-requires
-    next-column-requires
-    next-column-requires-2
-    next-column-requires-3
-    next-column-requires-4
-    next-column-requires-5
-    next-column-requires-6
-    next-column-requires-7
-    add-end
+    shared-slice-read-if1
+    shared-slice-read-between
+    between-requires
+    record-of-requires
     returns
-    next-column-requires-8
-    add-first
-    add-first-2
-    sub-t22
+    shared-slice-read-between-2
+    shared-slice-read-between-3
+    between-requires-2
+    shared-slice-read-between-4
+    shared-slice-read-between-5
+    between-requires-3
+    shared-slice-read-between-6
+    between-requires-4
+    record-of-requires-2
     returns-2)

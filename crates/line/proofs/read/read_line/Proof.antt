@@ -10,11 +10,17 @@ returns c = search (needs, laws)
 returns-2 : tie.Need-returns-2
 returns-2 c = search (needs, laws)
 
+slice-aggregate-judge : tie.Need-slice-aggregate-judge
+slice-aggregate-judge c = search (needs, laws)
+
 judge-requires : tie.Need-judge-requires
-judge-requires c κs = search (needs, laws)
+judge-requires c κs = (search needs, search laws)
 
 enum-known-judged : tie.Need-enum-known-judged
 enum-known-judged c = search (needs, laws)
+
+slice-aggregate-finish : tie.Need-slice-aggregate-finish
+slice-aggregate-finish c = search (needs, laws)
 
 finish-requires : tie.Need-finish-requires
 finish-requires c κs = search (needs, laws)
@@ -46,8 +52,10 @@ read-line-spec =
     (tie.spec
     returns
     returns-2
+    slice-aggregate-judge
     judge-requires
     enum-known-judged
+    slice-aggregate-finish
     finish-requires
     enum-known-judged-2
     enum-known-judged-3
