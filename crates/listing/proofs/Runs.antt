@@ -7,9 +7,8 @@ use mathlib.Core.List.{List, [], _∷_}
 use native.Mathlib.Omega.{arith}
 use lib.ListN.{length}
 use lib.Seq.{take-length}
-use Rattle.text.specs.Answer.{Answer}
 use Rattle.listing.specs.Turn.{Move, beyond, more, ended, on, gives}
-use Rattle.listing.specs.Demands.{Holds, Turning, Run, stops, goes, prints, Ran, Runs, rank, Turns}
+use Rattle.listing.specs.Demands.{Holds, Turning, stops, goes, prints, Ran, Runs, rank, Turns}
 use Rattle.listing.specs.declared.turn.Phase.{Phase}
 use Rattle.listing.specs.declared.turn.Phase.the-variants as P
 

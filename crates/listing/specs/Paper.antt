@@ -2,7 +2,7 @@
 use Prim.Native.Nat.{ℕ}
 use mathlib.Core.Path.{_≡_}
 use mathlib.Core.List.{List, [], _∷_}
-use Rattle.text.specs.Answer.{Answer, says, numberOf}
+use Rattle.text.specs.Answer.{Answer, says}
 use Rattle.listing.specs.Output.{readAfter, refusedAfter}
 use Rattle.listing.specs.Kept.{keptAnswer, keptBytes}
 use Rattle.listing.specs.Turn.{Move, beyond, more, ended, on, gives}
