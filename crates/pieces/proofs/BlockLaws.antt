@@ -16,14 +16,14 @@ use Rattle.pieces.specs.Block.{quietLength, pastQuiet}
 
 -- ---- a byte that is one of the two
 
-pub still-first : {x a : ℕ} (b : ℕ) (q : Bool) → x ≡ a → false ≡ pick (eqb x a || eqb x b) false q
-still-first b q e = rw (eq-eqb _ _ e)
+pub struck-first : {x a : ℕ} (b hit : ℕ) → x ≡ a → 1 ≡ pick (eqb x a || eqb x b) 1 hit
+struck-first b hit e = rw (eq-eqb _ _ e)
 
-pub still-second : {x a b : ℕ} (q : Bool) → (x ≡ a → ⊥) → x ≡ b → false ≡ pick (eqb x a || eqb x b) false q
-still-second q n e = rw (ne-eqb _ _ n, eq-eqb _ _ e)
+pub struck-second : {x a b : ℕ} (hit : ℕ) → (x ≡ a → ⊥) → x ≡ b → 1 ≡ pick (eqb x a || eqb x b) 1 hit
+struck-second hit n e = rw (ne-eqb _ _ n, eq-eqb _ _ e)
 
-pub still-none : {x a b : ℕ} (q : Bool) → (x ≡ a → ⊥) → (x ≡ b → ⊥) → q ≡ pick (eqb x a || eqb x b) false q
-still-none q n m = rw (ne-eqb _ _ n, ne-eqb _ _ m)
+pub struck-none : {x a b : ℕ} (hit : ℕ) → (x ≡ a → ⊥) → (x ≡ b → ⊥) → hit ≡ pick (eqb x a || eqb x b) 1 hit
+struck-none hit n m = rw (ne-eqb _ _ n, ne-eqb _ _ m)
 
 -- ---- the bytes before the first of the two
 
@@ -81,31 +81,31 @@ leb-down i q h = elim (decLe (32 - (i + 1)) q) [
   | no l ↦ lt-leb (32 - i) (1 + q) (omega arith) ∙ sym (lt-leb (32 - (i + 1)) q (omega arith))
 ]
 
--- with the first i bytes quiet, the others tell
-pub record Gathering (a b : ℕ) (s : List ℕ) (at : ℕ) (q : Bool) (i : ℕ) : Type 0 where
+-- with no hit in the first i bytes, the others tell
+pub record Gathering (a b : ℕ) (s : List ℕ) (at hit i : ℕ) : Type 0 where
   pub short : i ≤ 32
   pub within : at + 32 ≤ length s
-  pub same : (q && leb (32 - i) (quietLength a b (drop (at + i) s))) ≡ leb 32 (quietLength a b (drop at s))
+  pub same : (eqb hit 0 && leb (32 - i) (quietLength a b (drop (at + i) s))) ≡ leb 32 (quietLength a b (drop at s))
 
-pub gather-first : {a b : ℕ} {s : List ℕ} {at : ℕ} → at ≤ length s → 32 ≤ length s - at → Gathering a b s at true 0
+pub gather-first : {a b : ℕ} {s : List ℕ} {at : ℕ} → at ≤ length s → 32 ≤ length s - at → Gathering a b s at 0 0
 gather-first h l = record { short = omega arith; within = omega arith; same = rw add-zero }
 
-module _ {a b : ℕ} {s : List ℕ} {at : ℕ} {q : Bool} {i : ℕ} (g : Gathering a b s at q i) where
-  pub gather-turn : {r : Bool} → i < 32 → r ≡ pick (eqb (getD s (at + i) 0) a || eqb (getD s (at + i) 0) b) false q → Gathering a b s at r (i + 1)
+module _ {a b : ℕ} {s : List ℕ} {at hit i : ℕ} (g : Gathering a b s at hit i) where
+  pub gather-turn : {r : ℕ} → i < 32 → r ≡ pick (eqb (getD s (at + i) 0) a || eqb (getD s (at + i) 0) b) 1 hit → Gathering a b s at r (i + 1)
   unfolding quietLength
   gather-turn h e =
       record { short = omega arith; within = g .within; same = rw e (by (eqb (getD s (at + i) 0) a || eqb (getD s (at + i) 0) b) (rw (here s (at + i) (omega (arith, g .within)), add-assoc) at (g .same))) }
     where
-      n : ℕ
-      n = quietLength a b (drop (at + (i + 1)) s)
+      q : ℕ
+      q = quietLength a b (drop (at + (i + 1)) s)
 
-      by : (t : Bool) → (q && leb (32 - i) (pick t 0 (1 + n))) ≡ leb 32 (quietLength a b (drop at s))
-          → (pick t false q && leb (32 - (i + 1)) n) ≡ leb 32 (quietLength a b (drop at s))
-      by true p = sym (and-false q) ∙ rw (lt-leb (32 - i) 0 (omega arith)) at p
-      by false p = rw (leb-down i n h) at p
+      by : (t : Bool) → (eqb hit 0 && leb (32 - i) (pick t 0 (1 + q))) ≡ leb 32 (quietLength a b (drop at s))
+          → (eqb (pick t 1 hit) 0 && leb (32 - (i + 1)) q) ≡ leb 32 (quietLength a b (drop at s))
+      by true p = sym (and-false (eqb hit 0)) ∙ rw (lt-leb (32 - i) 0 (omega arith)) at p
+      by false p = rw (leb-down i q h) at p
 
-  pub gather-past : 32 ≤ i → q ≡ leb 32 (quietLength a b (drop at s))
-  gather-past h = let e : 32 - i ≡ 0 = omega arith in sym (and-true q) ∙ rw (e, le-leb 0 _ zero-le) at (g .same)
+  pub gather-past : 32 ≤ i → eqb hit 0 ≡ leb 32 (quietLength a b (drop at s))
+  gather-past h = let e : 32 - i ≡ 0 = omega arith in sym (and-true (eqb hit 0)) ∙ rw (e, le-leb 0 _ zero-le) at (g .same)
 
 -- ---- the blocks
 
@@ -168,4 +168,4 @@ past-quiet {a} {b} {s} {at} {r} h e =
         let z : at + (k - at) ≡ k = omega arith in
         rw (getD-drop, z) at (quiet-none a b (drop at s) (k - at) (omega arith))
 
-pub ruleset laws = (still-first, still-second, still-none, block-short, block-beyond, gather-first, gather-turn, gather-past, pass-first, pass-turn, pass-end)
+pub ruleset laws = (struck-first, struck-second, struck-none, block-short, block-beyond, gather-first, gather-turn, gather-past, pass-first, pass-turn, pass-end)

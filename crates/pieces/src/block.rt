@@ -1,22 +1,22 @@
 // Passing over bytes by blocks of 32, each gone through to its end, so that it can be compared as a whole.
 ghost use mathlib.Core.Path.{_≡_};
-ghost use mathlib.Core.Bool.{false, _||_};
+ghost use mathlib.Core.Bool.{_||_};
 ghost use lib.ListN.{drop};
 ghost use lib.Dec.{leb, eqb};
 ghost use Rattle.text.specs.Pick.{pick};
 ghost use Rattle.pieces.specs.Block.{quietLength, pastQuiet};
 
-// Whether x is neither of two bytes, and those before it were not.
-fn still_quiet(quiet: bool, x: u8, a: u8, b: u8) -> bool
-    ensures { λ r. ⌜ r ≡ pick (eqb x a || eqb x b) false quiet ⌝ }
+// 1 where x is one of the two bytes, else as before.
+fn struck(hit: u8, x: u8, a: u8, b: u8) -> u8
+    ensures { λ r. ⌜ r ≡ pick (eqb x a || eqb x b) 1 hit ⌝ }
 {
     if x == a {
-        return false;
+        return 1;
     }
     if x == b {
-        return false;
+        return 1;
     }
-    quiet
+    hit
 }
 
 // Whether 32 bytes stand from the place `at` on and none of them is a or b.
@@ -29,13 +29,13 @@ fn is_quiet(s: &[u8], a: u8, b: u8, at: usize) -> bool
     if s.len() - at < 32 {
         return false;
     }
-    let mut quiet = true;
+    let mut hit = 0;
     let mut i = 0;
     while i < 32 {
-        quiet = still_quiet(quiet, s[at + i], a, b);
+        hit = struck(hit, s[at + i], a, b);
         i += 1;
     }
-    quiet
+    hit == 0
 }
 
 // The place past all blocks of 32 bytes from `at` on that hold neither a nor b.

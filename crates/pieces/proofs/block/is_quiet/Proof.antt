@@ -1,4 +1,4 @@
--- The invariant says that with all bytes so far quiet those to come tell; past 32 none is left. Assumes nothing.
+-- The invariant says that with no hit so far the bytes to come tell; past 32 only the hit is left. Assumes nothing.
 use Prim.Native.Nat.{_-_}
 use borrow.Author.Needs.{needs}
 use Rattle.pieces.proofs.BlockLaws.{Gathering, laws}
@@ -6,10 +6,10 @@ use Rattle.pieces.proofs.block.is_quiet.Statement.{statement}
 use Rattle.pieces.proofs.block.is_quiet.Tie as tie
 
 abbrev Inv-loop : tie.InvT-loop
-Inv-loop s a b at quiet₀ i₀ quiet i = Gathering a b s at quiet i
+Inv-loop s a b at hit₀ i₀ hit i = Gathering a b s at hit i
 
 abbrev μ-loop : tie.MeasureT-loop
-μ-loop s a b at quiet₀ i₀ quiet i = 32 - i
+μ-loop s a b at hit₀ i₀ hit i = 32 - i
 
 returns : tie.Need-returns Inv-loop μ-loop
 returns c = search (needs, laws)
@@ -23,14 +23,14 @@ returns-2 c = search (needs, laws)
 loop-holds : tie.Need-loop-holds Inv-loop μ-loop
 loop-holds c = search (needs, laws)
 
-add-still-quiet : tie.Need-add-still-quiet Inv-loop μ-loop
-add-still-quiet c = search (needs, laws)
+add-struck : tie.Need-add-struck Inv-loop μ-loop
+add-struck c = search (needs, laws)
 
-shared-slice-read-still-quiet : tie.Need-shared-slice-read-still-quiet Inv-loop μ-loop
-shared-slice-read-still-quiet c = search (needs, laws)
+shared-slice-read-struck : tie.Need-shared-slice-read-struck Inv-loop μ-loop
+shared-slice-read-struck c = search (needs, laws)
 
-still-quiet-requires : tie.Need-still-quiet-requires Inv-loop μ-loop
-still-quiet-requires c κs = search (needs, laws)
+struck-requires : tie.Need-struck-requires Inv-loop μ-loop
+struck-requires c κs = search (needs, laws)
 
 add-i : tie.Need-add-i Inv-loop μ-loop
 add-i c = search (needs, laws)
@@ -54,9 +54,9 @@ is-quiet-spec =
     sub-if2
     returns-2
     loop-holds
-    add-still-quiet
-    shared-slice-read-still-quiet
-    still-quiet-requires
+    add-struck
+    shared-slice-read-struck
+    struck-requires
     add-i
     loop-less
     loop-again
