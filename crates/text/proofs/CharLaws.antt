@@ -11,9 +11,9 @@ use lib.ListN.{length, take, drop, length-drop, length-take}
 use lib.Dec.{leb, eqb}
 use lib.Seq.{take-at, drop-drop}
 use borrow.Author.Tests.{eqb-true, leb-true, lt-leb}
-use Rattle.text.specs.Pick.{pick}
+use Rattle.text.specs.Pick.{pick, within}
 use Rattle.text.specs.Answer.{says}
-use Rattle.text.specs.Utf8.{within, Row, row, table, Lead, lead, leadIn, leadOf, further, second, follows, isChar, sizeBy, charSize, before, charsFrom, charsOf, there, isUtf8, utf8Answer}
+use Rattle.text.specs.Utf8.{Row, row, table, Lead, lead, leadIn, leadOf, further, second, follows, isChar, sizeBy, charSize, before, charsFrom, charsOf, there, isUtf8, utf8Answer}
 use Rattle.text.specs.Inner.{CharAt}
 use Rattle.text.specs.Paper.{utf8Paper}
 use Rattle.text.specs.declared.utf8.Utf8.the-variants.{Text, Broken}
@@ -128,7 +128,6 @@ pub data High : List ℕ → Type 0 where
   more : {b : ℕ} {s : List ℕ} → 0x80 ≤ b → High s → High (b ∷ s)
 
 within-low : (low high b : ℕ) → within low high b ≡ true → low ≤ b
-unfolding within
 within-low low high b e = leb-true low b (and-eq-true-iff _ _ .0 e .0)
 
 further-high : (s : List ℕ) → further s ≡ true → High s

@@ -8,7 +8,7 @@ use lib.ListN.{length, getD, drop, set, length-set, drop-of-length-le}
 use lib.Seq.{sets, drop-cons}
 use borrow.Author.Tests.{le-leb, lt-leb}
 use Rattle.text.specs.Answer.{says}
-use Rattle.text.specs.Over.{over, roomAnswer, leaves, Writes}
+use Rattle.text.specs.Over.{over, roomAnswer, Writes}
 use Rattle.text.specs.Paper.{writtenPaper}
 use Rattle.text.specs.declared.copy.Written.{Written}
 use Rattle.text.specs.declared.copy.Written.the-variants.{Done, Short}
@@ -34,7 +34,7 @@ copy-turn {vs} {l₀} {l} {i} g h =
     }
 
 pub copy-past : {vs l₀ l : List ℕ} {i : ℕ} → Copying vs l₀ l i → length vs ≤ i → Writes vs l₀ (Done i) l
-unfolding roomAnswer leaves writtenPaper
+unfolding roomAnswer writtenPaper
 copy-past {vs} {l₀} {l} {i} g h =
     let e : i ≡ length vs = omega arith in
     record {
@@ -43,7 +43,7 @@ copy-past {vs} {l₀} {l} {i} g h =
     }
 
 pub copy-short : {vs l : List ℕ} → length l < length vs → Writes vs l Short l
-unfolding roomAnswer leaves writtenPaper
+unfolding roomAnswer writtenPaper
 copy-short h = record { answer = rw (lt-leb _ _ h); bytes = rw (lt-leb _ _ h) }
 
 -- ---- where there is room, and where not
@@ -57,7 +57,7 @@ unfolding roomAnswer
 room-lacks vs l h = rw (lt-leb _ _ h)
 
 pub writes-fits : {vs l l′ : List ℕ} {r : Written} → Writes vs l r l′ → length vs ≤ length l → l′ ≡ over vs l
-unfolding leaves
+unfolding roomAnswer
 writes-fits w h = w .bytes ∙ rw (le-leb _ _ h)
 
 pub ruleset laws = (copy-first, copy-turn, copy-past, copy-short)

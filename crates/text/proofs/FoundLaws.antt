@@ -7,7 +7,7 @@ use mathlib.Core.List.{List, [], _∷_}
 use mathlib.Core.Option.{Option, some, none}
 use native.Mathlib.Omega.{arith}
 use lib.ListN.{length, getD}
-use Rattle.text.specs.Pick.{pick}
+use Rattle.text.specs.Pick.{oneIf}
 use Rattle.text.specs.Answer.{says}
 use Rattle.text.specs.Utf8.{charsOf}
 use Rattle.text.specs.Space.{codePoint, isSpace, anySpace, spacedAnswer, spaceAnswer}
@@ -23,17 +23,17 @@ pub record Searched (t : List ℕ) (held : Bool) : Type 0 where
   pub are : charsOf t ≡ some chars
   pub any : anySpace chars ≡ held
 
-picked : (b held : Bool) → _≡_ {A = ℕ} (pick held 1 0) (pick b 1 0) → b ≡ held
+picked : (b held : Bool) → _≡_ {A = ℕ} (oneIf held) (oneIf b) → b ≡ held
 picked true true e = refl
 picked true false e = absurd (omega arith)
 picked false true e = absurd (omega arith)
 picked false false e = refl
 
-searched : (t : List ℕ) (held : Bool) → says 0 (pick held 1 0 ∷ []) ≡ spaceAnswer t → Searched t held
+searched : (t : List ℕ) (held : Bool) → says 0 (oneIf held ∷ []) ≡ spaceAnswer t → Searched t held
 unfolding spaceAnswer spacedAnswer
 searched t held e = by (charsOf t) refl e
   where
-    by : (o : Option (List (List ℕ))) → charsOf t ≡ o → says 0 (pick held 1 0 ∷ []) ≡ spacedAnswer o → Searched t held
+    by : (o : Option (List (List ℕ))) → charsOf t ≡ o → says 0 (oneIf held ∷ []) ≡ spacedAnswer o → Searched t held
     by none q e = absurd (let z : _≡_ {A = ℕ} 0 5 = cc in omega arith)
     by (some cs) q e = record { chars = cs; are = q; any = picked (anySpace cs) held (cc) }
 

@@ -11,7 +11,8 @@ use native.Mathlib.Decide.{decLt}
 use lib.ListN.{length, getD, take, drop, drop-of-length-le}
 use types.Run.{OneOf}
 use Rattle.text.specs.Answer.{says}
-use Rattle.text.specs.Utf8.{within, before, charsOf, charsFrom, isUtf8, there, utf8Answer}
+use Rattle.text.specs.Pick.{within}
+use Rattle.text.specs.Utf8.{before, charsOf, charsFrom, isUtf8, there, utf8Answer}
 use Rattle.text.specs.Space.{codePoint, Span, span, inAny, spaces, isSpace, anySpace, spacedAnswer, spaceAnswer}
 use Rattle.text.specs.Inner.{CharAt}
 use Rattle.text.specs.Paper.{utf8Paper, spacePaper}
@@ -78,7 +79,7 @@ held {p} (later {low} {high} i) = rw (held i) (or-true (within low high p))
 module _ {p : ℕ} where
   -- the code points that the code tests one by one
   pub space-alone : OneOf (0x20 ∷ 0x85 ∷ 0xa0 ∷ 0x1680 ∷ 0x202f ∷ 0x205f ∷ 0x3000 ∷ []) p → true ≡ isSpace p
-  unfolding isSpace spaces inAny within
+  unfolding isSpace spaces inAny
   space-alone =
       ⊎-elim (λ e. rw e) (⊎-elim (λ e. rw e) (⊎-elim (λ e. rw e) (⊎-elim (λ e. rw e) (⊎-elim (λ e. rw e) (⊎-elim (λ e. rw e) (λ e. rw e))))))
 

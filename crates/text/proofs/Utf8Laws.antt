@@ -8,7 +8,8 @@ use native.Mathlib.Numerals.{unary-clauses}
 use lib.ListN.{length, getD, take, drop, length-drop, length-take}
 use lib.Dec.{lit≤}
 use borrow.Author.Tests.{le-leb, lt-leb, ne-eqb, not-true, not-false}
-use Rattle.text.specs.Utf8.{within, Row, row, table, Lead, lead, leadIn, leadOf, further, second, follows, sizeBy, charSize}
+use Rattle.text.specs.Pick.{within}
+use Rattle.text.specs.Utf8.{Row, row, table, Lead, lead, leadIn, leadOf, further, second, follows, sizeBy, charSize}
 use Rattle.text.specs.Inner.{Asks}
 use Rattle.text.specs.declared.utf8.First.{First}
 use Rattle.text.proofs.Lists.{here, onward}
@@ -16,15 +17,12 @@ use Rattle.text.proofs.Lists.{here, onward}
 -- ---- within
 
 pub inside : (low high b : ℕ) → low ≤ b → b ≤ high → within low high b ≡ true
-unfolding within
 inside low high b p q = simp (le-leb _ _ p, le-leb _ _ q)
 
 pub under : (low high b : ℕ) → b < low → within low high b ≡ false
-unfolding within
 under low high b p = simp (lt-leb _ _ p)
 
 pub above : (low high b : ℕ) → high < b → within low high b ≡ false
-unfolding within
 above low high b p = simp (lt-leb _ _ p, and-false)
 
 -- ---- the row that a first byte falls in

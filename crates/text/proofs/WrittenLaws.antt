@@ -7,7 +7,7 @@ use native.Mathlib.Decide.{decLe}
 use lib.ListN.{length}
 use borrow.Author.Tests.{lt-leb}
 use Rattle.text.specs.Answer.{says}
-use Rattle.text.specs.Over.{over, leaves, Writes}
+use Rattle.text.specs.Over.{over, roomAnswer, Writes}
 use Rattle.text.specs.Paper.{writtenPaper}
 use Rattle.text.specs.declared.copy.Written.{Written}
 use Rattle.text.specs.declared.copy.Written.the-variants.{Done, Short}
@@ -40,7 +40,7 @@ module _ {vs l l′ : List ℕ} {r : Written} (w : Writes vs l r l′) where
           absurd (omega arith)
 
   pub writes-short : r ≡ Short → Lacked vs l l′
-  unfolding writtenPaper leaves
+  unfolding writtenPaper roomAnswer
   writes-short e = by (decLe (length vs) (length l))
     where
       told : says 17 [] ≡ writtenPaper r

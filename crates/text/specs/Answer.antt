@@ -1,7 +1,7 @@
 -- An answer on paper: its number in the table of docs/RULES.md, and the values that it carries, in order.
 -- Assumes nothing.
 use Prim.Native.Nat.{ℕ}
-use mathlib.Core.List.{List}
+use mathlib.Core.List.{List, [], _∷_}
 
 pub data Answer : Type 0 where
   says : ℕ → List ℕ → Answer
@@ -11,3 +11,8 @@ numberOf (says n vs) = n
 
 abbrev pub valuesOf : Answer → List ℕ
 valuesOf (says n vs) = vs
+
+-- where a reader goes on: its first value
+abbrev pub nextOf : Answer → ℕ
+nextOf (says n []) = 0
+nextOf (says n (next ∷ vs)) = next

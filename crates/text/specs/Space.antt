@@ -3,9 +3,9 @@ use Prim.Native.Nat.{ℕ, _+_, _*_, _%_}
 use mathlib.Core.Bool.{Bool, false, _||_}
 use mathlib.Core.List.{List, [], _∷_}
 use mathlib.Core.Option.{Option, some, none}
-use Rattle.text.specs.Pick.{pick}
+use Rattle.text.specs.Pick.{oneIf, within}
 use Rattle.text.specs.Answer.{Answer, says}
-use Rattle.text.specs.Utf8.{within, charsOf}
+use Rattle.text.specs.Utf8.{charsOf}
 
 -- the low bits of each byte, one after the other: 7, or 5 and 6, or 4, 6 and 6, or 3, 6, 6 and 6
 unfoldable pub codePoint : List ℕ → ℕ
@@ -48,7 +48,7 @@ anySpace (c ∷ cs) = isSpace (codePoint c) || anySpace cs
 -- 5; or 0 with 1 where some character is white space, and with 0 where none is
 unfoldable pub spacedAnswer : Option (List (List ℕ)) → Answer
 spacedAnswer none = says 5 []
-spacedAnswer (some cs) = says 0 (pick (anySpace cs) 1 0 ∷ [])
+spacedAnswer (some cs) = says 0 (oneIf (anySpace cs) ∷ [])
 
 unfoldable pub spaceAnswer : List ℕ → Answer
 spaceAnswer t = spacedAnswer (charsOf t)

@@ -4,13 +4,9 @@ use mathlib.Core.Bool.{Bool, true, false, _&&_}
 use mathlib.Core.List.{List, [], _∷_}
 use mathlib.Core.Option.{Option, some, none}
 use lib.ListN.{length, take}
-use lib.Dec.{leb, eqb}
-use Rattle.text.specs.Pick.{pick}
+use lib.Dec.{eqb}
+use Rattle.text.specs.Pick.{pick, within}
 use Rattle.text.specs.Answer.{Answer, says}
-
--- from low to high, both included
-unfoldable pub within : ℕ → ℕ → ℕ → Bool
-within low high b = leb low b && leb b high
 
 -- ---- the table
 

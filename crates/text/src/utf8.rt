@@ -4,7 +4,8 @@ ghost use mathlib.Core.Bool.{_&&_};
 ghost use Prim.Native.Nat.{_+_, _<_, _≤_};
 ghost use lib.ListN.{length, drop};
 ghost use lib.Dec.{ltb};
-ghost use Rattle.text.specs.Utf8.{within, utf8Answer};
+ghost use Rattle.text.specs.Pick.{within};
+ghost use Rattle.text.specs.Utf8.{utf8Answer};
 ghost use Rattle.text.specs.Paper.{utf8Paper};
 ghost use Rattle.text.specs.Inner.{Asks, CharAt, RunAt, ascii};
 
