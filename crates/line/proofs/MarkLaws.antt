@@ -24,20 +24,21 @@ use Rattle.line.proofs.AnswerLaws.{order-columns}
 stopped-take : (s : List ℕ) {from i b end : ℕ} → Stopped s from i b → i < end → end ≤ length s → Stopped (take end s) from i b
 stopped-take s {from} {i} {b} {end} g h w =
     record {
-      after = g .after;
       within = (let l = length-take-le end s w in omega arith);
       is = getD-take end s i 0 h ∙ g .is;
       clear =
           record {
-            no-tab = λ k p q e. g .clear .no-tab k p q (sym (getD-take end s k 0 (omega arith)) ∙ e);
-            no-feed = λ k p q e. g .clear .no-feed k p q (sym (getD-take end s k 0 (omega arith)) ∙ e);
+            after = g .clear .after;
+            within = (let l = length-take-le end s w in omega arith);
+            no-first = λ k p q e. g .clear .no-first k p q (sym (getD-take end s k 0 (omega arith)) ∙ e);
+            no-second = λ k p q e. g .clear .no-second k p q (sym (getD-take end s k 0 (omega arith)) ∙ e);
           };
     }
 
 tab-stopped : (t : List ℕ) {from i : ℕ} → Stopped t from i 9 → Tab t from i
 tab-stopped t {from} {i} g =
     record {
-      after = g .after;
+      after = g .clear .after;
       within = g .within;
       columns = ap (split 9) (part-byte t g) ∙ split-append (take (i - from) (drop from t)) (drop (i + 1) t) (part-no-tab t g);
     }
@@ -93,7 +94,7 @@ module _ {s : List ℕ} {at k start tab : ℕ} {tabs : List ℕ} (g : Kept s at 
         last = last;
         unset = λ j p. getD-set-other tabs k j tab 0 (λ e. omega arith) ∙ g .unset j (omega arith);
         count = λ end p w.
-            (let a = h .after in
+            (let a = h .clear .after in
             let c = g .count end (omega arith) w in
             let t = ap length (tab-take s h (omega arith) w .columns) in
             omega arith);
@@ -107,7 +108,7 @@ module _ {s : List ℕ} {at k start tab : ℕ} {tabs : List ℕ} (g : Kept s at 
 
       before : {j : ℕ} → Dec (j ≡ k) → j + 1 < suc (suc k) → j < 9 → getD (set tabs k tab) j 0 < tab + 1
       before {j} (yes e) p l = rw e (let n = newest (omega arith) in omega arith)
-      before {j} (no n) p l = let o = older j (omega arith) in let b = g .before j (omega arith) l in let a = h .after in omega arith
+      before {j} (no n) p l = let o = older j (omega arith) in let b = g .before j (omega arith) l in let a = h .clear .after in omega arith
 
       last : (j : ℕ) → j + 1 ≡ suc (suc k) → j ≤ 9 → startOf at (set tabs k tab) j ≡ tab + 1
       last zero e l = absurd (omega arith)
@@ -135,7 +136,7 @@ closed {s} {start} {stop} {end} c h l w =
       after = h;
       within = omega arith;
       alone =
-          (let f = part-free s 9 start end h (omega arith) (λ k p q. c .no-tab k p (omega arith)) in
+          (let f = part-free s 9 start end h (omega arith) (λ k p q. c .no-first k p (omega arith)) in
           rw (drop-take s start end h (omega arith)) (split-whole (take (end - start) (drop start s)) f));
     }
 
@@ -159,7 +160,7 @@ module _ {s : List ℕ} {at k start end : ℕ} {tabs : List ℕ} (g : Kept s at 
       record {
         size = g .size;
         seven = λ j l. tab-text j (omega arith) (omega arith);
-        eight = λ z. absurd (let t = g .each 7 (omega arith) (omega arith) .after in omega arith);
+        eight = λ z. absurd (let t = g .each 7 (omega arith) (omega arith) .clear .after in omega arith);
         nine = λ n j l. tab-text j (omega arith) l;
       }
 

@@ -12,6 +12,7 @@ use lib.Dec.{ltb, eqb}
 use borrow.Author.Tests.{ltb-false, eqb-false, eq-eqb, ne-eqb}
 use Rattle.text.specs.Pick.{pick}
 use Rattle.text.specs.Answer.{says, numberOf}
+use Rattle.text.proofs.Lists.{cut-is}
 use Rattle.pieces.specs.Pieces.{split, joined}
 use Rattle.pieces.proofs.PieceLaws.{split-joined, joined-one, joined-more}
 use Rattle.line.specs.Line.{Ending, Line, line, lineOf, columnPlaces, leadingPlaces, fieldPlaces, lineAnswer, readAnswer}
@@ -24,7 +25,7 @@ use Rattle.line.proofs.LineLaws.{read-line}
 
 field-first : (a b : ℕ) (places s : List ℕ) → fieldOf (a ∷ b ∷ places) 0 s ≡ take b (drop a s)
 unfolding fieldOf
-field-first a b places s = refl
+field-first a b places s = cut-is a b s
 
 field-next : (a b : ℕ) (places : List ℕ) (i : ℕ) (s : List ℕ) → fieldOf (a ∷ b ∷ places) (suc i) s ≡ fieldOf places i s
 unfolding fieldOf

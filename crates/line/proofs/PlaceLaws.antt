@@ -7,11 +7,12 @@ use lib.ListN.{length, getD, set, take, drop, length-drop}
 use lib.Seq.{length-take-le, set-out}
 use borrow.Author.Tests.{eq-eqb, ne-eqb}
 use Rattle.text.specs.declared.range.Range.{Range}
+use Rattle.text.specs.Range.{rangePlaces}
 use Rattle.pieces.specs.Pieces.{split}
 use Rattle.pieces.proofs.PieceLaws.{split-nil, split-joined}
 use Rattle.line.specs.Line.{columnPlaces, leadingPlaces, fieldPlaces}
 use Rattle.line.specs.Paper.{recordPlaces}
-use Rattle.line.specs.Inner.{Tab, Told, Spans, Rising, rangePlaces, tabPlaces, sevenPlaces}
+use Rattle.line.specs.Inner.{Tab, Told, Spans, Rising, tabPlaces, sevenPlaces}
 use Rattle.line.specs.declared.read.Record.{Record}
 
 -- ---- a tab is kept
@@ -88,7 +89,7 @@ pub filled : (at : ℕ) (tabs : List ℕ) {pos id reference alt qual filter : Ra
     → Spans (getD tabs 4 0 + 1) (getD tabs 5 0) qual → Spans (getD tabs 5 0 + 1) (getD tabs 6 0) filter
     → recordPlaces (record { chrom = record { start = at; len = getD tabs 0 0 - at }; pos = pos; id = id; reference = reference; alt = alt; qual = qual; filter = filter; info = info; format = format; samples = samples })
     ≡ sevenPlaces at tabs ++ rangePlaces info ++ rangePlaces format ++ rangePlaces samples
-unfolding recordPlaces sevenPlaces tabPlaces rangePlaces
+unfolding recordPlaces sevenPlaces tabPlaces
 filled at tabs info format samples a b c d e f =
     rw (a .starts, a .size, b .starts, b .size, c .starts, c .size, d .starts, d .size, e .starts, e .size, f .starts, f .size)
 
@@ -108,7 +109,7 @@ module _ {t : List ℕ} {at : ℕ} {tabs : List ℕ} (h : Told t at tabs) where
   pub filled-eight : {info : Range} (r : Record) → getD tabs 7 0 ≡ 0 → Spans (getD tabs 6 0 + 1) (length t) info
       → recordPlaces r ≡ sevenPlaces at tabs ++ rangePlaces info ++ rangePlaces (record { start = length t; len = 0 }) ++ rangePlaces (record { start = length t; len = 0 })
       → recordPlaces r ≡ fieldPlaces at (split 9 (drop at t)) (length t)
-  unfolding fieldPlaces sevenPlaces tabPlaces rangePlaces
+  unfolding fieldPlaces sevenPlaces tabPlaces
   filled-eight r z i e =
       let l = ap length (h .eight z) in
       let c = count-is in
@@ -120,7 +121,7 @@ module _ {t : List ℕ} {at : ℕ} {tabs : List ℕ} (h : Told t at tabs) where
       → Spans (getD tabs 7 0 + 1) (getD tabs 8 0) format → Spans (getD tabs 8 0 + 1) (length t) samples
       → recordPlaces r ≡ sevenPlaces at tabs ++ rangePlaces info ++ rangePlaces format ++ rangePlaces samples
       → recordPlaces r ≡ fieldPlaces at (split 9 (drop at t)) (length t)
-  unfolding fieldPlaces sevenPlaces tabPlaces rangePlaces
+  unfolding fieldPlaces sevenPlaces tabPlaces
   filled-ten r n i f s e =
       let c = count-is in
       let c₈ = count-tab (h .nine n 7 (omega arith)) in

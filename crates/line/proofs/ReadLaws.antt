@@ -30,19 +30,8 @@ use Rattle.line.proofs.ColumnLaws.{line-end, line-feed, line-tab}
 
 -- ---- the search for a column's end
 
--- neither a tab nor an LF stands before i
-pub record Searching (s : List ℕ) (from i : ℕ) : Type 0 where
-  pub after : from ≤ i
-  pub within : i ≤ length s
-  pub clear : Clear s from i
-
-pub search-first : {s : List ℕ} {from : ℕ} → from ≤ length s → Searching s from from
-search-first h =
-    record {
-      after = omega arith;
-      within = h;
-      clear = record { no-tab = λ k p q e. omega arith; no-feed = λ k p q e. omega arith };
-    }
+pub search-first : {s : List ℕ} {from : ℕ} → from ≤ length s → Clear s from from
+search-first h = record { after = omega arith; within = h; no-first = λ k p q e. omega arith; no-second = λ k p q e. omega arith }
 
 -- what holds of no byte before i, and not of that at i, holds of none before i + 1
 none-more : (s : List ℕ) (b : ℕ) {from i : ℕ} → ((k : ℕ) → from ≤ k → k < i → getD s k 0 ≡ b → ⊥) → (getD s i 0 ≡ b → ⊥)
@@ -50,26 +39,20 @@ none-more : (s : List ℕ) (b : ℕ) {from i : ℕ} → ((k : ℕ) → from ≤ 
 none-more s b {from} {i} f n k p q e =
     elim (decLt k i) [ yes l ↦ f k p l e | no l ↦ let z : k ≡ i = omega arith in n (rw z at e) ]
 
-module _ {s : List ℕ} {from i : ℕ} (g : Searching s from i) where
-  pub search-turn : i < length s → (getD s i 0 ≡ 9 → ⊥) → (getD s i 0 ≡ 10 → ⊥) → Searching s from (i + 1)
+module _ {s : List ℕ} {from i : ℕ} (g : Clear s from i) where
+  pub search-turn : i < length s → (getD s i 0 ≡ 9 → ⊥) → (getD s i 0 ≡ 10 → ⊥) → Clear s from (i + 1)
   search-turn h n m =
-      record {
-        after = omega arith;
-        within = omega arith;
-        clear = record { no-tab = none-more s 9 (g .clear .no-tab) n; no-feed = none-more s 10 (g .clear .no-feed) m };
-      }
+      record { after = omega arith; within = omega arith; no-first = none-more s 9 (g .no-first) n; no-second = none-more s 10 (g .no-second) m }
 
   pub search-found : {b : ℕ} → i < length s → getD s i 0 ≡ b → Stopped s from i b
-  search-found h e = record { after = g .after; within = h; is = e; clear = g .clear }
+  search-found h e = record { within = h; is = e; clear = g }
 
   pub search-past : length s ≤ i → Clear s from (length s)
-  search-past h = let e : i ≡ length s = omega arith in rw e at (g .clear)
+  search-past h = let e : i ≡ length s = omega arith in rw e at g
 
 -- past quiet blocks
-pub search-far : {s : List ℕ} {from r : ℕ} → from ≤ length s → r ≡ pastQuiet 9 10 s from → Searching s from r
-search-far h e =
-    let q = past-quiet h e in
-    record { after = q .after; within = q .within; clear = record { no-tab = q .no-first; no-feed = q .no-second } }
+pub search-far : {s : List ℕ} {from r : ℕ} → from ≤ length s → r ≡ pastQuiet 9 10 s from → Clear s from r
+search-far h e = past-quiet h e
 
 -- what was found from i on is found from `from` on
 none-over : (s : List ℕ) (b : ℕ) {from i r : ℕ} → ((k : ℕ) → from ≤ k → k < i → getD s k 0 ≡ b → ⊥)
@@ -77,15 +60,21 @@ none-over : (s : List ℕ) (b : ℕ) {from i r : ℕ} → ((k : ℕ) → from �
 none-over s b {from} {i} f g k p q = elim (decLt k i) [ yes l ↦ f k p l | no l ↦ g k (omega arith) q ]
 
 clear-over : {s : List ℕ} {from i r : ℕ} → Clear s from i → Clear s i r → Clear s from r
-clear-over {s} c d = record { no-tab = none-over s 9 (c .no-tab) (d .no-tab); no-feed = none-over s 10 (c .no-feed) (d .no-feed) }
+clear-over {s} c d =
+    record {
+      after = omega (arith, c .after, d .after);
+      within = d .within;
+      no-first = none-over s 9 (c .no-first) (d .no-first);
+      no-second = none-over s 10 (c .no-second) (d .no-second);
+    }
 
-stopped-over : {s : List ℕ} {from i j b : ℕ} → Searching s from i → Stopped s i j b → Stopped s from j b
-stopped-over g t = record { after = omega (arith, g .after, t .after); within = t .within; is = t .is; clear = clear-over (g .clear) (t .clear) }
+stopped-over : {s : List ℕ} {from i j b : ℕ} → Clear s from i → Stopped s i j b → Stopped s from j b
+stopped-over g t = record { within = t .within; is = t .is; clear = clear-over g (t .clear) }
 
-pub search-over : {s : List ℕ} {from i : ℕ} (x : Stop) → Searching s from i → StopsAt s i x → StopsAt s from x
+pub search-over : {s : List ℕ} {from i : ℕ} (x : Stop) → Clear s from i → StopsAt s i x → StopsAt s from x
 search-over (S.Tab j) g t = stopped-over g t
 search-over (S.Feed j) g t = stopped-over g t
-search-over S.Input g t = clear-over (g .clear) t
+search-over S.Input g t = clear-over g t
 
 -- a place before the near end is one of the input
 pub near-within : {i near n : ℕ} → i < near → near ≤ n → i < n
@@ -148,20 +137,20 @@ part-free s b from end h w f =
 -- the input from a place on: what stands before a byte, the byte, and the rest
 pub part-byte : (s : List ℕ) {from i b : ℕ} → Stopped s from i b → drop from s ≡ take (i - from) (drop from s) ++ b ∷ drop (i + 1) s
 part-byte s {from} {i} {b} g =
-    let d : from + (i - from) ≡ i = (let a = g .after in omega arith) in
+    let d : from + (i - from) ≡ i = (let a = g .clear .after in omega arith) in
     sym (take-append-drop (i - from) (drop from s))
     ∙ ap (λ (t : List ℕ). take (i - from) (drop from s) ++ t)
     (drop-drop (i - from) from s ∙ ap (λ (n : ℕ). drop n s) d ∙ here s i (g .within) ∙ ap (λ (x : ℕ). x ∷ drop (i + 1) s) (g .is))
 
 part-length : (s : List ℕ) {from i b : ℕ} → Stopped s from i b → length (take (i - from) (drop from s)) ≡ i - from
-part-length s {from} {i} g = length-take-le (i - from) (drop from s) (let l = length-drop from s in let a = g .after in let w = g .within in omega arith)
+part-length s {from} {i} g = length-take-le (i - from) (drop from s) (let l = length-drop from s in let a = g .clear .after in let w = g .within in omega arith)
 
 module _ (s : List ℕ) {from i b : ℕ} (g : Stopped s from i b) where
   pub part-no-tab : Free 9 (take (i - from) (drop from s))
-  part-no-tab = part-free s 9 from i (g .after) (let w = g .within in omega arith) (g .clear .no-tab)
+  part-no-tab = part-free s 9 from i (g .clear .after) (let w = g .within in omega arith) (g .clear .no-first)
 
   part-no-feed : Free 10 (take (i - from) (drop from s))
-  part-no-feed = part-free s 10 from i (g .after) (let w = g .within in omega arith) (g .clear .no-feed)
+  part-no-feed = part-free s 10 from i (g .clear .after) (let w = g .within in omega arith) (g .clear .no-second)
 
 -- the same to the end of the input
 rest-free : (s : List ℕ) (b from : ℕ) → from ≤ length s → ((k : ℕ) → from ≤ k → k < length s → getD s k 0 ≡ b → ⊥) → Free b (drop from s)
@@ -183,7 +172,7 @@ module _ (s : List ℕ) (k start : ℕ) (h : start ≤ length s) (g : Clear s st
       let l = length-drop start s in
       let e : start + length (drop start s) ≡ length s = omega arith in
       let z : length s + 0 ≡ length s = omega arith in
-      rw (line-end (drop start s) (rest-free s 10 start h (g .no-feed)), split-whole (drop start s) (rest-free s 9 start h (g .no-tab)), e, z)
+      rw (line-end (drop start s) (rest-free s 10 start h (g .no-second)), split-whole (drop start s) (rest-free s 9 start h (g .no-first)), e, z)
 
   pub cut-ends : {end next : ℕ} → judgementOf k start (lineOf (drop start s)) ≡ accepted end next → end ≡ length s
   cut-ends e = judged-end (pick (required k || isEmpty (drop start s)) (refused 4 (length s)) fine) (length s) (length s) (sym cut-judged ∙ e)
@@ -257,7 +246,7 @@ module _ (s : List ℕ) (k start feed : ℕ) (g : Stopped s start feed 10) where
       ≡ judgement (pick (required k) (refused 3 (feed + 1)) (pick (isEmpty (stripped column)) (refused 2 (feed + 1)) fine)) (start + length (stripped column)) (feed + 1)
   unfolding column
   feed-judged =
-      let n : start + length column + 1 ≡ feed + 1 = (let l = part-length s g in let a = g .after in omega arith) in
+      let n : start + length column + 1 ≡ feed + 1 = (let l = part-length s g in let a = g .clear .after in omega arith) in
       ap (judgementOf k start) (ap lineOf (part-byte s g) ∙ line-feed column (drop (feed + 1) s) (part-no-feed s g))
       ∙ fed-judged k start column (drop (feed + 1) s) (part-no-tab s g)
       ∙ rw n
@@ -268,7 +257,7 @@ module _ (s : List ℕ) (k start feed : ℕ) (g : Stopped s start feed 10) where
       let j = judged-end (pick (required k) (refused 3 (feed + 1)) (pick (isEmpty (stripped column)) (refused 2 (feed + 1)) fine)) (start + length (stripped column)) (feed + 1) (sym feed-judged ∙ e) in
       let l = part-length s g in
       let m = strip-most column in
-      let a = g .after in
+      let a = g .clear .after in
       (omega arith, omega arith)
 
   -- the byte before the LF decides
@@ -292,7 +281,7 @@ module _ (s : List ℕ) (k start feed : ℕ) (g : Stopped s start feed 10) where
   end-length (return h w e) = let l = part-length s g in let m = strip-return column (column-ends h ∙ eq-eqb _ _ e) in omega arith
 
   end-after : {end : ℕ} → TextEnd s start feed end → start ≤ end
-  end-after (input e) = g .after
+  end-after (input e) = g .clear .after
   end-after (none e) = omega arith
   end-after (bare h n) = omega arith
   end-after (return h w e) = omega arith
@@ -383,7 +372,7 @@ module _ {s : List ℕ} {at k start tab : ℕ} (g : Going s at k start) (h : Sto
   unfolding here-column
   judge-turn n =
       let l = part-length s h in
-      let a = h .after in
+      let a = h .clear .after in
       let w = h .within in
       let m : start + length here-column + 1 ≡ tab + 1 = omega arith in
       record {

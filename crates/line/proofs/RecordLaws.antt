@@ -158,7 +158,7 @@ module _ {s : List ℕ} {at : ℕ} {r : Record} (g : Recorded s at r) where
   unfolding rangeOf recordPlaces fieldOf
   info-lies =
       let n = eight in
-      let c = cut-is (r .info .start) (r .info .len) s ∙ cuts .eight 7 (omega arith) in
+      let c = cuts .eight 7 (omega arith) in
       let e : getD (recordPlaces r) 15 0 ≡ length (getD (split 9 (g .text)) 7 []) =
       ap (λ (l : List ℕ). getD l 15 0) (g .places) ∙ info-size at (split 9 (g .text)) (at + length (g .text)) (g .good .count) in
       record { fits = cut-fits s (r .info) (getD (split 9 (g .text)) 7 []) c e (g .good .full 7 (omega arith)); text = c }
@@ -187,7 +187,7 @@ module _ {s : List ℕ} {at : ℕ} {r : Record} (g : Recorded s at r) where
 
       some : 10 ≤ length (split 9 (g .text)) → Lies s (r .samples) (joined 9 (drop 9 (split 9 (g .text))))
       some h =
-          let c = cut-is (r .samples .start) (r .samples .len) s ∙ cuts .samples h in
+          let c = cuts .samples h in
           let e : getD (recordPlaces r) 19 0 ≡ length (joined 9 (drop 9 (split 9 (g .text)))) =
           ap (λ (l : List ℕ). getD l 19 0) (g .places) ∙ samples-size at (split 9 (g .text)) (at + length (g .text)) h in
           let l = joined-length 9 (drop 9 (split 9 (g .text))) samples-full in

@@ -8,6 +8,7 @@ use lib.ListN.{length, getD, take, drop}
 use Rattle.text.specs.Answer.{Answer, says, numberOf, valuesOf}
 use Rattle.text.specs.Bytes.{endsIn}
 use Rattle.text.specs.Utf8.{isUtf8}
+use Rattle.text.specs.Range.{rangeAt, cut}
 use Rattle.pieces.specs.Pieces.{joined}
 use Rattle.pieces.specs.Demands.{Free}
 use Rattle.line.specs.Line.{Ending, nothing, feed, return-feed, endingBytes}
@@ -50,7 +51,7 @@ Exact read = (s : List ℕ) (at : ℕ) → at < length s → Refuses (read s at)
 
 -- place i of a list of starts and lengths, cut out of the buffer
 unfoldable pub fieldOf : List ℕ → ℕ → List ℕ → List ℕ
-fieldOf places i s = take (getD places (2 * i + 1) 0) (drop (getD places (2 * i) 0) s)
+fieldOf places i s = cut (rangeAt (getD places (2 * i) 0) (getD places (2 * i + 1) 0)) s
 
 -- the ten places cut these columns out of the buffer: FORMAT and the samples, which stay joined, where there are such
 pub record CutsOut (places : List ℕ) (s : List ℕ) (cs : List (List ℕ)) (end : ℕ) : Type 0 where

@@ -7,7 +7,7 @@ use lib.Dec.{leb}
 use Rattle.text.specs.Pick.{pick}
 use Rattle.text.specs.Answer.{Answer, says}
 use Rattle.text.specs.Same.{same}
-use Rattle.text.specs.Range.{cut}
+use Rattle.text.specs.Range.{cut, rangePlaces}
 use Rattle.text.specs.declared.range.Range.{Range}
 use Rattle.line.specs.declared.read.Record.{Record}
 use Rattle.line.specs.declared.fields.Name.{Name}
@@ -31,20 +31,20 @@ fitsIn r s = leb (r .start) (length s) && leb (r .len) (length s - r .start)
 
 -- the place, or 6
 unfoldable pub placeAnswer : List ℕ → Range → Answer
-placeAnswer s r = pick (fitsIn r s) (says 0 (r .start ∷ r .len ∷ [])) (says 6 [])
+placeAnswer s r = pick (fitsIn r s) (says 0 (rangePlaces r)) (says 6 [])
 
 -- what a `.` reads as: empty at its column's end, absent, or as it stands
 unfoldable pub dotAnswer : Name → Range → Answer
-dotAnswer N.Chrom r = says 0 (r .start ∷ r .len ∷ [])
-dotAnswer N.Pos r = says 0 (r .start ∷ r .len ∷ [])
+dotAnswer N.Chrom r = says 0 (rangePlaces r)
+dotAnswer N.Pos r = says 0 (rangePlaces r)
 dotAnswer N.Id r = says 0 ((r .start + r .len) ∷ 0 ∷ [])
-dotAnswer N.Reference r = says 0 (r .start ∷ r .len ∷ [])
+dotAnswer N.Reference r = says 0 (rangePlaces r)
 dotAnswer N.Alt r = says 0 ((r .start + r .len) ∷ 0 ∷ [])
 dotAnswer N.Qual r = says 0 []
 dotAnswer N.Filter r = says 0 ((r .start + r .len) ∷ 0 ∷ [])
 dotAnswer N.Info r = says 0 ((r .start + r .len) ∷ 0 ∷ [])
-dotAnswer N.Format r = says 0 (r .start ∷ r .len ∷ [])
-dotAnswer N.Samples r = says 0 (r .start ∷ r .len ∷ [])
+dotAnswer N.Format r = says 0 (rangePlaces r)
+dotAnswer N.Samples r = says 0 (rangePlaces r)
 
 -- a range's text that is a `.` reads as its field says; any other stands as it is
 unfoldable pub textAnswer : List ℕ → Name → Range → Answer

@@ -4,6 +4,7 @@ use mathlib.Core.Path.{_≡_}
 use mathlib.Core.List.{List, [], _∷_, _++_}
 use lib.ListN.{length, getD, take, drop}
 use Rattle.text.specs.declared.range.Range.{Range}
+use Rattle.pieces.specs.Block.{Quiet}
 use Rattle.pieces.specs.Pieces.{split}
 use Rattle.line.specs.Line.{endingBytes, Line, line, lineOf, Verdict, fine, refused, verdict}
 use Rattle.line.specs.declared.read.Stop.{Stop}
@@ -14,13 +15,11 @@ use Rattle.line.specs.declared.read.Judged.the-variants as J
 -- ---- where a column ends
 
 -- no tab and no LF from one place up to another
-pub record Clear (s : List ℕ) (from end : ℕ) : Type 0 where
-  pub no-tab : (k : ℕ) → from ≤ k → k < end → getD s k 0 ≡ 9 → ⊥
-  pub no-feed : (k : ℕ) → from ≤ k → k < end → getD s k 0 ≡ 10 → ⊥
+abbrev pub Clear : List ℕ → ℕ → ℕ → Type 0
+Clear s from end = Quiet 9 10 s from end
 
 -- the first tab or LF from a place on is the byte b, at the place i
 pub record Stopped (s : List ℕ) (from i b : ℕ) : Type 0 where
-  pub after : from ≤ i
   pub within : i < length s
   pub is : getD s i 0 ≡ b
   pub clear : Clear s from i
@@ -112,9 +111,6 @@ pub record Rising (at : ℕ) (tabs : List ℕ) : Type 0 where
   pub alt : getD tabs 3 0 < getD tabs 4 0
   pub qual : getD tabs 4 0 < getD tabs 5 0
   pub filter : getD tabs 5 0 < getD tabs 6 0
-
-unfoldable pub rangePlaces : Range → List ℕ
-rangePlaces r = r .start ∷ r .len ∷ []
 
 -- the column past the first j tabs, which the next tab ends
 unfoldable pub tabPlaces : ℕ → List ℕ → ℕ → List ℕ

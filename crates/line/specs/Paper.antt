@@ -1,7 +1,8 @@
 -- The number on paper, and the values, of each answer of this crate (docs/RULES.md, "Numbers answered"). Assumes nothing.
 use Prim.Native.Nat.{ℕ}
-use mathlib.Core.List.{List, [], _∷_}
+use mathlib.Core.List.{List, [], _∷_, _++_}
 use Rattle.text.specs.Answer.{Answer, says}
+use Rattle.text.specs.Range.{rangePlaces}
 use Rattle.line.specs.declared.read.Record.{Record}
 use Rattle.line.specs.declared.read.Read.{Read}
 use Rattle.line.specs.declared.read.Read.the-variants as R
@@ -13,27 +14,16 @@ use Rattle.line.specs.declared.pos.Position.the-variants as P
 -- the starts and lengths of the ten fields
 unfoldable pub recordPlaces : Record → List ℕ
 recordPlaces r =
-    r .chrom .start
-    ∷ r .chrom .len
-    ∷ r .pos .start
-    ∷ r .pos .len
-    ∷ r .id .start
-    ∷ r .id .len
-    ∷ r .reference .start
-    ∷ r .reference .len
-    ∷ r .alt .start
-    ∷ r .alt .len
-    ∷ r .qual .start
-    ∷ r .qual .len
-    ∷ r .filter .start
-    ∷ r .filter .len
-    ∷ r .info .start
-    ∷ r .info .len
-    ∷ r .format .start
-    ∷ r .format .len
-    ∷ r .samples .start
-    ∷ r .samples .len
-    ∷ []
+    rangePlaces (r .chrom)
+    ++ rangePlaces (r .pos)
+    ++ rangePlaces (r .id)
+    ++ rangePlaces (r .reference)
+    ++ rangePlaces (r .alt)
+    ++ rangePlaces (r .qual)
+    ++ rangePlaces (r .filter)
+    ++ rangePlaces (r .info)
+    ++ rangePlaces (r .format)
+    ++ rangePlaces (r .samples)
 
 unfoldable pub readPaper : Read → Answer
 readPaper (R.Line r next) = says 0 (next ∷ recordPlaces r)
@@ -46,7 +36,7 @@ readPaper (R.Beyond next) = says 6 (next ∷ [])
 
 -- the field's place, or nothing where it is absent
 unfoldable pub fieldPaper : Text → Answer
-fieldPaper (F.At r) = says 0 (r .start ∷ r .len ∷ [])
+fieldPaper (F.At r) = says 0 (rangePlaces r)
 fieldPaper F.Absent = says 0 []
 fieldPaper F.Beyond = says 6 []
 

@@ -7,10 +7,11 @@ ghost use mathlib.Core.Path.{_≡_};
 ghost use Prim.Native.Nat.{_+_, _-_, _≤_, _<_};
 ghost use mathlib.Core.List.{_++_};
 ghost use lib.ListN.{length, take, drop, set};
+ghost use Rattle.text.specs.Range.{rangePlaces};
 ghost use Rattle.pieces.specs.Pieces.{split};
 ghost use Rattle.line.specs.Line.{required, lineOf, fieldPlaces, lineAnswer, readAnswer};
 ghost use Rattle.line.specs.Paper.{recordPlaces, readPaper};
-ghost use Rattle.line.specs.Inner.{StopsAt, Stopped, Clear, TextEnd, judgementOf, judgedPaper, Unset, Marks, Spans, Rising, rangePlaces, sevenPlaces, Told, InOrder};
+ghost use Rattle.line.specs.Inner.{StopsAt, Stopped, Clear, TextEnd, judgementOf, judgedPaper, Unset, Marks, Spans, Rising, sevenPlaces, Told, InOrder};
 
 // The places of a line's ten fields. Others ask for them by `fields`.
 pub struct Record {

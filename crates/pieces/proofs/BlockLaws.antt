@@ -12,7 +12,7 @@ use lib.Dec.{leb, eqb}
 use borrow.Author.Tests.{le-leb, lt-leb, leb-true, leb-false, eq-eqb, ne-eqb, eqb-false}
 use Rattle.text.specs.Pick.{pick}
 use Rattle.text.proofs.Lists.{here}
-use Rattle.pieces.specs.Block.{quietLength, pastQuiet}
+use Rattle.pieces.specs.Block.{Quiet, quietLength, pastQuiet}
 
 -- ---- a byte that is one of the two
 
@@ -137,13 +137,6 @@ module _ {a b : ℕ} {s : List ℕ} {at i : ℕ} (g : Passing a b s at i) where
   pass-end e t = let n = leb-false 32 (quietLength a b (drop i s)) (sym e ∙ t) in omega (arith, g .same)
 
 -- ---- for callers
-
--- no a and no b from one place of a text up to another
-pub record Quiet (a b : ℕ) (s : List ℕ) (from end : ℕ) : Type 0 where
-  pub after : from ≤ end
-  pub within : end ≤ length s
-  pub no-first : (k : ℕ) → from ≤ k → k < end → getD s k 0 ≡ a → ⊥
-  pub no-second : (k : ℕ) → from ≤ k → k < end → getD s k 0 ≡ b → ⊥
 
 -- the same from a later place on
 pub quiet-later : {a b : ℕ} {s : List ℕ} {from from′ end : ℕ} → Quiet a b s from end → from ≤ from′ → from′ ≤ end → Quiet a b s from′ end

@@ -1,35 +1,18 @@
 -- Counting a byte: those passed and those to come are those of the whole; there is one piece more than separators. Assumes nothing.
-use Prim.Native.Nat.{ℕ, _+_, _<_, _≤_, zero-le}
+use Prim.Native.Nat.{ℕ, _+_, _<_, _≤_, zero-le, suc}
 use mathlib.Core.Path.{_≡_, refl, sym, _∙_}
 use mathlib.Core.List.{List, [], _∷_}
-use mathlib.Core.Bool.{Bool, true, false}
+use mathlib.Core.Bool.{true, false}
 use native.Mathlib.Omega.{arith}
 use native.Mathlib.Decide.{ℕ-discrete}
 use native.Mathlib.Nat.{zero-add}
 use lib.ListN.{length, getD, drop, drop-of-length-le}
 use lib.Dec.{eqb}
 use borrow.Author.Tests.{eq-eqb, ne-eqb, eqb-true}
-use Rattle.text.specs.Pick.{pick}
 use Rattle.text.proofs.Lists.{here}
-use Rattle.pieces.specs.Pieces.{oneIf, countOf, lacks, pieces}
+use Rattle.pieces.specs.Pieces.{countOf, lacks, pieces}
 use Rattle.pieces.specs.Demands.{Free}
 use Rattle.pieces.proofs.PieceLaws.{free-nil, free-cons, free-head, free-tail, split-count, pieces-none, pieces-some}
-
-pub one-yes : (a b : ℕ) → a ≡ b → 1 ≡ oneIf a b
-unfolding oneIf
-one-yes a b e = rw (eq-eqb _ _ e)
-
-pub one-no : (a b : ℕ) → (a ≡ b → ⊥) → 0 ≡ oneIf a b
-unfolding oneIf
-one-no a b h = rw (ne-eqb _ _ h)
-
-pub one-small : (a b : ℕ) {k : ℕ} → k ≡ oneIf a b → k ≤ 1
-unfolding oneIf
-one-small a b e = rw e (by (eqb a b))
-  where
-    by : (t : Bool) → pick t 1 0 ≤ 1
-    by true = omega arith
-    by false = omega arith
 
 -- the count, byte by byte
 pub count-none : (b : ℕ) → countOf b [] ≡ 0
@@ -37,12 +20,35 @@ unfolding countOf
 count-none b = refl
 
 pub count-here : (b : ℕ) (s : List ℕ) {a : ℕ} → a ≡ b → countOf b (a ∷ s) ≡ 1 + countOf b s
-unfolding countOf oneIf
+unfolding countOf
 count-here b s {a} e = rw (eq-eqb a b e)
 
 pub count-other : (b : ℕ) (s : List ℕ) {a : ℕ} → (a ≡ b → ⊥) → countOf b (a ∷ s) ≡ countOf b s
-unfolding countOf oneIf
+unfolding countOf
 count-other b s {a} h = rw (ne-eqb a b h) (zero-add _)
+
+-- of one byte
+pub one-yes : (a b : ℕ) → a ≡ b → 1 ≡ countOf b (a ∷ [])
+one-yes a b e = rw (count-here b [] e, count-none b)
+
+pub one-no : (a b : ℕ) → (a ≡ b → ⊥) → 0 ≡ countOf b (a ∷ [])
+one-no a b h = rw (count-other b [] h, count-none b)
+
+one-before : (b a : ℕ) (s : List ℕ) → countOf b (a ∷ s) ≡ countOf b (a ∷ []) + countOf b s
+unfolding countOf
+one-before b a s = omega arith
+
+-- no more bytes are counted than there are
+pub count-most : (b : ℕ) (s : List ℕ) → countOf b s ≤ length s
+count-most b [] = omega (arith, count-none b)
+count-most b (a ∷ s) = by (ℕ-discrete a b) (count-most b s)
+  where
+    by : Dec (a ≡ b) → countOf b s ≤ length s → countOf b (a ∷ s) ≤ suc (length s)
+    by (yes e) l = omega (arith, count-here b s e)
+    by (no n) l = omega (arith, count-other b s n)
+
+pub one-small : (a b : ℕ) {k : ℕ} → k ≡ countOf b (a ∷ []) → k ≤ 1
+one-small a b e = omega (arith, count-most b (a ∷ []))
 
 -- it is 0 exactly where the text is free of the byte
 pub free-none : {b : ℕ} (s : List ℕ) → Free b s → countOf b s ≡ 0
@@ -102,10 +108,10 @@ pub count-first : {b : ℕ} {s : List ℕ} → Counting b s 0 0
 count-first = record { within = zero-le; few = zero-le; same = zero-add _ }
 
 module _ {b : ℕ} {s : List ℕ} {n i : ℕ} (g : Counting b s n i) where
-  pub count-turn : {k : ℕ} → i < length s → k ≡ oneIf (getD s i 0) b → Counting b s (n + k) (i + 1)
-  unfolding countOf
+  pub count-turn : {k : ℕ} → i < length s → k ≡ countOf b (getD s i 0 ∷ []) → Counting b s (n + k) (i + 1)
   count-turn h e =
       let l = one-small (getD s i 0) b e in
+      let o = one-before b (getD s i 0) (drop (i + 1) s) in
       record { within = omega arith; few = omega arith; same = omega (arith, rw (here s i h) at (g .same)) }
 
   pub count-past : length s ≤ i → n ≡ countOf b s
@@ -113,12 +119,6 @@ module _ {b : ℕ} {s : List ℕ} {n i : ℕ} (g : Counting b s n i) where
   count-past h = omega (arith, rw (drop-of-length-le s h) at (g .same))
 
 -- ---- counting pieces
-
--- no more bytes are counted than there are
-pub count-most : (b : ℕ) (s : List ℕ) → countOf b s ≤ length s
-unfolding countOf
-count-most b [] = omega arith
-count-most b (a ∷ s) = let l = one-small a b refl in let r = count-most b s in omega arith
 
 pub count-empty : (b : ℕ) (s : List ℕ) → length s ≡ 0 → 0 ≡ length (pieces b s)
 count-empty b s h = rw (pieces-none b s h)

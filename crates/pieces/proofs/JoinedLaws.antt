@@ -6,13 +6,11 @@ use mathlib.Core.List.{List, [], _∷_, _++_, flatten, append-nil}
 use native.Mathlib.Omega.{arith}
 use native.Mathlib.Decide.{decLe}
 use lib.ListN.{length, getD, take, drop, set, length-append}
-use lib.Dec.{leb, eqb}
+use lib.Dec.{leb}
 use lib.Seq.{length-take-le}
 use borrow.Author.Tests.{le-leb, lt-leb, leb-true, leb-false}
 use borrow.Rule.Slice.PartMut.{putMid}
-use Rattle.text.specs.Pick.{pick}
-use Rattle.text.specs.Answer.{numberOf}
-use Rattle.text.specs.Over.{over, overAt, roomAnswer, Writes}
+use Rattle.text.specs.Over.{over, overAt, roomAnswer, Writes, laid}
 use Rattle.text.specs.declared.copy.Written.{Written}
 use Rattle.text.proofs.CopyLaws.{room-fits, room-lacks, writes-fits}
 use Rattle.text.proofs.WrittenLaws.{Wrote, Lacked}
@@ -229,7 +227,7 @@ joined-tells {b} {t} {ends} {l} {l′} x g r = by (decLe (length vs) (length l))
     answer : joinedPaper x ≡ roomAnswer vs l
     answer = g .answer ∙ rw r
 
-    bytes : l′ ≡ pick (eqb (numberOf (roomAnswer vs l)) 0) (over vs l) l
+    bytes : l′ ≡ laid (roomAnswer vs l) vs l
     bytes = g .bytes ∙ rw r
 
     by : Dec (length vs ≤ length l) → JoinedTells b t ends l l′ x

@@ -7,8 +7,8 @@ use native.Mathlib.Omega.{arith}
 use lib.ListN.{length, getD}
 use lib.Dec.{eqb}
 use borrow.Author.Tests.{eqb-true, eqb-false, eq-eqb, ne-eqb}
-use Rattle.text.specs.Pick.{pick}
-use Rattle.pieces.specs.Pieces.{firstOf, longer, split, pieces, joined, oneIf, countOf}
+use Rattle.text.specs.Pick.{pick, oneIf}
+use Rattle.pieces.specs.Pieces.{firstOf, longer, split, pieces, joined, countOf}
 use Rattle.pieces.specs.Demands.{Free, Cut}
 
 -- ---- a piece free of the separator
@@ -191,11 +191,11 @@ length-longer a (p ∷ ps) h = refl
 
 -- there is one piece more than separators
 pub split-count : (b : ℕ) (t : List ℕ) → length (split b t) ≡ countOf b t + 1
-unfolding split countOf oneIf
+unfolding split countOf
 split-count b [] = refl
 split-count b (a ∷ s) = by (eqb a b) (split-count b s)
   where
-    by : (t : Bool) → length (split b s) ≡ countOf b s + 1 → length (pick t ([] ∷ split b s) (longer a (split b s))) ≡ pick t 1 0 + countOf b s + 1
+    by : (t : Bool) → length (split b s) ≡ countOf b s + 1 → length (pick t ([] ∷ split b s) (longer a (split b s))) ≡ oneIf t + countOf b s + 1
     by true e = omega arith
     by false e = let l = length-longer a (split b s) (split-some b s) in omega arith
 

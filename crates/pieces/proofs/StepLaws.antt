@@ -15,14 +15,14 @@ use Rattle.text.specs.Answer.{says}
 use Rattle.text.specs.Range.{cut}
 use Rattle.text.specs.declared.range.Range.{Range}
 use Rattle.text.proofs.Lists.{here, cut-is}
-use Rattle.pieces.specs.Block.{pastQuiet}
+use Rattle.pieces.specs.Block.{Quiet, pastQuiet}
 use Rattle.pieces.specs.Pieces.{firstOf, longer, split, pieceAnswer, innerAnswer, stepAnswer}
 use Rattle.pieces.specs.Paper.{stepPaper}
 use Rattle.pieces.specs.declared.step.Step.{Step}
 use Rattle.pieces.specs.declared.step.Step.the-variants as S
 use Rattle.pieces.proofs.step.Step.{the-type}
 use Rattle.pieces.proofs.PaperLaws.{step-paper-injective}
-use Rattle.pieces.proofs.BlockLaws.{Quiet, quiet-later, past-quiet}
+use Rattle.pieces.proofs.BlockLaws.{quiet-later, past-quiet}
 use Rattle.pieces.proofs.PieceLaws.{split-mark, split-byte, split-nil, one-text, more-text, more-rest}
 
 -- ---- the first separator

@@ -1,10 +1,18 @@
 -- The place past the blocks of 32 bytes that hold neither of two bytes. Assumes nothing.
-use Prim.Native.Nat.{ℕ, _+_, _*_, _/_}
+use Prim.Native.Nat.{ℕ, _+_, _*_, _/_, _≤_, _<_}
 use mathlib.Core.Bool.{_||_}
 use mathlib.Core.List.{List, [], _∷_}
-use lib.ListN.{drop}
+use lib.ListN.{drop, length, getD}
 use lib.Dec.{eqb}
 use Rattle.text.specs.Pick.{pick}
+use mathlib.Core.Path.{_≡_}
+
+-- no a and no b from one place of a text up to another
+pub record Quiet (a b : ℕ) (s : List ℕ) (from end : ℕ) : Type 0 where
+  pub after : from ≤ end
+  pub within : end ≤ length s
+  pub no-first : (k : ℕ) → from ≤ k → k < end → getD s k 0 ≡ a → ⊥
+  pub no-second : (k : ℕ) → from ≤ k → k < end → getD s k 0 ≡ b → ⊥
 
 -- how many bytes stand before the text's first a or b, or its end
 unfoldable pub quietLength : ℕ → ℕ → List ℕ → ℕ

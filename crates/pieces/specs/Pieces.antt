@@ -3,9 +3,10 @@ use Prim.Native.Nat.{ℕ, _+_}
 use mathlib.Core.Bool.{Bool}
 use mathlib.Core.List.{List, [], _∷_, _++_}
 use lib.ListN.{length, drop}
-use lib.Dec.{leb, eqb}
-use Rattle.text.specs.Pick.{pick}
+use lib.Dec.{eqb}
+use Rattle.text.specs.Pick.{pick, oneIf}
 use Rattle.text.specs.Answer.{Answer, says}
+use Rattle.text.specs.Over.{placed}
 
 -- ---- a list of pieces
 
@@ -36,13 +37,9 @@ joined separator (p ∷ q ∷ ps) = p ++ separator ∷ joined separator (q ∷ p
 
 -- ---- counting a byte
 
-unfoldable pub oneIf : ℕ → ℕ → ℕ
-oneIf a b = pick (eqb a b) 1 0
-
 unfoldable pub countOf : ℕ → List ℕ → ℕ
-unfolding oneIf
 countOf b [] = 0
-countOf b (a ∷ s) = oneIf a b + countOf b s
+countOf b (a ∷ s) = oneIf (eqb a b) + countOf b s
 
 -- the byte stands nowhere in the text
 unfoldable pub lacks : ℕ → List ℕ → Bool
@@ -64,4 +61,4 @@ innerAnswer separator (b ∷ s) at = pieceAnswer at (split separator (drop at (b
 
 -- 6 for a place beyond the text
 unfoldable pub stepAnswer : ℕ → List ℕ → ℕ → Answer
-stepAnswer separator t at = pick (leb at (length t)) (innerAnswer separator t at) (says 6 [])
+stepAnswer separator t at = placed at t (innerAnswer separator t at)

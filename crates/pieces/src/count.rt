@@ -1,7 +1,8 @@
 // Counting a byte, and the pieces between separators.
 ghost use mathlib.Core.Path.{_≡_};
+ghost use mathlib.Core.List.{[], _∷_};
 ghost use lib.ListN.{length};
-ghost use Rattle.pieces.specs.Pieces.{countOf, oneIf, pieces};
+ghost use Rattle.pieces.specs.Pieces.{countOf, pieces};
 
 // How often the byte `b` stands in `s`.
 pub fn count_byte(s: &[u8], b: u8) -> usize
@@ -18,7 +19,7 @@ pub fn count_byte(s: &[u8], b: u8) -> usize
 
 // 1 where the two bytes are equal, else 0.
 fn one_if(a: u8, b: u8) -> usize
-    ensures { λ r. ⌜ r ≡ oneIf a b ⌝ }
+    ensures { λ r. ⌜ r ≡ countOf b (a ∷ []) ⌝ }
 {
     if a == b { 1 } else { 0 }
 }

@@ -4,6 +4,9 @@ use mathlib.Core.List.{List, [], _∷_}
 use lib.ListN.{take, drop}
 use Rattle.text.specs.declared.range.Range.{Range}
 
+abbrev pub rangeAt : ℕ → ℕ → Range
+rangeAt start len = record { start = start; len = len }
+
 -- its start and its length, as an answer carries them
 abbrev pub rangePlaces : Range → List ℕ
 rangePlaces r = r .start ∷ r .len ∷ []

@@ -2,12 +2,13 @@
 use Prim.Native.Nat.{_-_}
 use lib.ListN.{length}
 use borrow.Author.Needs.{needs}
-use Rattle.line.proofs.ReadLaws.{Searching, near-within, laws}
+use Rattle.line.specs.Inner.{Clear}
+use Rattle.line.proofs.ReadLaws.{near-within, laws}
 use Rattle.line.proofs.read.column_end.Statement.{statement}
 use Rattle.line.proofs.read.column_end.Tie as tie
 
 abbrev Inv-loop : tie.InvT-loop
-Inv-loop s from near i₀ i = Searching s from i
+Inv-loop s from near i₀ i = Clear s from i
 
 abbrev μ-loop : tie.MeasureT-loop
 μ-loop s from near i₀ i = length s - i
