@@ -4,6 +4,7 @@ use mathlib.Core.Path.{_≡_, refl, _∙_}
 use mathlib.Core.List.{List, [], _∷_}
 use Rattle.text.specs.Answer.{says}
 use Rattle.text.specs.declared.range.Range.{Range}
+use Rattle.text.specs.Pick.{oneIf}
 use Rattle.line.specs.Fields.{rangeOf}
 use Rattle.line.specs.Paper.{readPaper}
 use Rattle.line.specs.declared.read.Record.{Record}
@@ -15,7 +16,6 @@ use Rattle.info.specs.Paper as IP
 use Rattle.info.specs.declared.step.Entry.{Entry}
 use Rattle.info.specs.declared.step.Step as IS
 use Rattle.info.specs.declared.step.Step.the-variants as I
-use Rattle.genotype.specs.Reading.{mark}
 use Rattle.genotype.specs.Paper as GP
 use Rattle.genotype.specs.declared.allele.Allele.{Allele}
 use Rattle.genotype.specs.declared.step.Step as GS
@@ -53,6 +53,6 @@ module _ {k r : ℕ} {l l′ : List ℕ} where
       → Tells k (readPaper (R.Line line next)) l r l′
   line-told line next t a b c d e f g h i j = told-case (L.read-line refl ∙ rw (a, b, c, d, e, f, g, h, i, j)) t
 
-  pub allele-told : (a : Allele) (next : ℕ) {n m p : ℕ} → n ≡ a .number → m ≡ mark (a .missing) → p ≡ mark (a .phased)
+  pub allele-told : (a : Allele) (next : ℕ) {n m p : ℕ} → n ≡ a .number → m ≡ oneIf (a .missing) → p ≡ oneIf (a .phased)
       → Tells k (says 0 (next ∷ n ∷ m ∷ p ∷ [])) l r l′ → Tells k (GP.stepPaper (G.Found a next)) l r l′
   allele-told a next e f g t = told-case (A.step-found refl ∙ rw (e, f, g)) t

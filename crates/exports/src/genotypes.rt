@@ -15,8 +15,9 @@ use genotype::step::step_at;
 use spelling::write::Write;
 use spelling::write::write_genotype;
 ghost use mathlib.Core.Path.{_≡_};
+ghost use Rattle.text.specs.Pick.{oneIf};
 ghost use Rattle.lists.specs.AlternateBases.{altCount};
-ghost use Rattle.genotype.specs.Reading.{mark, stepAnswer, readingOf};
+ghost use Rattle.genotype.specs.Reading.{stepAnswer, readingOf};
 ghost use Rattle.genotype.specs.Answers.{readAnswer, checkedAnswer};
 ghost use Rattle.genotype.specs.Paper.{stepPaper, readPaper};
 ghost use Rattle.genotype.specs.declared.step.Step.the-variants as S;
@@ -26,7 +27,7 @@ ghost use Rattle.exports.specs.Reading.{ReadsGenotype, ReadsChecked};
 ghost use Rattle.exports.specs.Writing.{WritesGenotype};
 
 fn mark_of(b: bool) -> usize
-    ensures { λ r. ⌜ r ≡ mark b ⌝ }
+    ensures { λ r. ⌜ r ≡ oneIf b ⌝ }
 {
     if b { 1 } else { 0 }
 }

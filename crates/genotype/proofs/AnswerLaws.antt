@@ -1,6 +1,6 @@
 -- What the readers answer, by what the text reads as and by the row: by cases of the definitions. Assumes nothing.
 use Prim.Native.Nat.{ℕ, _≤_, _<_}
-use mathlib.Core.Path.{_≡_, refl, ap, _∙_}
+use mathlib.Core.Path.{_≡_, refl, ap}
 use mathlib.Core.Bool.{and-false}
 use mathlib.Core.List.{List, [], _∷_}
 use native.Mathlib.Omega.{arith}
@@ -10,7 +10,7 @@ use borrow.Author.Tests.{eq-eqb, ne-eqb, lt-ltb, le-ltb}
 use Rattle.text.specs.Answer.{Answer, says, numberOf}
 use Rattle.text.specs.Over.{over}
 use Rattle.genotype.specs.Reading.{list, bad, empty, readingOf, listOf, numbersOf, missingOf, phasedOf}
-use Rattle.genotype.specs.Answers.{wholeAnswer, fitAnswer, readAnswer, rowAnswer, laid, ReadsText}
+use Rattle.genotype.specs.Answers.{wholeAnswer, fitAnswer, readAnswer, rowAnswer, ReadsText}
 use Rattle.genotype.specs.Paper.{readPaper}
 use Rattle.genotype.specs.declared.allele.Allele.{Allele}
 use Rattle.genotype.specs.declared.read.Read.{Read}
@@ -60,17 +60,6 @@ module _ (n m p : List ℕ) (a : Answer) where
     pub row-done-np : length n ≡ length p
     row-done-np = elim (ℕ-discrete (length n) (length p)) [ yes e ↦ e | no e ↦ absurd (refused (row-uneven-np e)) ]
 
--- ---- what is left in a slice
-
-module _ (a : Answer) (vs l : List ℕ) where
-  pub laid-done : numberOf a ≡ 0 → laid a vs l ≡ over vs l
-  unfolding laid
-  laid-done z = rw (eq-eqb _ _ z)
-
-  pub laid-refused : (numberOf a ≡ 0 → ⊥) → laid a vs l ≡ l
-  unfolding laid
-  laid-refused z = rw (ne-eqb _ _ z)
-
 -- ---- a list that the row holds
 
 pub record Holds (as′ : List Allele) (n m p : List ℕ) (r : Read) (n′ m′ p′ : List ℕ) : Type 0 where
@@ -84,9 +73,4 @@ pub reads-list : (t n m p : List ℕ) (as′ : List Allele) {r : Read} {n′ m�
 unfolding listOf
 reads-list t n m p as′ q e f h g =
     let k = rw (row-even n m p _ e f, q, answer-list (length n) as′ h) at g in
-    record {
-      answer = k .answer;
-      numbers = k .numbers ∙ laid-done _ _ n refl;
-      missing = k .missing ∙ laid-done _ _ m refl;
-      phased = k .phased ∙ laid-done _ _ p refl;
-    }
+    record { answer = k .answer; numbers = k .numbers; missing = k .missing; phased = k .phased }

@@ -3,7 +3,7 @@ use Prim.Native.Nat.{ℕ}
 use mathlib.Core.Path.{_≡_}
 use mathlib.Core.List.{[], _∷_}
 use Rattle.text.specs.Answer.{says}
-use Rattle.genotype.specs.Reading.{mark}
+use Rattle.text.specs.Pick.{oneIf}
 use Rattle.genotype.specs.Paper.{stepPaper, readPaper}
 use Rattle.genotype.specs.declared.allele.Allele.{Allele}
 use Rattle.genotype.specs.declared.step.Step.{Step}
@@ -12,7 +12,7 @@ use Rattle.genotype.specs.declared.read.Read.{Read}
 use Rattle.genotype.specs.declared.read.Read.the-variants as R
 
 module _ {x : Step} where
-  pub step-found : {a : Allele} {next : ℕ} → x ≡ S.Found a next → stepPaper x ≡ says 0 (next ∷ a .number ∷ mark (a .missing) ∷ mark (a .phased) ∷ [])
+  pub step-found : {a : Allele} {next : ℕ} → x ≡ S.Found a next → stepPaper x ≡ says 0 (next ∷ a .number ∷ oneIf (a .missing) ∷ oneIf (a .phased) ∷ [])
   unfolding stepPaper
   step-found e = rw e
 

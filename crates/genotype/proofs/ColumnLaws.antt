@@ -2,7 +2,8 @@
 use mathlib.Core.Path.{_≡_, refl}
 use mathlib.Core.List.{List, [], _∷_}
 use lib.ListN.{length, length-map}
-use Rattle.genotype.specs.Reading.{mark, numbersOf, missingOf, phasedOf}
+use Rattle.text.specs.Pick.{oneIf}
+use Rattle.genotype.specs.Reading.{numbersOf, missingOf, phasedOf}
 use Rattle.genotype.specs.declared.allele.Allele.{Allele}
 
 pub numbersOf-none : numbersOf [] ≡ []
@@ -14,11 +15,11 @@ module _ (a : Allele) (as′ : List Allele) where
   unfolding numbersOf
   numbersOf-more = refl
 
-  pub missingOf-more : missingOf (a ∷ as′) ≡ mark (a .missing) ∷ missingOf as′
+  pub missingOf-more : missingOf (a ∷ as′) ≡ oneIf (a .missing) ∷ missingOf as′
   unfolding missingOf
   missingOf-more = refl
 
-  pub phasedOf-more : phasedOf (a ∷ as′) ≡ mark (a .phased) ∷ phasedOf as′
+  pub phasedOf-more : phasedOf (a ∷ as′) ≡ oneIf (a .phased) ∷ phasedOf as′
   unfolding phasedOf
   phasedOf-more = refl
 

@@ -11,7 +11,8 @@ use lib.ListN.{length, set, length-set, length-map}
 use lib.Seq.{sets}
 use Rattle.text.specs.Over.{over}
 use Rattle.text.proofs.Lists.{sets-over}
-use Rattle.genotype.specs.Reading.{readingOf, stepAnswer, listOf, ListMeant, mark, numbersOf, missingOf, phasedOf}
+use Rattle.text.specs.Pick.{oneIf}
+use Rattle.genotype.specs.Reading.{readingOf, stepAnswer, listOf, ListMeant, numbersOf, missingOf, phasedOf}
 use Rattle.genotype.specs.Answers.{Room}
 use Rattle.genotype.specs.Paper.{stepPaper}
 use Rattle.genotype.specs.declared.allele.Allele.{Allele}
@@ -43,10 +44,10 @@ abbrev pub number : Allele → ℕ
 number a = a .number
 
 abbrev pub missing : Allele → ℕ
-missing a = mark (a .missing)
+missing a = oneIf (a .missing)
 
 abbrev pub phased : Allele → ℕ
-phased a = mark (a .phased)
+phased a = oneIf (a .phased)
 
 -- ---- the three
 
@@ -89,7 +90,7 @@ module _ (t n₀ m₀ p₀ n m p : List ℕ) (at k : ℕ) (x : Step) (g : Fillin
     pub fill-p : k < length p
     fill-p = let b = fill-below in omega arith
 
-    pub fill-turn : {v u : ℕ} → v ≡ mark (a .missing) → u ≡ mark (a .phased) → Filling t n₀ m₀ p₀ (set n k (a .number)) (set m k v) (set p k u) next (k + 1)
+    pub fill-turn : {v u : ℕ} → v ≡ oneIf (a .missing) → u ≡ oneIf (a .phased) → Filling t n₀ m₀ p₀ (set n k (a .number)) (set m k v) (set p k u) next (k + 1)
     fill-turn b c =
         rw (b, c)
         (record {

@@ -3,11 +3,12 @@
 use Prim.Native.Nat.{ℕ, _+_, _<_}
 use mathlib.Core.Path.{_≡_, sym, ap, _∙_}
 use mathlib.Core.Bool.{true, false}
-use mathlib.Core.List.{List, [], _∷_, _++_}
+use mathlib.Core.List.{List, [], _∷_}
 use native.Mathlib.Omega.{arith}
 use native.Mathlib.Decide.{ℕ-discrete}
-use lib.ListN.{length, drop}
 use Rattle.text.specs.Answer.{says, numberOf}
+use Rattle.text.specs.Over.{over}
+use Rattle.text.proofs.Lists.{over-is}
 use Rattle.genotype.specs.Means.{none, Means, bare}
 use Rattle.genotype.specs.Demands.{Reader, reader, Stands, ExactAt, Exact}
 use Rattle.genotype.specs.declared.allele.Allele.{Allele}
@@ -39,7 +40,7 @@ module _ (read : Reader) (x : Exact read) (n : ℕ) (h : n < 10) where
   digit-count = digit-stands .count ∙ rw (sym (digit-stands .only (lone n ∷ []) (digit-means n h)))
 
   digit-row : read ((48 + n) ∷ []) (lone 0 ∷ []) .row ≡ lone n ∷ []
-  digit-row = digit-stands .holds ∙ rw (sym (digit-stands .only (lone n ∷ []) (digit-means n h)))
+  digit-row = digit-stands .holds ∙ rw (sym (digit-stands .only (lone n ∷ []) (digit-means n h)), over-is)
 
 -- one that refuses every text
 pub refuses-all : (read : Reader) → ((t : List ℕ) (row : List Allele) → numberOf (read t row .answer) ≡ 0 → ⊥) → Exact read → ⊥
@@ -62,8 +63,8 @@ one-fixed-list read fixed = one-row read (λ row. fixed)
 
 -- and one that lays it over the row
 pub one-fixed-laid : (read : Reader) (fixed : List Allele)
-    → ((t : List ℕ) (row : List Allele) → numberOf (read t row .answer) ≡ 0 → read t row .row ≡ fixed ++ drop (length fixed) row) → Exact read → ⊥
-one-fixed-laid read fixed = one-row read (λ row. fixed ++ drop (length fixed) row)
+    → ((t : List ℕ) (row : List Allele) → numberOf (read t row .answer) ≡ 0 → read t row .row ≡ over fixed row) → Exact read → ⊥
+one-fixed-laid read fixed = one-row read (λ row. over fixed row)
 
 -- one that counts an allele too many
 pub invented-count : (read : Reader)

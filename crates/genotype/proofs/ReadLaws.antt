@@ -10,6 +10,7 @@ use denote.Enum.Declared.{tagOf}
 use lib.ListN.{length}
 use Rattle.text.specs.Answer.{Answer, says, numberOf}
 use Rattle.text.specs.Over.{over}
+use Rattle.text.proofs.CopyLaws.{laid-refused}
 use Rattle.genotype.specs.Reading.{Reading, list, bad, empty, readingOf, listOf, ListMeant, numbersOf, missingOf, phasedOf}
 use Rattle.genotype.specs.Answers.{readAnswer, firstAbove, aboveAnswer, checkedAnswer, rowAnswer, Room, Reads}
 use Rattle.genotype.specs.Paper.{readPaper}
@@ -18,19 +19,19 @@ use Rattle.genotype.specs.declared.read.Read.{Read}
 use Rattle.genotype.specs.declared.read.Read.the-variants as R
 use Rattle.genotype.proofs.read.Read as D
 use Rattle.genotype.proofs.JudgeLaws.{other-number}
-use Rattle.genotype.proofs.AnswerLaws.{answer-list, answer-short, answer-bad, answer-empty, row-even, row-uneven-nm, row-uneven-np, laid-done, laid-refused}
+use Rattle.genotype.proofs.AnswerLaws.{answer-list, answer-short, answer-bad, answer-empty, row-even, row-uneven-nm, row-uneven-np}
 
 -- ---- the answer
 
 module _ (a : Answer) (as′ : List Allele) (n m p : List ℕ) where
   refused : {r : Read} → rowAnswer n m p a ≡ readPaper r → (numberOf (readPaper r) ≡ 0 → ⊥) → Reads (rowAnswer n m p a) as′ n m p r n m p
-  refused e z =
+  refused {r} e z =
       rw e
       (record {
         answer = refl;
-        numbers = sym (laid-refused _ _ n z);
-        missing = sym (laid-refused _ _ m z);
-        phased = sym (laid-refused _ _ p z);
+        numbers = sym (laid-refused (readPaper r) (numbersOf as′) n z);
+        missing = sym (laid-refused (readPaper r) (missingOf as′) m z);
+        phased = sym (laid-refused (readPaper r) (phasedOf as′) p z);
       })
 
   pub lengths-nm : (length n ≡ length m → ⊥) → Reads (rowAnswer n m p a) as′ n m p R.Lengths n m p
@@ -53,12 +54,7 @@ module _ (a : Answer) (as′ : List Allele) (n m p : List ℕ) where
     unfolding readPaper
     row-done q u v w =
         rw (row, q)
-        (record {
-          answer = refl;
-          numbers = u ∙ sym (laid-done _ _ n refl);
-          missing = v ∙ sym (laid-done _ _ m refl);
-          phased = w ∙ sym (laid-done _ _ p refl);
-        })
+        (record { answer = refl; numbers = u; missing = v; phased = w })
 
 -- ---- a list that fits
 

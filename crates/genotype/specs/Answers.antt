@@ -7,8 +7,8 @@ use mathlib.Core.Option.{Option, some, none}
 use lib.ListN.{length}
 use lib.Dec.{ltb, eqb}
 use Rattle.text.specs.Pick.{pick}
-use Rattle.text.specs.Answer.{Answer, says, numberOf}
-use Rattle.text.specs.Over.{over}
+use Rattle.text.specs.Answer.{Answer, says}
+use Rattle.text.specs.Over.{laid}
 use Rattle.lists.specs.AlternateBases.{altCount}
 use Rattle.genotype.specs.Reading.{Reading, list, bad, empty, readingOf, listOf, numbersOf, missingOf, phasedOf}
 use Rattle.genotype.specs.Paper.{readPaper}
@@ -55,10 +55,6 @@ checkedAnswer count r room = aboveAnswer (firstAbove count 0 (listOf r)) (readAn
 -- 16 first
 unfoldable pub rowAnswer : List ℕ → List ℕ → List ℕ → Answer → Answer
 rowAnswer n m p a = pick (eqb (length n) (length m) && eqb (length n) (length p)) a (says 16 [])
-
--- only an answer that is done changes a slice
-unfoldable pub laid : Answer → List ℕ → List ℕ → List ℕ
-laid a vs l = pick (eqb (numberOf a) 0) (over vs l) l
 
 -- so many entries fit each
 pub record Room (k : ℕ) (n m p : List ℕ) : Type 0 where

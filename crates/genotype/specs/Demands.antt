@@ -3,11 +3,10 @@
 use Prim.Native.Nat.{ℕ, _≤_}
 use mathlib.Core.Path.{_≡_}
 use mathlib.Core.Logic.{_↔_}
-use mathlib.Core.List.{List, [], _∷_, _++_}
-use lib.ListN.{length, drop}
-use lib.Dec.{eqb}
-use Rattle.text.specs.Pick.{pick}
+use mathlib.Core.List.{List, [], _∷_}
+use lib.ListN.{length}
 use Rattle.text.specs.Answer.{Answer, says, numberOf}
+use Rattle.text.specs.Over.{over, laid}
 use Rattle.genotype.specs.Reading.{readingOf, listOf}
 use Rattle.genotype.specs.Answers.{readAnswer}
 use Rattle.genotype.specs.Means.{Means}
@@ -26,7 +25,7 @@ unfoldable pub reader : Reader
 reader t row =
     record {
       answer = readAnswer (readingOf t) (length row);
-      row = pick (eqb (numberOf (readAnswer (readingOf t) (length row))) 0) (listOf (readingOf t) ++ drop (length (listOf (readingOf t))) row) row;
+      row = laid (readAnswer (readingOf t) (length row)) (listOf (readingOf t)) row;
     }
 
 -- the answer 0 stands for this list and for no other, and the row holds it
@@ -35,7 +34,7 @@ pub record Stands (t : List ℕ) (row : List Allele) (o : Outcome) : Type 0 wher
   pub means : Means t list
   pub only : (as′ : List Allele) → Means t as′ → as′ ≡ list
   pub count : o .answer ≡ says 0 (length list ∷ [])
-  pub holds : o .row ≡ list ++ drop (length list) row
+  pub holds : o .row ≡ over list row
 
 -- for a row that every list meant fits: refused exactly when the text means none; otherwise one, which the row holds
 pub record ExactAt (t : List ℕ) (row : List Allele) (o : Outcome) : Type 0 where

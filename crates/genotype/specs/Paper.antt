@@ -3,7 +3,7 @@ use Prim.Native.Nat.{ℕ}
 use mathlib.Core.List.{[], _∷_}
 use mathlib.Core.Option.{Option, some, none}
 use Rattle.text.specs.Answer.{Answer, says}
-use Rattle.genotype.specs.Reading.{mark}
+use Rattle.text.specs.Pick.{oneIf}
 use Rattle.genotype.specs.declared.step.Step.{Step}
 use Rattle.genotype.specs.declared.step.Step.the-variants as S
 use Rattle.genotype.specs.declared.read.Read.{Read}
@@ -13,7 +13,7 @@ use Rattle.genotype.specs.declared.read.Above.the-variants as O
 
 -- the next place, and the allele
 unfoldable pub stepPaper : Step → Answer
-stepPaper (S.Found a next) = says 0 (next ∷ a .number ∷ mark (a .missing) ∷ mark (a .phased) ∷ [])
+stepPaper (S.Found a next) = says 0 (next ∷ a .number ∷ oneIf (a .missing) ∷ oneIf (a .phased) ∷ [])
 stepPaper S.Beyond = says 6 []
 stepPaper S.Nothing = says 10 []
 stepPaper S.Bad = says 12 []

@@ -6,7 +6,7 @@ use mathlib.Core.List.{List, [], _∷_, map}
 use mathlib.Core.Option.{Option, some, none}
 use lib.ListN.{length, drop}
 use lib.Dec.{ltb, eqb}
-use Rattle.text.specs.Pick.{pick}
+use Rattle.text.specs.Pick.{pick, oneIf}
 use Rattle.text.specs.Answer.{Answer, says}
 use Rattle.text.specs.Same.{same}
 use Rattle.decimal.specs.Decimal.{valueOf}
@@ -95,31 +95,35 @@ pub record ListMeant (t : List ℕ) : Type 0 where
 
 -- ---- a list as three lists of numbers
 
-abbrev pub mark : Bool → ℕ
-mark true = 1
-mark false = 0
-
 unfoldable pub numbersOf : List Allele → List ℕ
 numbersOf as′ = map (λ (a : Allele). a .number) as′
 
 unfoldable pub missingOf : List Allele → List ℕ
-missingOf as′ = map (λ (a : Allele). mark (a .missing)) as′
+missingOf as′ = map (λ (a : Allele). oneIf (a .missing)) as′
 
 unfoldable pub phasedOf : List Allele → List ℕ
-phasedOf as′ = map (λ (a : Allele). mark (a .phased)) as′
+phasedOf as′ = map (λ (a : Allele). oneIf (a .phased)) as′
 
 -- ---- one step
 
 -- the next place, and the allele; or 12
 unfoldable pub alleleAnswer : ℕ → Option Allele → Answer
-alleleAnswer next (some a) = says 0 (next ∷ a .number ∷ mark (a .missing) ∷ mark (a .phased) ∷ [])
+alleleAnswer next (some a) = says 0 (next ∷ a .number ∷ oneIf (a .missing) ∷ oneIf (a .phased) ∷ [])
 alleleAnswer next none = says 12 []
 
--- the first allele of a text that stands at the place `at`
+-- the first allele of a text, and the place past it where the text stands at the place `at`
+abbrev pub firstOf : List ℕ → Option Allele
+firstOf [] = none
+firstOf (b ∷ s) = alleleIn (impliedBy s) (b ∷ headOf s)
+
+abbrev pub pastFirst : ℕ → List ℕ → ℕ
+pastFirst at [] = at
+pastFirst at (b ∷ s) = at + 1 + length (headOf s)
+
 unfoldable pub firstAnswer : ℕ → List ℕ → Answer
 unfolding alleleAnswer
 firstAnswer at [] = says 10 []
-firstAnswer at (b ∷ s) = alleleAnswer (at + 1 + length (headOf s)) (alleleIn (impliedBy s) (b ∷ headOf s))
+firstAnswer at (b ∷ s) = alleleAnswer (pastFirst at (b ∷ s)) (firstOf (b ∷ s))
 
 -- 6 beyond the text, 10 at its end
 unfoldable pub stepAnswer : List ℕ → ℕ → Answer

@@ -6,8 +6,9 @@ use lists::alternate_bases::alt_count;
 ghost use mathlib.Core.Path.{_≡_};
 ghost use lib.ListN.{length};
 ghost use Rattle.text.specs.Over.{over};
+ghost use Rattle.text.specs.Pick.{oneIf};
 ghost use Rattle.lists.specs.AlternateBases.{altCount};
-ghost use Rattle.genotype.specs.Reading.{readingOf, ListMeant, mark, listOf, numbersOf, missingOf, phasedOf};
+ghost use Rattle.genotype.specs.Reading.{readingOf, ListMeant, listOf, numbersOf, missingOf, phasedOf};
 ghost use Rattle.genotype.specs.Answers.{wholeAnswer, readAnswer, checkedAnswer, fitAnswer, firstAbove, Room, ReadsText, ReadsChecked};
 ghost use Rattle.genotype.specs.Paper.{readPaper, abovePaper};
 
@@ -109,7 +110,7 @@ pub fn judge_checked(text: &[u8], alt: &[u8], room: usize) -> Read
 }
 
 fn as_mark(b: bool) -> u8
-    ensures { λ r. ⌜ r ≡ mark b ⌝ }
+    ensures { λ r. ⌜ r ≡ oneIf b ⌝ }
 {
     if b { 1 } else { 0 }
 }

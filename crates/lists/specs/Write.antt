@@ -3,13 +3,13 @@
 use Prim.Native.Nat.{ℕ, _+_}
 use mathlib.Core.Path.{_≡_}
 use mathlib.Core.List.{List, [], _∷_}
-use lib.ListN.{length, drop}
-use lib.Dec.{leb, eqb}
+use lib.ListN.{drop}
+use lib.Dec.{eqb}
 use Rattle.text.specs.Pick.{pick}
 use Rattle.text.specs.Answer.{Answer, says, numberOf}
-use Rattle.text.specs.Over.{over, overAt, roomAnswer}
+use Rattle.text.specs.Over.{roomAnswer, laid, laidAt, placed}
 use Rattle.pieces.specs.Pieces.{joined}
-use Rattle.pieces.specs.Entries.{rising, entryList}
+use Rattle.pieces.specs.Entries.{entryList, ordered}
 use Rattle.lists.specs.Kind.{separatorOf}
 use Rattle.lists.specs.Judge.{entryAnswer}
 use Rattle.lists.specs.Paper.{writePaper}
@@ -37,22 +37,22 @@ entriesAnswer kind es l = pick (eqb (numberOf (judgedAnswer kind 0 es)) 0) (room
 
 -- 16 before
 unfoldable pub listAnswer : Kind → List ℕ → List ℕ → List ℕ → Answer
-listAnswer kind t ends l = pick (rising 0 ends (length t)) (entriesAnswer kind (entryList t ends) l) (says 16 [])
+listAnswer kind t ends l = ordered t ends (entriesAnswer kind (entryList t ends) l)
 
 -- 6 first
 unfoldable pub writeAnswer : Kind → List ℕ → List ℕ → List ℕ → ℕ → Answer
-writeAnswer kind t ends out at = pick (leb at (length out)) (listAnswer kind t ends (drop at out)) (says 6 [])
+writeAnswer kind t ends out at = placed at out (listAnswer kind t ends (drop at out))
 
 -- ---- the output: only an answer that is done changes it
 
 pub record PutsList (kind : Kind) (es : List (List ℕ)) (l : List ℕ) (r : Write) (l′ : List ℕ) : Type 0 where
   pub answer : writePaper kind r ≡ roomAnswer (listText kind es) l
-  pub bytes : l′ ≡ pick (eqb (numberOf (roomAnswer (listText kind es) l)) 0) (over (listText kind es) l) l
+  pub bytes : l′ ≡ laid (roomAnswer (listText kind es) l) (listText kind es) l
 
 pub record WritesList (kind : Kind) (t ends l : List ℕ) (r : Write) (l′ : List ℕ) : Type 0 where
   pub answer : writePaper kind r ≡ listAnswer kind t ends l
-  pub bytes : l′ ≡ pick (eqb (numberOf (listAnswer kind t ends l)) 0) (over (listText kind (entryList t ends)) l) l
+  pub bytes : l′ ≡ laid (listAnswer kind t ends l) (listText kind (entryList t ends)) l
 
 pub record WritesListAt (kind : Kind) (t ends out : List ℕ) (at : ℕ) (r : Write) (out′ : List ℕ) : Type 0 where
   pub answer : writePaper kind r ≡ writeAnswer kind t ends out at
-  pub bytes : out′ ≡ pick (eqb (numberOf (writeAnswer kind t ends out at)) 0) (overAt at (listText kind (entryList t ends)) out) out
+  pub bytes : out′ ≡ laidAt (writeAnswer kind t ends out at) at (listText kind (entryList t ends)) out

@@ -10,7 +10,8 @@ use lib.Dec.{eqb}
 use Rattle.text.specs.Answer.{says, numberOf}
 use Rattle.text.specs.Over.{over}
 use Rattle.text.proofs.Lists.{take-over}
-use Rattle.genotype.specs.Reading.{list, readingOf, mark, numbersOf, missingOf, phasedOf}
+use Rattle.text.specs.Pick.{oneIf}
+use Rattle.genotype.specs.Reading.{list, readingOf, numbersOf, missingOf, phasedOf}
 use Rattle.genotype.specs.Answers.{ReadsText}
 use Rattle.genotype.specs.declared.allele.Allele.{Allele}
 use Rattle.genotype.specs.declared.read.Read.{Read}
@@ -46,7 +47,7 @@ row-fits (x ∷ n) (y ∷ m) (z ∷ p) s = record { each = by (row-fits n m p (s
     by f zero h = s .each 0 (omega arith)
     by f (suc i) h = f .each i (omega arith)
 
-mark-back : (b : Bool) → not (eqb (mark b) 0) ≡ b
+mark-back : (b : Bool) → not (eqb (oneIf b) 0) ≡ b
 mark-back true = refl
 mark-back false = refl
 

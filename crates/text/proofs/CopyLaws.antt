@@ -6,9 +6,9 @@ use native.Mathlib.Omega.{arith}
 use native.Mathlib.Numerals.{add-one}
 use lib.ListN.{length, getD, drop, set, length-set, drop-of-length-le}
 use lib.Seq.{sets, drop-cons}
-use borrow.Author.Tests.{le-leb, lt-leb}
-use Rattle.text.specs.Answer.{says}
-use Rattle.text.specs.Over.{over, roomAnswer, Writes}
+use borrow.Author.Tests.{le-leb, lt-leb, ne-eqb}
+use Rattle.text.specs.Answer.{says, Answer, numberOf}
+use Rattle.text.specs.Over.{over, roomAnswer, Writes, laid}
 use Rattle.text.specs.Paper.{writtenPaper}
 use Rattle.text.specs.declared.copy.Written.{Written}
 use Rattle.text.specs.declared.copy.Written.the-variants.{Done, Short}
@@ -59,5 +59,9 @@ room-lacks vs l h = rw (lt-leb _ _ h)
 pub writes-fits : {vs l l′ : List ℕ} {r : Written} → Writes vs l r l′ → length vs ≤ length l → l′ ≡ over vs l
 unfolding roomAnswer
 writes-fits w h = w .bytes ∙ rw (le-leb _ _ h)
+
+-- a refusal lays nothing
+pub laid-refused : {X : Type 0} (a : Answer) (vs l : List X) → (numberOf a ≡ 0 → ⊥) → laid a vs l ≡ l
+laid-refused a vs l z = rw (ne-eqb _ _ z)
 
 pub ruleset laws = (copy-first, copy-turn, copy-past, copy-short)

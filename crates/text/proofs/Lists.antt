@@ -62,12 +62,16 @@ rest-put a vs l ys e =
 
 -- ---- `over` and `overAt`
 
+pub over-is : {X : Type 0} (vs l : List X) → over vs l ≡ vs ++ drop (length vs) l
+unfolding over
+over-is vs l = refl
+
 pub over-nil : (l : List ℕ) → over [] l ≡ l
 unfolding over
 over-nil l = refl
 
 -- elements stored from the start on
-pub sets-over : (vs l : List ℕ) → length vs ≤ length l → sets l 0 vs ≡ over vs l
+pub sets-over : {X : Type 0} (vs l : List X) → length vs ≤ length l → sets l 0 vs ≡ over vs l
 unfolding over
 sets-over vs l h = simp zero-add at (sets-eq vs l 0 (omega arith))
 
