@@ -10,6 +10,14 @@ pub numbersOf-none : numbersOf [] ≡ []
 unfolding numbersOf
 numbersOf-none = refl
 
+pub missingOf-none : missingOf [] ≡ []
+unfolding missingOf
+missingOf-none = refl
+
+pub phasedOf-none : phasedOf [] ≡ []
+unfolding phasedOf
+phasedOf-none = refl
+
 module _ (a : Allele) (as′ : List Allele) where
   pub numbersOf-more : numbersOf (a ∷ as′) ≡ a .number ∷ numbersOf as′
   unfolding numbersOf

@@ -2,21 +2,19 @@
 -- list, what is written means the list, and what means a list reads as it. Assumes nothing.
 use Prim.Native.Nat.{ℕ, zero, suc, _≤_, _<_}
 use mathlib.Core.Path.{_≡_, refl, sym, ap, _∙_}
-use mathlib.Core.Bool.{Bool, true, false, not}
-use mathlib.Core.List.{List, [], _∷_}
+use mathlib.Core.Bool.{true}
+use mathlib.Core.List.{List, [], _∷_, append-nil}
 use native.Mathlib.Omega.{arith}
 use lib.ListN.{length, getD, take, drop}
-use lib.Dec.{eqb}
 use Rattle.text.specs.Answer.{says, numberOf}
 use Rattle.text.specs.Over.{over}
 use Rattle.text.proofs.Lists.{take-over}
-use Rattle.text.specs.Pick.{oneIf}
 use Rattle.genotype.specs.Reading.{list, readingOf, numbersOf, missingOf, phasedOf}
 use Rattle.genotype.specs.Answers.{ReadsText}
 use Rattle.genotype.specs.declared.allele.Allele.{Allele}
 use Rattle.genotype.specs.declared.read.Read.{Read}
 use Rattle.genotype.proofs.MeansLaws.{reads-means}
-use Rattle.genotype.proofs.ColumnLaws.{numbersOf-none, numbersOf-more, missingOf-more, phasedOf-more, numbersOf-length, missingOf-length, phasedOf-length}
+use Rattle.genotype.proofs.ColumnLaws.{numbersOf-length, missingOf-length, phasedOf-length}
 use Rattle.genotype.proofs.AnswerLaws.{Holds, reads-list}
 use Rattle.spelling.specs.Spelling.{from44}
 use Rattle.spelling.specs.Row.{Parallel, alleleOf, rowOf, Small}
@@ -27,6 +25,7 @@ use Rattle.spelling.specs.EndToEnd.{ReadBack}
 use Rattle.spelling.specs.declared.write.Write.the-variants.{Done}
 use Rattle.spelling.proofs.RowLaws.{row-length}
 use Rattle.spelling.proofs.WriteLaws.{row-list, row-parallel}
+use Rattle.spelling.proofs.Slices.{row-append}
 use Rattle.spelling.proofs.RoundTrip.{round-trip}
 
 -- ---- the list of three slices
@@ -47,15 +46,10 @@ row-fits (x ∷ n) (y ∷ m) (z ∷ p) s = record { each = by (row-fits n m p (s
     by f zero h = s .each 0 (omega arith)
     by f (suc i) h = f .each i (omega arith)
 
-mark-back : (b : Bool) → not (eqb (oneIf b) 0) ≡ b
-mark-back true = refl
-mark-back false = refl
-
 -- the columns of a list are slices that stand for it
 columns-row : (as′ : List Allele) → rowOf (numbersOf as′) (missingOf as′) (phasedOf as′) ≡ as′
 unfolding rowOf
-columns-row [] = rw numbersOf-none
-columns-row (a ∷ as′) = rw (numbersOf-more a as′, missingOf-more a as′, phasedOf-more a as′, mark-back (a .missing), mark-back (a .phased), columns-row as′)
+columns-row as′ = rw (append-nil (numbersOf as′), append-nil (missingOf as′), append-nil (phasedOf as′), append-nil as′) at (row-append as′ [] [] [])
 
 begins : (vs l : List ℕ) {l′ : List ℕ} {k : ℕ} → l′ ≡ over vs l → length vs ≡ k → take k l′ ≡ vs
 begins vs l {k = k} e f = rw e (take-over vs l k (sym f))

@@ -13,6 +13,7 @@ pub mod Shortest
 pub mod Exact
 pub mod RoundTrip
 pub mod Impostors
+pub mod Slices
 pub mod EndToEnd
 pub mod TallySteps
 pub mod ListLaws

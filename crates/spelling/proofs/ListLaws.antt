@@ -4,11 +4,8 @@ use mathlib.Core.Path.{_≡_, refl, sym, subst}
 use mathlib.Core.Bool.{Bool, true}
 use mathlib.Core.List.{List}
 use lib.ListN.{length, drop, length-drop}
-use lib.Dec.{eqb}
 use borrow.Author.Tests.{le-leb, lt-leb}
-use Rattle.text.specs.Pick.{pick}
-use Rattle.text.specs.Answer.{numberOf}
-use Rattle.text.specs.Over.{overAt}
+use Rattle.text.specs.Over.{overAt, laidAt}
 use Rattle.text.proofs.CopyLaws.{room-fits, room-lacks}
 use Rattle.genotype.specs.declared.allele.Allele.{Allele}
 use Rattle.spelling.specs.Spelling.{from44, Spelled, bad, phasing, empty, spell}
@@ -26,7 +23,7 @@ fits-at vs at l h = le-leb _ _ h
 
 pub record ListOutcome (as′ : List Allele) (late : Bool) (out : List ℕ) (at : ℕ) (r : Write) (out′ : List ℕ) : Type 0 where
   pub answer : writePaper r ≡ listAnswer as′ late out at
-  pub bytes : out′ ≡ pick (eqb (numberOf (listAnswer as′ late out at)) 0) (overAt at (textOf (spell late as′)) out) out
+  pub bytes : out′ ≡ laidAt (listAnswer as′ late out at) at (textOf (spell late as′)) out
 
 module _ (as′ : List Allele) (late : Bool) (out : List ℕ) (at : ℕ) where
   pub list-beyond : length out < at → ListOutcome as′ late out at W.Beyond out
@@ -35,7 +32,7 @@ module _ (as′ : List Allele) (late : Bool) (out : List ℕ) (at : ℕ) where
 
   module _ (h : at ≤ length out) where
     list-by : {s : Spelled} {r : Write} {out′ : List ℕ} → spell late as′ ≡ s → writePaper r ≡ spelledAnswer s (drop at out)
-        → out′ ≡ pick (eqb (numberOf (spelledAnswer s (drop at out))) 0) (overAt at (textOf s) out) out → ListOutcome as′ late out at r out′
+        → out′ ≡ laidAt (spelledAnswer s (drop at out)) at (textOf s) out → ListOutcome as′ late out at r out′
     unfolding listAnswer
     list-by e a b = record { answer = rw (le-leb _ _ h, e) a; bytes = rw (le-leb _ _ h, e) b }
 
@@ -74,6 +71,6 @@ module _ (major minor : ℕ) (as′ : List Allele) (out : List ℕ) (at : ℕ) w
   writer-answer = refl
 
   pub writer-output : writer major minor as′ out at .output
-      ≡ pick (eqb (numberOf (listAnswer as′ (from44 major minor) out at)) 0) (overAt at (textOf (spell (from44 major minor) as′)) out) out
+      ≡ laidAt (listAnswer as′ (from44 major minor) out at) at (textOf (spell (from44 major minor) as′)) out
   unfolding writer
   writer-output = refl

@@ -2,13 +2,14 @@
 -- Assumes nothing.
 use Prim.Native.Nat.{ℕ, zero, suc, _+_, _<_, _≤_, zero-le}
 use mathlib.Core.Path.{_≡_, refl, ap}
-use mathlib.Core.Bool.{not}
+use mathlib.Core.Bool.{Bool, true, false, not}
 use mathlib.Core.List.{List, [], _∷_}
 use native.Mathlib.Omega.{arith}
 use native.Mathlib.Nat.{le-of-suc-le-suc}
 use native.Mathlib.Numerals.{add-one}
 use lib.ListN.{length, getD, drop, drop-of-length-le}
 use lib.Dec.{eqb}
+use Rattle.text.specs.Pick.{oneIf}
 use Rattle.genotype.specs.declared.allele.Allele.{Allele}
 use Rattle.spelling.specs.Tally.{begun, tallied, tallyFrom, tallyOf}
 use Rattle.spelling.specs.Row.{Parallel, alleleAt, rowOf}
@@ -21,8 +22,13 @@ pub at-is : (n m p : List ℕ) (k : ℕ)
 unfolding alleleAt
 at-is n m p k = refl
 
+-- 1 and 0 stand for what they were written for
+pub mark-back : (b : Bool) → not (eqb (oneIf b) 0) ≡ b
+mark-back true = refl
+mark-back false = refl
+
 -- the tails of lists of one length have one length
-tails : {x y z : ℕ} {n m p : List ℕ} → Parallel (x ∷ n) (y ∷ m) (z ∷ p) → Parallel n m p
+pub tails : {x y z : ℕ} {n m p : List ℕ} → Parallel (x ∷ n) (y ∷ m) (z ∷ p) → Parallel n m p
 tails q = record { missing = omega arith; phased = omega arith }
 
 pub row-length : (n m p : List ℕ) → Parallel n m p → length (rowOf n m p) ≡ length n

@@ -10,7 +10,7 @@ use borrow.Author.Tests.{le-leb, lt-leb}
 use borrow.Rule.Slice.PartMut.{putMid}
 use Rattle.text.specs.Pick.{pick}
 use Rattle.text.specs.Answer.{Answer, says, numberOf}
-use Rattle.text.specs.Over.{over, overAt}
+use Rattle.text.specs.Over.{over, overAt, laid}
 use Rattle.text.proofs.CopyLaws.{room-fits, room-lacks}
 use Rattle.text.proofs.Lists.{rest-all, rest-put, rest-back}
 use Rattle.genotype.specs.Answers as G
@@ -33,7 +33,7 @@ use Rattle.spelling.proofs.PlanLaws.{Spells, Overflows, Told, plan-told
 
 -- what is spelled decides
 abbrev Spelt : Spelled → List ℕ → Write → List ℕ → Type 0
-Spelt s l r l′ = (writePaper r ≡ spelledAnswer s l) × (l′ ≡ pick (eqb (numberOf (spelledAnswer s l)) 0) (over (textOf s) l) l)
+Spelt s l r l′ = (writePaper r ≡ spelledAnswer s l) × (l′ ≡ laid (spelledAnswer s l) (textOf s) l)
 
 module _ {as′ : List Allele} {late : Bool} (l : List ℕ) where
   writes-by : {s : Spelled} {r : Write} {l′ : List ℕ} → spell late as′ ≡ s → Spelt s l r l′ → WritesList as′ late l r l′

@@ -6,10 +6,8 @@ use mathlib.Core.Bool.{true}
 use mathlib.Core.Logic.{_↔_}
 use mathlib.Core.List.{List, [], _∷_}
 use lib.ListN.{length, getD, take, drop}
-use lib.Dec.{eqb}
-use Rattle.text.specs.Pick.{pick}
 use Rattle.text.specs.Answer.{Answer, says, numberOf}
-use Rattle.text.specs.Over.{overAt}
+use Rattle.text.specs.Over.{overAt, laidAt}
 use Rattle.genotype.specs.Means.{Means}
 use Rattle.genotype.specs.declared.allele.Allele.{Allele}
 use Rattle.spelling.specs.Spelling.{from44, spell}
@@ -29,7 +27,7 @@ unfoldable pub writer : Writer
 writer major minor as′ out at =
     record {
       answer = listAnswer as′ (from44 major minor) out at;
-      output = pick (eqb (numberOf (listAnswer as′ (from44 major minor) out at)) 0) (overAt at (textOf (spell (from44 major minor) as′)) out) out;
+      output = laidAt (listAnswer as′ (from44 major minor) out at) at (textOf (spell (from44 major minor) as′)) out;
     }
 
 -- the one shortest of the spellings that a file format permits

@@ -3,11 +3,9 @@ use Prim.Native.Nat.{ℕ}
 use mathlib.Core.Path.{_≡_}
 use mathlib.Core.Bool.{Bool}
 use mathlib.Core.List.{List, [], _∷_}
-use lib.ListN.{length, drop}
-use lib.Dec.{leb, eqb}
-use Rattle.text.specs.Pick.{pick}
+use lib.ListN.{drop}
 use Rattle.text.specs.Answer.{Answer, says, numberOf}
-use Rattle.text.specs.Over.{over, overAt, roomAnswer}
+use Rattle.text.specs.Over.{roomAnswer, laid, laidAt, placed}
 use Rattle.genotype.specs.Answers as G
 use Rattle.genotype.specs.declared.allele.Allele.{Allele}
 use Rattle.spelling.specs.Spelling.{from44, Spelled, text, bad, phasing, empty, spell}
@@ -33,22 +31,21 @@ textOf empty = []
 -- only an answer that is done changes it
 pub record WritesList (as′ : List Allele) (late : Bool) (l : List ℕ) (r : Write) (l′ : List ℕ) : Type 0 where
   pub answer : writePaper r ≡ spelledAnswer (spell late as′) l
-  pub bytes : l′ ≡ pick (eqb (numberOf (spelledAnswer (spell late as′) l)) 0) (over (textOf (spell late as′)) l) l
+  pub bytes : l′ ≡ laid (spelledAnswer (spell late as′) l) (textOf (spell late as′)) l
 
 -- ---- from a place of an output
 
 -- 6 beyond it
 unfoldable pub listAnswer : List Allele → Bool → List ℕ → ℕ → Answer
-listAnswer as′ late out at = pick (leb at (length out)) (spelledAnswer (spell late as′) (drop at out)) (says 6 [])
+listAnswer as′ late out at = placed at out (spelledAnswer (spell late as′) (drop at out))
 
 -- 6 first, then 16 where the slices' lengths differ
 unfoldable pub rowAnswer : List ℕ → List ℕ → List ℕ → Bool → List ℕ → ℕ → Answer
-rowAnswer n m p late out at =
-    pick (leb at (length out)) (G.rowAnswer n m p (spelledAnswer (spell late (rowOf n m p)) (drop at out))) (says 6 [])
+rowAnswer n m p late out at = placed at out (G.rowAnswer n m p (spelledAnswer (spell late (rowOf n m p)) (drop at out)))
 
 pub record WritesRow (n m p : List ℕ) (major minor : ℕ) (out : List ℕ) (at : ℕ) (r : Write) (out′ : List ℕ) : Type 0 where
   pub answer : writePaper r ≡ rowAnswer n m p (from44 major minor) out at
-  pub bytes : out′ ≡ pick (eqb (numberOf (rowAnswer n m p (from44 major minor) out at)) 0) (overAt at (textOf (spell (from44 major minor) (rowOf n m p))) out) out
+  pub bytes : out′ ≡ laidAt (rowAnswer n m p (from44 major minor) out at) at (textOf (spell (from44 major minor) (rowOf n m p))) out
 
 -- the numbers of a list that is written have at most 64 bits: so what is written reads back with nothing asked of the caller
 pub record SmallWhereDone (n : List ℕ) (r : Write) : Type 0 where
