@@ -5,6 +5,7 @@ use mathlib.Core.List.{List, [], _∷_}
 use native.Mathlib.Omega.{arith}
 use lib.ListN.{length}
 use Rattle.text.specs.Answer.{says}
+use Rattle.text.proofs.ByteLaws.{none-empty}
 use Rattle.pieces.specs.Pieces.{pieces, countOf}
 use Rattle.pieces.proofs.CountLaws.{count-none, count-other}
 use Rattle.pieces.proofs.PieceLaws.{free-nil, free-cons, split-mark, split-whole, split-count, pieces-none, pieces-some}
@@ -44,7 +45,7 @@ keyless-step : stepAnswer keyless-column 0 ≡ says 8 (1 ∷ [])
 unfolding firstAnswer pairOf pairIn entryAnswer
 keyless-step =
     step-inside keyless-column 0 (omega arith)
-    ∙ rw (split-whole {b = 59} keyless-column (free-cons (λ z. omega arith) (free-cons (λ z. omega arith) free-nil)), split-mark 61 (97 ∷ []), split-whole {b = 61} (97 ∷ []) (free-cons (λ z. omega arith) free-nil))
+    ∙ rw (split-whole {b = 59} keyless-column (free-cons (λ z. omega arith) (free-cons (λ z. omega arith) free-nil)), split-mark 61 (97 ∷ []), split-whole {b = 61} (97 ∷ []) (free-cons (λ z. omega arith) free-nil), none-empty [] refl)
 
 key-step : stepAnswer keyless-column 1 ≡ says 0 (2 ∷ placesOf 1 (alone (97 ∷ [])))
 unfolding spelled

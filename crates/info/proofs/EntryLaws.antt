@@ -11,6 +11,8 @@ use lib.Dec.{ltb, eqb}
 use borrow.Author.Tests.{lt-ltb, le-ltb, ltb-true, ltb-false, eq-eqb, ne-eqb, eqb-true, eqb-false}
 use Rattle.text.specs.Pick.{pick}
 use Rattle.text.specs.Answer.{Answer, says}
+use Rattle.text.proofs.ByteLaws.{none-empty, some-empty}
+use Rattle.text.specs.Bytes.{isEmpty}
 use Rattle.pieces.specs.Pieces.{split, joined}
 use Rattle.pieces.specs.Demands.{Free}
 use Rattle.pieces.proofs.PieceLaws.{free-nil, free-cons, free-tail, free-append, free-left, free-right, first-free, split-nil, split-joined, split-whole, split-append, one-text, more-text}
@@ -145,7 +147,7 @@ module _ (at : ℕ) (p : Pair) (next : ℕ) where
 
 kept : (at : ℕ) (p : Pair) (next : ℕ) → 0 < length (keyOf p) → entryAnswer at p next ≡ says 0 (next ∷ placesOf at p)
 unfolding entryAnswer
-kept at p next n = rw (ne-eqb (length (keyOf p)) 0 (λ z. omega arith))
+kept at p next n = rw (some-empty (keyOf p) n)
 
 module _ (t : List ℕ) (at : ℕ) (p : Pair) (g : Good p) where
   -- a good entry that the column's end ends
@@ -183,9 +185,9 @@ pub step-stands : (t : List ℕ) (at : ℕ) → Stands t at (stepAnswer t at)
 unfolding firstAnswer entryAnswer endedAnswer danglingAnswer
 step-stands t at = placed (ltb (length t) at) refl
   where
-    keyed : (k : List ℕ) {x y : Answer} → Stands t at x → (0 < length k → Stands t at y) → Stands t at (pick (eqb (length k) 0) x y)
-    keyed [] x y = x
-    keyed (b ∷ k) x y = rw (ne-eqb (length (b ∷ k)) 0 (λ z. omega arith)) (y (omega arith))
+    keyed : (k : List ℕ) {x y : Answer} → Stands t at x → (0 < length k → Stands t at y) → Stands t at (pick (isEmpty k) x y)
+    keyed [] x y = rw (none-empty [] refl) x
+    keyed (b ∷ k) x y = rw (some-empty (b ∷ k) (omega arith)) (y (omega arith))
 
     dangling : at < length t → (p : Pair) → Stands t at (danglingAnswer at p (length t))
     dangling h (alone k) = last-key h

@@ -12,6 +12,7 @@ use borrow.Author.Tests.{eq-eqb, ne-eqb}
 use Rattle.text.specs.Range.{cut}
 use Rattle.text.specs.declared.range.Range.{Range}
 use Rattle.text.proofs.Lists.{cut-is, cut-length}
+use Rattle.text.proofs.ByteLaws.{empty-is}
 use Rattle.pieces.specs.Pieces.{stepAnswer as pieceAnswer}
 use Rattle.pieces.specs.Paper.{stepPaper as piecePaper}
 use Rattle.pieces.specs.declared.step.Step.{Step as Piece}
@@ -113,7 +114,7 @@ spells e at (paired k v) q = record { start = cc; size = cc; places = q }
 
 pub kept-is : (e : Entry) (at : ℕ) (p : Pair) (next : ℕ) → entryPlaces e ≡ placesOf at p → keptAnswer e next ≡ entryAnswer at p next
 unfolding keptAnswer keyed entryAnswer
-kept-is e at p next q = let s = spells e at p q in rw (q, s .start, s .size)
+kept-is e at p next q = let s = spells e at p q in rw (q, s .start, s .size, empty-is (keyOf p))
 
 pub dropped-is : (e : Entry) (at : ℕ) (p : Pair) (end : ℕ) → entryPlaces e ≡ placesOf at p → droppedAnswer e end ≡ danglingAnswer at p end
 unfolding droppedAnswer droppedBy keyed danglingAnswer entryPlaces valuePlaces placesOf
@@ -126,7 +127,7 @@ dropped-is e at (paired k v) end q = by (e .value) refl
   where
     by : (w : Value) → e .value ≡ w → droppedBy w e end ≡ danglingAnswer at (paired k v) end
     by W.Absent f = absurd (let g = rw f at q in let z : _≡_ {A = ℕ} 0 1 = cc in omega arith)
-    by (W.At r) f = let s = spells e at (paired k v) q in rw (s .start, s .size)
+    by (W.At r) f = let s = spells e at (paired k v) q in rw (s .start, s .size, empty-is k)
 
 -- ---- each way through a step
 

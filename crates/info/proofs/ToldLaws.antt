@@ -3,7 +3,7 @@ use Prim.Native.Nat.{ℕ, _<_, _≤_}
 use mathlib.Core.Path.{_≡_, refl, ap, _∙_}
 use mathlib.Core.List.{List}
 use lib.ListN.{length, getD}
-use Rattle.text.specs.Answer.{Answer, numberOf, valuesOf}
+use Rattle.text.specs.Answer.{numberOf, nextOf}
 use Rattle.info.specs.Info.{stepAnswer}
 use Rattle.info.specs.Paper.{stepPaper}
 use Rattle.info.specs.Told.{Tells}
@@ -51,7 +51,7 @@ module _ (t : List ℕ) (at : ℕ) (x : Step) (e : stepPaper x ≡ stepAnswer t 
   told-goes =
       let m = moves-on t at in
       let n : r .number ≡ numberOf (stepAnswer t at) = g .number ∙ ap numberOf e in
-      let w : r .next ≡ m .next = g .next ∙ ap (λ (a : Answer). getD (valuesOf a) 0 0) e ∙ ap (λ (vs : List ℕ). getD vs 0 0) (m .values) in
+      let w : r .next ≡ m .next = g .next ∙ ap nextOf e ∙ ap (λ (vs : List ℕ). getD vs 0 0) (m .values) in
       rw w (goes (turn h (m .goes)) (λ z. d (n ∙ z)))
 
   pub told-on : at < r .next

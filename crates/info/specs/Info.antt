@@ -5,6 +5,7 @@ use lib.ListN.{length, drop}
 use lib.Dec.{ltb, eqb}
 use Rattle.text.specs.Pick.{pick}
 use Rattle.text.specs.Answer.{Answer, says}
+use Rattle.text.specs.Bytes.{isEmpty}
 use Rattle.pieces.specs.Pieces.{split, joined, countOf}
 
 -- ---- an entry
@@ -37,12 +38,12 @@ placesOf at (paired k v) = at ∷ length k ∷ (at + length k + 1) ∷ length v 
 -- 8 where the key is empty: one byte was read
 unfoldable pub entryAnswer : ℕ → Pair → ℕ → Answer
 unfolding placesOf
-entryAnswer at p next = pick (eqb (length (keyOf p)) 0) (says 8 ((at + 1) ∷ [])) (says 0 (next ∷ placesOf at p))
+entryAnswer at p next = pick (isEmpty (keyOf p)) (says 8 ((at + 1) ∷ [])) (says 0 (next ∷ placesOf at p))
 
 -- an entry whose `;` is the last byte: 7 after a key, before 8; 9 after a value
 unfoldable pub danglingAnswer : ℕ → Pair → ℕ → Answer
 danglingAnswer at (alone k) end = says 7 (end ∷ [])
-danglingAnswer at (paired k v) end = pick (eqb (length k) 0) (says 8 ((at + 1) ∷ [])) (says 9 (end ∷ []))
+danglingAnswer at (paired k v) end = pick (isEmpty k) (says 8 ((at + 1) ∷ [])) (says 9 (end ∷ []))
 
 -- an entry ended by a `;`, and the text after it
 unfoldable pub endedAnswer : ℕ → Pair → ℕ → List ℕ → Answer

@@ -2,6 +2,7 @@
 use Prim.Native.Nat.{ℕ}
 use mathlib.Core.List.{List, [], _∷_}
 use Rattle.text.specs.Answer.{Answer, says}
+use Rattle.text.specs.Range.{rangePlaces}
 use Rattle.info.specs.declared.step.Value.{Value}
 use Rattle.info.specs.declared.step.Value.the-variants as W
 use Rattle.info.specs.declared.step.Entry.{Entry}
@@ -11,7 +12,7 @@ use Rattle.info.specs.declared.step.Step.the-variants as S
 -- nothing where it is absent
 unfoldable pub valuePlaces : Value → List ℕ
 valuePlaces W.Absent = []
-valuePlaces (W.At r) = r .start ∷ r .len ∷ []
+valuePlaces (W.At r) = rangePlaces r
 
 unfoldable pub entryPlaces : Entry → List ℕ
 unfolding valuePlaces

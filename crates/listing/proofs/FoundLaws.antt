@@ -6,15 +6,14 @@ use mathlib.Core.List.{List, [], _∷_}
 use native.Mathlib.Omega.{arith}
 use lib.ListN.{length, drop}
 use borrow.Author.Tests.{lt-ltb, le-ltb}
-use Rattle.text.specs.Answer.{Answer, says, numberOf, valuesOf}
+use Rattle.text.specs.Answer.{Answer, says, numberOf, valuesOf, nextOf}
 use Rattle.line.specs.Line.{lineOf, readAnswer}
 use Rattle.line.specs.Demands.{GoesOn, stays-1, stays-6, line-0, line-5, feed-2, tab-2, feed-3, end-4}
 use Rattle.line.proofs.MovesOn.{read-moved}
-use Rattle.listing.specs.Listing.{sizeOf, longest, foundAt, nextOf}
+use Rattle.listing.specs.Listing.{sizeOf, longest, foundAt}
 
 -- the first value
 pub next-first : (a : Answer) {next : ℕ} {vs : List ℕ} → valuesOf a ≡ next ∷ vs → nextOf a ≡ next
-unfolding nextOf
 next-first (says n vs) e = rw e
 
 -- ---- the line reader

@@ -7,12 +7,12 @@ use mathlib.Core.List.{List, [], _∷_}
 use native.Mathlib.Omega.{arith}
 use lib.ListN.{length, getD}
 use borrow.Author.Tests.{le-ltb, ne-eqb}
-use Rattle.text.specs.Answer.{Answer, numberOf}
+use Rattle.text.specs.Answer.{Answer, numberOf, nextOf}
 use Rattle.line.specs.Line.{Line, line, nothing, feed, return-feed, lineOf, readAnswer}
 use Rattle.line.specs.Demands.{FirstFeed, past-feed, at-end, GoesOn, stays-1, stays-6, line-0, line-5, feed-2, tab-2, feed-3, end-4}
 use Rattle.line.proofs.LineLaws.{read-end}
 use Rattle.line.proofs.MovesOn.{read-moved}
-use Rattle.listing.specs.Listing.{sizeOf, longest, foundAt, rowOf, nextOf, beginsHash, Leads, none, one, Rows, row, Listing}
+use Rattle.listing.specs.Listing.{sizeOf, longest, foundAt, rowOf, beginsHash, Leads, none, one, Rows, row, Listing}
 use Rattle.listing.specs.Turn.{more, ended, on, gives, isWhole, leadMove, readMove, lineMove, phaseMove, turnMove}
 use Rattle.listing.specs.Demands.{Holds, Turning, Run, stops, goes, prints, Streams, Turns}
 use Rattle.listing.specs.declared.turn.Phase.{Phase}

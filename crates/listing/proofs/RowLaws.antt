@@ -27,7 +27,7 @@ use Rattle.line.proofs.MovesOn.{six-beyond}
 use Rattle.info.specs.Info.{infoCount}
 use Rattle.samples.specs.Samples.{samplesOf}
 use Rattle.samples.proofs.Demands.{listed}
-use Rattle.listing.specs.Listing.{columnsOf, infosIn, countsOf, rowOf, nextOf}
+use Rattle.listing.specs.Listing.{columnsOf, infosIn, countsOf, rowOf}
 use Rattle.listing.specs.Turn.{readMove}
 use Rattle.listing.specs.Paper.{refusalNumber, rowPaper, turnPaper}
 use Rattle.listing.specs.Inner.{ReadAt}
@@ -121,7 +121,7 @@ module _ (w : List ℕ) (at : ℕ) {x : Read} (e : readPaper x ≡ readAnswer w 
 
   pub whole-line : {r : Record} {next : ℕ} (row : Row) → x ≡ R.Line r next → rowPaper row ≡ says 0 (countsOf (columnsOf (lineOf (drop at w))))
       → turnPaper (T.Found row P.Lines next) ≡ readMove (lineOf (drop at w)) (readAnswer w at)
-  unfolding turnPaper readMove rowOf nextOf
+  unfolding turnPaper readMove rowOf
   whole-line {r} {next} row q k = rw (← e, read-record q, k)
 
   pub whole-end : {next : ℕ} → x ≡ R.End next → turnPaper T.End ≡ readMove (lineOf (drop at w)) (readAnswer w at)
@@ -129,19 +129,19 @@ module _ (w : List ℕ) (at : ℕ) {x : Read} (e : readPaper x ≡ readAnswer w 
   whole-end {next} q = rw (← e, read-end q)
 
   pub whole-empty : {next : ℕ} → x ≡ R.Empty next → turnPaper (T.Found (W.Refused U.Empty) P.Lines next) ≡ readMove (lineOf (drop at w)) (readAnswer w at)
-  unfolding turnPaper rowPaper refusalNumber readMove rowOf nextOf
+  unfolding turnPaper rowPaper refusalNumber readMove rowOf
   whole-empty {next} q = rw (← e, read-empty q)
 
   pub whole-fed : {next : ℕ} → x ≡ R.Fed next → turnPaper (T.Found (W.Refused U.Fed) P.Lines next) ≡ readMove (lineOf (drop at w)) (readAnswer w at)
-  unfolding turnPaper rowPaper refusalNumber readMove rowOf nextOf
+  unfolding turnPaper rowPaper refusalNumber readMove rowOf
   whole-fed {next} q = rw (← e, read-fed q)
 
   pub whole-cut : {next : ℕ} → x ≡ R.Cut next → turnPaper (T.Found (W.Refused U.Cut) P.Lines next) ≡ readMove (lineOf (drop at w)) (readAnswer w at)
-  unfolding turnPaper rowPaper refusalNumber readMove rowOf nextOf
+  unfolding turnPaper rowPaper refusalNumber readMove rowOf
   whole-cut {next} q = rw (← e, read-cut q)
 
   pub whole-not-utf8 : {next : ℕ} → x ≡ R.NotUtf8 next → turnPaper (T.Found (W.Refused U.NotUtf8) P.Lines next) ≡ readMove (lineOf (drop at w)) (readAnswer w at)
-  unfolding turnPaper rowPaper refusalNumber readMove rowOf nextOf
+  unfolding turnPaper rowPaper refusalNumber readMove rowOf
   whole-not-utf8 {next} q = rw (← e, read-broken q)
 
   pub whole-beyond : {next : ℕ} → at ≤ length w → x ≡ R.Beyond next → turnPaper T.Beyond ≡ readMove (lineOf (drop at w)) (readAnswer w at)

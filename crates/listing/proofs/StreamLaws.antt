@@ -8,12 +8,12 @@ use lib.ListN.{length, drop}
 use lib.Dec.{ltb, eqb}
 use borrow.Author.Tests.{ltb-true, ltb-false, eqb-true, eqb-false}
 use Rattle.text.specs.Pick.{pick}
-use Rattle.text.specs.Answer.{Answer, says, numberOf}
+use Rattle.text.specs.Answer.{Answer, says, numberOf, nextOf}
 use Rattle.line.specs.Line.{Line, lineOf, readAnswer}
 use Rattle.line.proofs.MovesOn.{read-moved}
 use Rattle.line.proofs.Window.{window-read}
 use Rattle.line.proofs.WholeLaws.{moved-number, moved-next}
-use Rattle.listing.specs.Listing.{sizeOf, columnsOf, longest, foundAt, rowOf, nextOf, beginsHash}
+use Rattle.listing.specs.Listing.{sizeOf, columnsOf, longest, foundAt, rowOf, beginsHash}
 use Rattle.listing.specs.Turn.{Move, beyond, more, ended, on, gives, isWhole, passMove, leadMove, readMove, lineMove, phaseMove, turnMove}
 use Rattle.listing.specs.Demands.{Holds}
 use Rattle.listing.specs.declared.turn.Phase.{Phase}
@@ -119,7 +119,7 @@ module _ {s : List ℕ} {base : ℕ} {w : List ℕ} {last : Bool} (h : Holds s b
 
   long-says : longest < sizeOf (lineOf (drop p w)) → (c : Bool) → isWhole last (lineOf (drop p w)) ≡ c
       → Said s base (base + p) P.Lines (gives (says 22 []) (pick c P.Lines P.Rest) (pastLine w p))
-  unfolding rowOf nextOf
+  unfolding rowOf
   long-says b c e = by c e
     where
       row : says 22 [] ≡ rowOf (lineOf (drop (base + p) s)) (foundAt s (base + p))

@@ -10,9 +10,9 @@ use lib.ListN.{length, drop, length-drop}
 use lib.Dec.{ltb, eqb}
 use borrow.Author.Tests.{ltb-true, ltb-false, le-ltb, eqb-true, eqb-false}
 use Rattle.text.specs.Pick.{pick}
-use Rattle.text.specs.Answer.{Answer, says, numberOf}
+use Rattle.text.specs.Answer.{Answer, says, numberOf, nextOf}
 use Rattle.line.specs.Line.{lineOf, readAnswer}
-use Rattle.listing.specs.Listing.{sizeOf, longest, rowOf, nextOf, beginsHash}
+use Rattle.listing.specs.Listing.{sizeOf, longest, rowOf, beginsHash}
 use Rattle.listing.specs.Turn.{Move, beyond, more, ended, on, gives, isWhole, passMove, leadMove, readMove, lineMove, phaseMove, turnMove}
 use Rattle.listing.specs.Demands.{rank, Further, Turned, Turns}
 use Rattle.listing.specs.declared.turn.Phase.{Phase}

@@ -4,13 +4,13 @@ use mathlib.Core.Bool.{Bool, _&&_}
 use mathlib.Core.List.{List, [], _∷_}
 use lib.ListN.{length, take, drop}
 use lib.Dec.{leb}
-use Rattle.text.specs.Pick.{pick}
+use Rattle.text.specs.Pick.{pick, within}
 use Rattle.text.specs.Answer.{Answer, says}
 use Rattle.text.specs.Over.{over}
 
 -- the two places are in order, and in the buffer
 unfoldable pub inOrder : ℕ → ℕ → List ℕ → Bool
-inOrder from end l = leb from end && leb end (length l)
+inOrder from end l = within from (length l) end
 
 -- how many bytes are kept, or 6
 unfoldable pub keptAnswer : ℕ → ℕ → List ℕ → Answer

@@ -8,7 +8,7 @@ use lib.ListN.{length, getD, drop}
 use lib.Dec.{ltb, eqb}
 use Rattle.text.specs.Pick.{pick}
 use Rattle.text.specs.Same.{same}
-use Rattle.text.specs.Answer.{Answer, says, numberOf}
+use Rattle.text.specs.Answer.{Answer, says, numberOf, nextOf}
 use Rattle.pieces.specs.Pieces.{split}
 use Rattle.line.specs.Line.{Line, line, endingBytes, lineOf, readAnswer}
 use Rattle.info.specs.Info.{infoCount}
@@ -45,11 +45,6 @@ foundAt s at = pick (ltb longest (sizeOf (lineOf (drop at s)))) (says 22 ((at + 
 unfoldable pub rowOf : Line → Answer → Answer
 rowOf l (says zero vs) = says 0 (countsOf (columnsOf l))
 rowOf l (says (suc n) vs) = says (suc n) []
-
--- where to go on: the first value
-unfoldable pub nextOf : Answer → ℕ
-nextOf (says n []) = 0
-nextOf (says n (next ∷ vs)) = next
 
 -- ---- the listing
 

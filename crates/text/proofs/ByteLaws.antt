@@ -1,6 +1,6 @@
 -- A text is empty as its length says; its last byte is the one before its length, and comes off and back on. Assumes nothing.
 use Prim.Native.Nat.{ℕ, suc, _-_, _<_}
-use mathlib.Core.Path.{_≡_, refl, ap, _∙_}
+use mathlib.Core.Path.{_≡_, refl, ap, _∙_, sym}
 use mathlib.Core.Bool.{true, false, true≢false, false≢true}
 use mathlib.Core.List.{List, [], _∷_, _++_, dropLast}
 use native.Mathlib.Omega.{arith}
@@ -25,6 +25,11 @@ pub some-empty : (t : List ℕ) → 0 < length t → isEmpty t ≡ false
 unfolding isEmpty
 some-empty [] h = absurd (omega arith)
 some-empty (b ∷ t) h = refl
+
+pub empty-is : (t : List ℕ) → isEmpty t ≡ eqb (length t) 0
+unfolding isEmpty
+empty-is [] = refl
+empty-is (b ∷ t) = sym (ne-eqb (length (b ∷ t)) 0 (λ z. omega arith))
 
 -- ---- without its last byte
 
