@@ -1,13 +1,12 @@
 -- The columns that the joiner takes are those that begin a line with ending LF, column by column; so what it writes is read. Assumes nothing.
-use Prim.Native.Nat.{ℕ, zero, suc, _+_, _<_, _≤_, suc-le-suc}
+use Prim.Native.Nat.{ℕ, zero, suc, _+_, _<_, suc-le-suc}
 use mathlib.Core.Path.{_≡_, refl, sym, _∙_}
 use mathlib.Core.Bool.{Bool, true, false, not, _&&_, _||_}
-use mathlib.Core.Logic.{_⊎_, inl, inr, ⊎-elim}
+use mathlib.Core.Logic.{⊎-elim}
 use mathlib.Core.List.{List, [], _∷_, _++_, append-assoc}
 use native.Mathlib.Omega.{arith}
-use native.Mathlib.Decide.{ℕ-discrete}
 use lib.ListN.{length, getD, length-append}
-use borrow.Author.Tests.{not-false, le-leb, leb-true}
+use borrow.Author.Tests.{not-false}
 use Rattle.text.specs.Pick.{pick}
 use Rattle.text.specs.Answer.{numberOf}
 use Rattle.text.specs.Bytes.{isEmpty, endsIn}
@@ -18,11 +17,11 @@ use Rattle.pieces.proofs.CountLaws.{lacks-free, free-lacks}
 use Rattle.pieces.proofs.PieceLaws.{joined-one, joined-more}
 use Rattle.line.specs.Line.{feed, endingBytes, readAnswer}
 use Rattle.line.specs.Demands.{Column, Ended, by-feed, Stands}
-use Rattle.line.proofs.ColumnLaws.{return-tab, feed-bytes, or-none}
+use Rattle.line.proofs.ColumnLaws.{return-tab, feed-bytes, or-none, required-count, count-required}
 use Rattle.line.proofs.Exact.{begins-read}
-use Rattle.join.specs.Join.{isBad, fine, refused, columnJudged, columnsJudged, lineText, isCount}
+use Rattle.join.specs.Join.{isBad, fine, refused, columnJudged, columnsJudged, lineText}
 use Rattle.join.specs.Demands.{Taken, Forth, Back}
-use Rattle.join.proofs.JoinLaws.{isLast, judged-cons, count-eight, count-ten}
+use Rattle.join.proofs.JoinLaws.{isLast, judged-cons}
 
 -- ---- one column
 
@@ -86,19 +85,6 @@ each-fine i (c ∷ d ∷ cs) g e =
       rest = each-fine (i + 1) (d ∷ cs) (λ k l. g (suc k) (suc-le-suc l)) (rw (joined-more, return-tab) at e);
     })
 
--- ---- eight, or at least ten
-
-count-of : (n : ℕ) → isCount n ≡ true → (n ≡ 8) ⊎ (10 ≤ n)
-count-of n h = by (ℕ-discrete n 8)
-  where
-    by : Dec (n ≡ 8) → (n ≡ 8) ⊎ (10 ≤ n)
-    by (yes z) = inl z
-    by (no z) = inr (leb-true 10 n (count-ten n z ∙ h))
-
-of-count : (n : ℕ) → (n ≡ 8) ⊎ (10 ≤ n) → isCount n ≡ true
-of-count n (inl z) = sym (count-eight n z)
-of-count n (inr h) = sym (count-ten n (λ z. omega arith)) ∙ le-leb 10 n h
-
 -- ---- forth and back
 
 line-feed : (cs : List (List ℕ)) (rest : List ℕ) → joined 9 cs ++ (endingBytes feed ++ rest) ≡ lineText cs ++ rest
@@ -108,7 +94,7 @@ line-feed cs rest = rw (feed-bytes, append-assoc)
 pub forth : Forth lineText
 unfolding Forth
 forth cs rest k =
-    let n = count-of (length cs) (k .count) in
+    let n = required-count (length cs) (k .count) in
     let some : 0 < length cs = ⊎-elim (λ h. omega arith) (λ h. omega arith) n in
     record { count = n; each = fine-each 0 cs (k .judged); whole = line-feed cs rest; ended = by-feed (fine-return 0 cs some (k .judged)) }
 
@@ -116,7 +102,7 @@ pub back : Back lineText
 unfolding Back
 back s cs rest b =
     record {
-      taken = record { count = of-count (length cs) (b .count); judged = each-fine 0 cs (b .each) (by (b .ended)) };
+      taken = record { count = count-required (b .count); judged = each-fine 0 cs (b .each) (by (b .ended)) };
       same = sym (line-feed cs rest) ∙ b .whole;
     }
   where

@@ -1,5 +1,5 @@
 -- Joining: each way through each function is a law of the definitions; the columns still to judge stand for all of them. Assumes nothing.
-use Prim.Native.Nat.{ℕ, zero, suc, _+_, _-_, _^_, _<_, _≤_, zero-le}
+use Prim.Native.Nat.{ℕ, _+_, _-_, _^_, _<_, _≤_, zero-le}
 use mathlib.Core.Path.{_≡_, refl, sym, ap, _∙_}
 use mathlib.Core.Bool.{Bool, true, false, _&&_, _||_, not, or-false, false≢true}
 use mathlib.Core.List.{List, [], _∷_, _++_}
@@ -25,6 +25,9 @@ use Rattle.text.proofs.ByteLaws.{none-empty, some-empty, ends-none, ends-at}
 use Rattle.text.proofs.CharLaws.{told-text, told-broken}
 use Rattle.text.proofs.CopyLaws.{room-fits, room-lacks}
 use Rattle.text.proofs.Lists.{rest-all, length-rest, rest-put, overAt-nil, overAt-append, overAt-before, length-overAt}
+use mathlib.Core.Logic.{inl, inr, ⊎-elim}
+use Rattle.line.proofs.ColumnLaws.{required-count, count-required}
+use Rattle.line.specs.Line.{required}
 use Rattle.pieces.specs.Pieces.{countOf, lacks, joined}
 use Rattle.pieces.specs.Entries.{rising, entryList, endsAnswer, startOf}
 use Rattle.pieces.specs.Joined.{JoinsList}
@@ -36,7 +39,7 @@ use Rattle.pieces.proofs.CountLaws.{lacks-yes, lacks-no}
 use Rattle.pieces.proofs.EntryLaws.{start-later, entries-length, entry-here, entry-past, ends-tell}
 use Rattle.pieces.proofs.PlaceLaws as place
 use Rattle.pieces.proofs.JoinedLaws.{list-length, joined-fits}
-use Rattle.join.specs.Join.{isBad, Judged, fine, refused, columnJudged, columnsJudged, lineText, isCount, fitted, listAnswer, joinAnswer, JoinsAt}
+use Rattle.join.specs.Join.{isBad, Judged, fine, refused, columnJudged, columnsJudged, lineText, fitted, listAnswer, joinAnswer, JoinsAt}
 use Rattle.join.specs.Paper.{joinedPaper}
 use Rattle.join.specs.declared.columns.Joined.{Joined}
 use Rattle.join.specs.declared.columns.Joined.the-variants as J
@@ -91,18 +94,27 @@ module _ (c : List ℕ) where
 
 -- ---- the columns of a list
 
-pub count-eight : (n : ℕ) → n ≡ 8 → true ≡ isCount n
-unfolding isCount
-count-eight n e = rw (eq-eqb _ _ e)
+pub count-eight : (n : ℕ) → n ≡ 8 → true ≡ not (required n)
+count-eight n e = rw (count-required (inl e))
 
-pub count-ten : (n : ℕ) → (n ≡ 8 → ⊥) → leb 10 n ≡ isCount n
-unfolding isCount
-count-ten n h = rw (ne-eqb _ _ h)
+pub count-ten : (n : ℕ) → (n ≡ 8 → ⊥) → leb 10 n ≡ not (required n)
+count-ten n h = by (required n) refl
+  where
+    by : (q : Bool) → required n ≡ q → leb 10 n ≡ not q
+    by true e = lt-leb 10 n (elim (decLe 10 n) [ yes l ↦ absurd (false≢true (sym (count-required (inr l)) ∙ e)) | no l ↦ omega arith ])
+    by false e = le-leb 10 n (⊎-elim (λ z. absurd (h z)) (λ l. l) (required-count n e))
 
-pub count-some : (n : ℕ) {t : Bool} → t ≡ isCount n → t ≡ true → 0 < n
-unfolding isCount
-count-some zero e y = absurd (false≢true (sym e ∙ y))
-count-some (suc n) e y = omega arith
+-- what the test tells
+few : (q : Bool) {u : Bool} → u ≡ not q → u ≡ false → q ≡ true
+few true e y = refl
+few false e y = absurd (false≢true (sym y ∙ e))
+
+enough : (q : Bool) {u : Bool} → u ≡ not q → u ≡ true → q ≡ false
+enough true e y = absurd (false≢true (sym e ∙ y))
+enough false e y = refl
+
+pub count-some : (n : ℕ) {u : Bool} → u ≡ not (required n) → u ≡ true → 0 < n
+count-some n e y = ⊎-elim (λ z. omega arith) (λ l. omega arith) (required-count n (enough (required n) e y))
 
 pub last-is : (ends : List ℕ) → 0 < length ends → getD ends (length ends - 1) 0 ≡ startOf ends (length ends)
 last-is ends h = start-later ends (length ends) (λ e. omega arith)
@@ -230,14 +242,14 @@ module _ (t ends : List ℕ) {x : Ends} (e : endsPaper x ≡ endsAnswer t ends) 
     pub list-rising : rising 0 ends (length t) ≡ true
     list-rising = rw q at (ends-tell t ends x e)
 
-    module _ {u : Bool} (n : u ≡ isCount (length ends)) where
+    module _ {u : Bool} (n : u ≡ not (required (length ends))) where
       pub list-few : (l : List ℕ) → u ≡ false → joinedPaper J.Few ≡ listAnswer t ends l
       unfolding joinedPaper listAnswer
-      list-few l y = rw (list-rising, ← n, y)
+      list-few l y = rw (list-rising, few (required (length ends)) n y)
 
       pub list-columns : (l : List ℕ) (r : Joined) → u ≡ true → joinedPaper r ≡ columnsAnswer t ends l → joinedPaper r ≡ listAnswer t ends l
       unfolding listAnswer
-      list-columns l r y f = rw (list-rising, ← n, y) f
+      list-columns l r y f = rw (list-rising, enough (required (length ends)) n y) f
 
 -- ---- the joiner
 
@@ -275,18 +287,18 @@ module _ (vs l : List ℕ) where
 
 ready : (t ends l : List ℕ) → eqb (numberOf (listAnswer t ends l)) 0 ≡ true → Ready t ends l
 unfolding listAnswer fitted Told
-ready t ends l e = by (rising 0 ends (length t)) (isCount (length ends)) refl refl e
+ready t ends l e = by (rising 0 ends (length t)) (required (length ends)) refl refl e
   where
     line : List ℕ
     line = lineText (entryList t ends)
 
-    by : (a b : Bool) → rising 0 ends (length t) ≡ a → isCount (length ends) ≡ b
-        → eqb (numberOf (pick a (pick b (columnsAnswer t ends l) (says 19 [])) (says 16 []))) 0 ≡ true → Ready t ends l
-    by true true r c e =
+    by : (a b : Bool) → rising 0 ends (length t) ≡ a → required (length ends) ≡ b
+        → eqb (numberOf (pick a (pick b (says 19 []) (columnsAnswer t ends l)) (says 16 []))) 0 ≡ true → Ready t ends l
+    by true false r c e =
         let f = columns-told line l 0 (entryList t ends) e in
         let k = room-told line l (rw f at e) in
         record { rises = r; room = k; answer = rw (r, c, f, room-fits line l k) }
-    by true false r c e = absurd (false≢true e)
+    by true true r c e = absurd (false≢true e)
     by false b r c e = absurd (false≢true e)
 
 -- an answer other than done

@@ -1,16 +1,16 @@
 -- What is asked of any joiner, by what it writes for a list of columns (docs/STATEMENTS.md). Assumes nothing.
 use Prim.Native.Nat.{ℕ}
 use mathlib.Core.Path.{_≡_}
-use mathlib.Core.Bool.{true}
 use mathlib.Core.List.{List, _++_}
 use lib.ListN.{length}
-use Rattle.line.specs.Line.{feed}
+use mathlib.Core.Bool.{false}
+use Rattle.line.specs.Line.{feed, required}
 use Rattle.line.specs.Demands.{Begins}
-use Rattle.join.specs.Join.{fine, isCount, columnsJudged}
+use Rattle.join.specs.Join.{fine, columnsJudged}
 
 -- columns that the joiner takes: eight, or at least ten, and none refused
 pub record Taken (cs : List (List ℕ)) : Type 0 where
-  pub count : isCount (length cs) ≡ true
+  pub count : required (length cs) ≡ false
   pub judged : columnsJudged 0 cs ≡ fine
 
 -- what it writes for columns that are taken begins with these columns and an LF, whatever follows

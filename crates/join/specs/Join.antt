@@ -4,14 +4,14 @@ use mathlib.Core.Path.{_≡_}
 use mathlib.Core.Bool.{Bool, not, _||_}
 use mathlib.Core.List.{List, [], _∷_, _++_}
 use lib.ListN.{length, drop}
-use lib.Dec.{leb, eqb}
 use Rattle.text.specs.Pick.{pick}
-use Rattle.text.specs.Answer.{Answer, says, numberOf}
-use Rattle.text.specs.Over.{overAt, roomAnswer}
+use Rattle.text.specs.Answer.{Answer, says}
+use Rattle.text.specs.Over.{roomAnswer, laidAt, placed}
 use Rattle.text.specs.Bytes.{isEmpty, endsIn}
 use Rattle.text.specs.Utf8.{isUtf8}
+use Rattle.line.specs.Line.{required}
 use Rattle.pieces.specs.Pieces.{joined, lacks}
-use Rattle.pieces.specs.Entries.{rising, entryList}
+use Rattle.pieces.specs.Entries.{entryList, ordered}
 use Rattle.join.specs.Paper.{joinedPaper}
 use Rattle.join.specs.declared.columns.Joined.{Joined}
 
@@ -40,25 +40,21 @@ columnsJudged i (c ∷ d ∷ cs) = columnJudged i (isBad c) c (columnsJudged (i 
 unfoldable pub lineText : List (List ℕ) → List ℕ
 lineText cs = joined 9 cs ++ 10 ∷ []
 
--- eight columns, or at least ten
-unfoldable pub isCount : ℕ → Bool
-isCount n = eqb n 8 || leb 10 n
-
 -- room is judged last
 unfoldable pub fitted : Judged → List ℕ → List ℕ → Answer
 fitted fine vs l = roomAnswer vs l
 fitted (refused n i) vs l = says n (i ∷ [])
 
--- 16, 19, then the columns, then room from the place on
+-- 16, then 19 where the last column must be ended by a tab: fewer than eight, or nine; then the columns, then room from the place on
 unfoldable pub listAnswer : List ℕ → List ℕ → List ℕ → Answer
 listAnswer t ends l =
-    pick (rising 0 ends (length t)) (pick (isCount (length ends)) (fitted (columnsJudged 0 (entryList t ends)) (lineText (entryList t ends)) l) (says 19 [])) (says 16 [])
+    ordered t ends (pick (required (length ends)) (says 19 []) (fitted (columnsJudged 0 (entryList t ends)) (lineText (entryList t ends)) l))
 
 -- 6 first
 unfoldable pub joinAnswer : List ℕ → List ℕ → ℕ → List ℕ → Answer
-joinAnswer t ends at out = pick (leb at (length out)) (listAnswer t ends (drop at out)) (says 6 [])
+joinAnswer t ends at out = placed at out (listAnswer t ends (drop at out))
 
 -- the joiner answers r, and leaves out′ in an output that held out: only an answer that is done changes it
 pub record JoinsAt (t ends : List ℕ) (at : ℕ) (out : List ℕ) (r : Joined) (out′ : List ℕ) : Type 0 where
   pub answer : joinedPaper r ≡ joinAnswer t ends at out
-  pub bytes : out′ ≡ pick (eqb (numberOf (joinAnswer t ends at out)) 0) (overAt at (lineText (entryList t ends)) out) out
+  pub bytes : out′ ≡ laidAt (joinAnswer t ends at out) at (lineText (entryList t ends)) out

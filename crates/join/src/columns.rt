@@ -14,9 +14,10 @@ ghost use Prim.Native.Nat.{_<_};
 ghost use lib.ListN.{length, getD};
 ghost use Rattle.text.specs.Bytes.{endsIn};
 ghost use Rattle.text.specs.Utf8.{isUtf8};
+ghost use Rattle.line.specs.Line.{required};
 ghost use Rattle.pieces.specs.Pieces.{lacks};
 ghost use Rattle.pieces.specs.Entries.{rising, entryList, startOf};
-ghost use Rattle.join.specs.Join.{JoinsAt, isBad, isCount, columnsJudged, lineText, fitted, listAnswer};
+ghost use Rattle.join.specs.Join.{JoinsAt, isBad, columnsJudged, lineText, fitted, listAnswer};
 ghost use Rattle.join.specs.Paper.{joinedPaper};
 
 // The answer of the joiner.
@@ -109,7 +110,7 @@ fn column<'a>(text: &'a [u8], ends: &[usize], i: usize) -> &'a [u8]
 
 // Eight columns, or at least ten.
 fn is_count(n: usize) -> bool
-    ensures { λ r. ⌜ r ≡ isCount n ⌝ }
+    ensures { λ r. ⌜ r ≡ not (required n) ⌝ }
 {
     if n == 8 {
         return true;

@@ -1,4 +1,4 @@
--- `join::columns::is_count` meets its contract: each way is a clause of `isCount`. Assumes nothing.
+-- `join::columns::is_count` meets its contract: a line may end with column 8, and from column 10 on. Assumes nothing.
 use borrow.Author.Needs.{needs}
 use Rattle.join.proofs.JoinLaws.{laws}
 use Rattle.join.proofs.columns.is_count.Statement.{statement}
