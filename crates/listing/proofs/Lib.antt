@@ -13,3 +13,4 @@ pub mod RowLaws
 pub mod KeepLaws
 pub mod PrintLaws
 pub mod Determined
+pub mod Totals

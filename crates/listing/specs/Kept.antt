@@ -1,9 +1,8 @@
 -- What is left of a buffer's bytes, moved to its front to make room behind them (docs/RULES.md, "The program vcflist"). Assumes nothing.
 use Prim.Native.Nat.{ℕ, _-_}
-use mathlib.Core.Bool.{Bool, _&&_}
+use mathlib.Core.Bool.{Bool}
 use mathlib.Core.List.{List, [], _∷_}
 use lib.ListN.{length, take, drop}
-use lib.Dec.{leb}
 use Rattle.text.specs.Pick.{pick, within}
 use Rattle.text.specs.Answer.{Answer, says}
 use Rattle.text.specs.Over.{over}

@@ -52,3 +52,8 @@ readAfter n (says (suc m) vs) = n
 unfoldable pub refusedAfter : ℕ → Answer → ℕ
 refusedAfter n (says zero vs) = n
 refusedAfter n (says (suc m) vs) = oneMore n
+
+-- the rows printed and counted as they come, from these counts on, and then the totals
+unfoldable pub printedFrom : ℕ → ℕ → List Answer → List ℕ
+printedFrom read refused [] = totalBytes read refused
+printedFrom read refused (r ∷ rows) = rowBytes r ++ printedFrom (readAfter read r) (refusedAfter refused r) rows
