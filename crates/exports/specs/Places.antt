@@ -1,4 +1,4 @@
--- Fields by number, and places as two numbers. Assumes nothing.
+-- Fields by number. Assumes nothing.
 use Prim.Native.Nat.{ℕ}
 use mathlib.Core.List.{List, [], _∷_}
 use lib.ListN.{getD}
@@ -9,13 +9,6 @@ use Rattle.text.specs.declared.range.Range.{Range}
 use Rattle.line.specs.Fields.{textAnswer}
 use Rattle.line.specs.declared.fields.Name.{Name}
 use Rattle.line.specs.declared.fields.Name.the-variants as N
-
-abbrev pub rangeAt : ℕ → ℕ → Range
-rangeAt start len = record { start = start; len = len }
-
--- 0 and the place
-abbrev pub atPlace : Range → Answer
-atPlace r = says 0 (r .start ∷ r .len ∷ [])
 
 -- the fields, in the order of a line's columns; the samples come after them
 abbrev pub names : List Name

@@ -5,9 +5,10 @@ use mathlib.Core.Path.{_≡_}
 use mathlib.Core.List.{List}
 use lib.ListN.{length}
 use Rattle.text.specs.Answer.{Answer}
+use Rattle.text.specs.Over.{laid}
 use Rattle.lists.specs.AlternateBases.{altCount}
 use Rattle.genotype.specs.Reading.{readingOf, listOf, numbersOf, missingOf, phasedOf}
-use Rattle.genotype.specs.Answers.{rowAnswer, readAnswer, checkedAnswer, laid}
+use Rattle.genotype.specs.Answers.{rowAnswer, readAnswer, checkedAnswer}
 use Rattle.genotype.specs.declared.allele.Allele.{Allele}
 use Rattle.exports.specs.Told.{Tells, leftBy}
 

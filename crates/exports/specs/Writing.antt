@@ -3,10 +3,8 @@
 use Prim.Native.Nat.{ℕ}
 use mathlib.Core.Path.{_≡_}
 use mathlib.Core.List.{List}
-use lib.Dec.{eqb}
-use Rattle.text.specs.Pick.{pick}
-use Rattle.text.specs.Answer.{Answer, numberOf}
-use Rattle.text.specs.Over.{overAt, roomAnswer, leaves}
+use Rattle.text.specs.Answer.{Answer}
+use Rattle.text.specs.Over.{laid, laidAt, roomAnswer}
 use Rattle.decimal.specs.Shortest.{shortest}
 use Rattle.pieces.specs.Entries.{entryList}
 use Rattle.lists.specs.Write as L
@@ -22,22 +20,18 @@ pub record TellsWriting (k : ℕ) (a : Answer) (left out l : List ℕ) (r : ℕ)
   pub told : Tells k a l r l′
   pub output : out′ ≡ leftBy k l left out
 
--- only an answer that is done changes the output, from the place `at` on
-abbrev pub doneAt : Answer → ℕ → List ℕ → List ℕ → List ℕ
-doneAt a at vs out = pick (eqb (numberOf a) 0) (overAt at vs out) out
-
 abbrev pub PrintsDecimal : ℕ → List ℕ → List ℕ → ℕ → List ℕ → List ℕ → Type 0
-PrintsDecimal n out l r out′ l′ = TellsWriting 1 (roomAnswer (shortest n) out) (leaves (shortest n) out) out l r out′ l′
+PrintsDecimal n out l r out′ l′ = TellsWriting 1 (roomAnswer (shortest n) out) (laid (roomAnswer (shortest n) out) (shortest n) out) out l r out′ l′
 
 abbrev pub WritesEntries : Kind → List ℕ → List ℕ → List ℕ → ℕ → List ℕ → ℕ → List ℕ → List ℕ → Type 0
 WritesEntries kind t ends out at l r out′ l′ =
-    TellsWriting 1 (L.writeAnswer kind t ends out at) (doneAt (L.writeAnswer kind t ends out at) at (L.listText kind (entryList t ends)) out) out l r out′ l′
+    TellsWriting 1 (L.writeAnswer kind t ends out at) (laidAt (L.writeAnswer kind t ends out at) at (L.listText kind (entryList t ends)) out) out l r out′ l′
 
 abbrev pub WritesGenotype : List ℕ → List ℕ → List ℕ → ℕ → ℕ → List ℕ → ℕ → List ℕ → ℕ → List ℕ → List ℕ → Type 0
 WritesGenotype n m p major minor out at l r out′ l′ =
     TellsWriting 1 (S.rowAnswer n m p (from44 major minor) out at)
-    (doneAt (S.rowAnswer n m p (from44 major minor) out at) at (S.textOf (spell (from44 major minor) (rowOf n m p))) out) out l r out′ l′
+    (laidAt (S.rowAnswer n m p (from44 major minor) out at) at (S.textOf (spell (from44 major minor) (rowOf n m p))) out) out l r out′ l′
 
 abbrev pub JoinsColumns : List ℕ → List ℕ → List ℕ → ℕ → List ℕ → ℕ → List ℕ → List ℕ → Type 0
 JoinsColumns t ends out at l r out′ l′ =
-    TellsWriting 1 (joinAnswer t ends at out) (doneAt (joinAnswer t ends at out) at (lineText (entryList t ends)) out) out l r out′ l′
+    TellsWriting 1 (joinAnswer t ends at out) (laidAt (joinAnswer t ends at out) at (lineText (entryList t ends)) out) out l r out′ l′

@@ -11,13 +11,14 @@ use info::step::Value;
 use info::step::step_at;
 use text::range::Range;
 ghost use mathlib.Core.Path.{_≡_};
+ghost use Rattle.text.specs.Range.{rangePlaces};
+ghost use Rattle.text.specs.Answer.{says};
 ghost use Rattle.info.specs.Info.{stepAnswer, infoCount};
 ghost use Rattle.info.specs.Find.{findAnswer};
 ghost use Rattle.info.specs.Value.{shown};
 ghost use Rattle.info.specs.Paper.{stepPaper};
 ghost use Rattle.info.specs.declared.step.Step.the-variants as S;
 ghost use Rattle.exports.specs.Told.{Tells};
-ghost use Rattle.exports.specs.Places.{atPlace};
 
 // The next place, the key's place, and the value's where it has one.
 fn tell_entry(entry: Entry, next: usize, values: &mut [u64]) -> u64
@@ -89,7 +90,7 @@ fn shown_in(column: &[u8], key: &[u8]) -> Range
 // refusal apart.
 #[no_mangle]
 pub extern "C" fn bruncadorza_info_value(column: &[u8], key: &[u8], values: &mut [u64]) -> u64
-    ensures { λ r. ⌜ Tells 2 (atPlace (shown (now (column .entry)) (now (key .entry)))) (now (values .entry)) r (now (values .exit)) ⌝ }
+    ensures { λ r. ⌜ Tells 2 (says 0 (rangePlaces (shown (now (column .entry)) (now (key .entry))))) (now (values .entry)) r (now (values .exit)) ⌝ }
 {
     tell_place(2, 0, shown_in(column, key), values)
 }

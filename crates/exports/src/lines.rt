@@ -16,13 +16,14 @@ use line::read::Record;
 use line::read::read_line;
 use text::range::Range;
 ghost use mathlib.Core.Path.{_≡_};
+ghost use Rattle.text.specs.Range.{rangeAt};
 ghost use Rattle.line.specs.Line.{readAnswer};
 ghost use Rattle.line.specs.Fields.{placeAnswer};
 ghost use Rattle.line.specs.Pos.{posAnswer};
 ghost use Rattle.line.specs.Paper.{readPaper, fieldPaper, positionPaper};
 ghost use Rattle.line.specs.declared.read.Read.the-variants as R;
 ghost use Rattle.exports.specs.Told.{Tells};
-ghost use Rattle.exports.specs.Places.{rangeAt, nameOf, namedAnswer};
+ghost use Rattle.exports.specs.Places.{nameOf, namedAnswer};
 
 // The next place, and the ten places of a record.
 fn tell_line(line: Record, next: usize, values: &mut [u64]) -> u64
