@@ -2,15 +2,17 @@
 use Prim.Native.Nat.{ℕ, zero, suc, _+_, _≤_}
 use mathlib.Core.Path.{_≡_, refl, sym, ap, _∙_}
 use mathlib.Core.Bool.{true}
-use mathlib.Core.List.{List, [], _∷_, _++_}
+use mathlib.Core.List.{List, [], _∷_}
 use native.Mathlib.Omega.{arith}
-use native.Mathlib.Nat.{zero-add, add-zero}
+use native.Mathlib.Nat.{add-zero}
 use types.Run.{OneOf, hit}
 use denote.Enum.Declared.{tagOf}
-use lib.ListN.{length, set, drop}
-use lib.Seq.{sets, sets-eq}
+use lib.ListN.{length, set}
+use lib.Seq.{sets}
 use borrow.Author.Tests.{ne-eqb}
 use Rattle.text.specs.Answer.{Answer, numberOf}
+use Rattle.text.specs.Over.{laid, over}
+use Rattle.text.proofs.Lists.{sets-over}
 use Rattle.lists.specs.AlternateBases.{altCount}
 use Rattle.genotype.specs.Reading.{readingOf, listOf, ListMeant}
 use Rattle.genotype.specs.Answers.{readAnswer, checkedAnswer}
@@ -25,7 +27,7 @@ use Rattle.genotype.proofs.Ahead.{leftOf, Ahead, ahead-first, left-first, ahead
 use Rattle.genotype.proofs.ReadLaws.{Fits, read-fits, checked-fits}
 use Rattle.alleles.specs.Turn.{ended}
 use Rattle.alleles.specs.Fill.{fillOn, filledRow}
-use Rattle.alleles.specs.Read.{laidOver, ReadsRow, ReadsRowChecked}
+use Rattle.alleles.specs.Read.{ReadsRow, ReadsRowChecked}
 use Rattle.alleles.specs.declared.read.Turn.{Turn}
 use Rattle.alleles.proofs.TurnLaws.{other-lays, turn-none, turn-counted, turn-lays}
 use Rattle.alleles.proofs.Turns.{fill-done}
@@ -64,7 +66,7 @@ module _ (t : List ℕ) (n count : ℕ) (few : count ≤ n) where
           (more a (pastAt t at) (omega arith) (ahead-past g f) ∙ ap (λ (j : ℕ). sets (set l i a) j (leftOf t (pastAt t at) (i + 1))) e)
 
 module _ (t : List ℕ) (row : List Allele) where
-  row-done : (count : ℕ) → Fits (readingOf t) (length row) count → filledRow t (R.Done count) row ≡ listOf (readingOf t) ++ drop (length (listOf (readingOf t))) row
+  row-done : (count : ℕ) → Fits (readingOf t) (length row) count → filledRow t (R.Done count) row ≡ over (listOf (readingOf t)) row
   unfolding filledRow
   row-done count f =
       let m : ListMeant t = record { is = f .meant } in
@@ -72,20 +74,19 @@ module _ (t : List ℕ) (row : List Allele) where
       let c = f .count in
       let w = f .few in
       turns-lay t (length row) count (omega arith) (length row) 0 0 row (add-zero _) (rw (left-first t m) (omega arith)) (ahead-first t m)
-      ∙ rw (left-first t m) (sets-eq as′ row 0 (omega arith) ∙ rw zero-add)
+      ∙ rw (left-first t m) (sets-over as′ row (omega arith))
 
   -- an answer that is done is laid
-  row-laid-done : (count : ℕ) → Fits (readingOf t) (length row) count → filledRow t (R.Done count) row ≡ laidOver (readPaper (R.Done count)) (listOf (readingOf t)) row
-  unfolding laidOver
+  row-laid-done : (count : ℕ) → Fits (readingOf t) (length row) count → filledRow t (R.Done count) row ≡ laid (readPaper (R.Done count)) (listOf (readingOf t)) row
   row-laid-done count f = rw (done-number count) (row-done count f)
 
-  row-other : (x : Read) → OneOf others (tagOf D.the-type x) → filledRow t x row ≡ laidOver (readPaper x) (listOf (readingOf t)) row
-  unfolding filledRow laidOver
+  row-other : (x : Read) → OneOf others (tagOf D.the-type x) → filledRow t x row ≡ laid (readPaper x) (listOf (readingOf t)) row
+  unfolding filledRow
   row-other x h =
       rw (ne-eqb (numberOf (readPaper x)) 0 (other-number x h))
       (fill-done t x (length row) 0 0 row (length row) (ended-done (turn-none t x (length row) 0 0 (other-lays x (length row) 0 h))))
 
-  row-laid : (x : Read) → ((count : ℕ) → x ≡ R.Done count → Fits (readingOf t) (length row) count) → filledRow t x row ≡ laidOver (readPaper x) (listOf (readingOf t)) row
+  row-laid : (x : Read) → ((count : ℕ) → x ≡ R.Done count → Fits (readingOf t) (length row) count) → filledRow t x row ≡ laid (readPaper x) (listOf (readingOf t)) row
   row-laid (R.Done count) f = row-laid-done count (f count refl)
   row-laid R.Empty f = row-other R.Empty (hit others 1 tt)
   row-laid (R.Bad k) f = row-other (R.Bad k) (hit others 2 tt)
@@ -96,8 +97,8 @@ module _ (t : List ℕ) (row : List Allele) where
 -- ---- the readers
 
 module _ (t : List ℕ) (row : List Allele) {r x : Read} {row′ : List Allele} (e : r ≡ x) (w : row′ ≡ filledRow t x row) where
-  laid-by : {a : Answer} → readPaper x ≡ a → ((count : ℕ) → x ≡ R.Done count → Fits (readingOf t) (length row) count) → filledRow t x row ≡ laidOver a (listOf (readingOf t)) row
-  laid-by h f = row-laid t row x f ∙ ap (λ (a : Answer). laidOver a (listOf (readingOf t)) row) h
+  laid-by : {a : Answer} → readPaper x ≡ a → ((count : ℕ) → x ≡ R.Done count → Fits (readingOf t) (length row) count) → filledRow t x row ≡ laid a (listOf (readingOf t)) row
+  laid-by h f = row-laid t row x f ∙ ap (λ (a : Answer). laid a (listOf (readingOf t)) row) h
 
   pub reads-row : readPaper x ≡ readAnswer (readingOf t) (length row) → ReadsRow t row r row′
   reads-row h = rw e (record { answer = h; records = w ∙ laid-by h (λ k q. read-fits t (length row) x h q) })

@@ -7,9 +7,8 @@ use Rattle.genotype.specs.Demands.{reader}
 use Rattle.genotype.specs.declared.allele.Allele.{Allele}
 use Rattle.genotype.specs.declared.read.Read.{Read}
 use Rattle.genotype.proofs.ReaderLaws.{reader-answer, reader-row}
-use Rattle.alleles.specs.Read.{laidOver, ReadsRow}
+use Rattle.alleles.specs.Read.{ReadsRow}
 
 -- `read_alleles`
 pub row-reader : {t : List ℕ} {row : List Allele} {r : Read} {row′ : List Allele} → ReadsRow t row r row′ → (readPaper r ≡ reader t row .answer) × (row′ ≡ reader t row .row)
-unfolding laidOver
 row-reader {t} {row} e = (e .answer ∙ sym (reader-answer t row), e .records ∙ sym (reader-row t row))

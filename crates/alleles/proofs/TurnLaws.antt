@@ -10,7 +10,7 @@ use denote.Enum.Declared.{tagOf}
 use lib.ListN.{drop, drop-of-length-le}
 use borrow.Author.Tests.{lt-ltb, le-ltb}
 use Rattle.text.proofs.Lists.{here}
-use Rattle.genotype.specs.Reading.{stepAnswer}
+use Rattle.genotype.specs.Reading.{stepAnswer, firstOf, pastFirst}
 use Rattle.genotype.specs.Paper.{stepPaper}
 use Rattle.genotype.specs.declared.allele.Allele.{Allele}
 use Rattle.genotype.specs.declared.step.Step.{Step}
@@ -20,18 +20,17 @@ use Rattle.genotype.specs.declared.read.Read.the-variants as R
 use Rattle.genotype.proofs.step.Step as T
 use Rattle.genotype.proofs.read.Read as D
 use Rattle.genotype.proofs.StepLaws.{Further, step-means}
-use Rattle.alleles.specs.Turn.{ended, firstOf, pastFirst, laidTurn, lays, turnAt}
+use Rattle.alleles.specs.Turn.{ended, laidTurn, lays, turnAt}
 use Rattle.alleles.specs.declared.read.Turn.{Turn}
 
 -- ---- the first allele from a place on
 
 module _ (t : List ℕ) (at : ℕ) where
   first-found : (a : Allele) (next : ℕ) → Further t at a next → laidTurn (firstOf (drop at t)) (pastFirst at (drop at t)) ≡ record { done = false; allele = a; next = next }
-  unfolding firstOf pastFirst laidTurn
+  unfolding laidTurn
   first-found a next f = rw (here t at (omega (arith, f .past, f .within)), f .first, f .ends)
 
   first-none : (x : Step) → stepPaper x ≡ stepAnswer t at → OneOf (1 ∷ 2 ∷ 3 ∷ []) (tagOf T.the-type x) → firstOf (drop at t) ≡ none
-  unfolding firstOf
   first-none (S.Found a next) e h = absurd (miss (1 ∷ 2 ∷ 3 ∷ []) 0 tt h)
   first-none S.Beyond e h = let f = step-means t at S.Beyond e in rw (drop-of-length-le t {i = at} (omega arith))
   first-none S.Nothing e h = let f = step-means t at S.Nothing e in rw (drop-of-length-le t {i = at} (omega arith))

@@ -8,10 +8,11 @@ use lib.Dec.{ltb}
 use lib.ListN.{set, drop}
 use borrow.Author.Tests.{ltb-true}
 use Rattle.text.specs.Pick.{pick}
+use Rattle.genotype.specs.Reading.{firstOf, pastFirst}
 use Rattle.genotype.specs.declared.allele.Allele.{Allele}
 use Rattle.genotype.specs.declared.read.Read.{Read}
 use Rattle.genotype.specs.declared.read.Read.the-variants as R
-use Rattle.alleles.specs.Turn.{ended, firstOf, pastFirst, laidTurn, lays, turnAt}
+use Rattle.alleles.specs.Turn.{ended, laidTurn, lays, turnAt}
 use Rattle.alleles.specs.Fill.{fillOn}
 
 -- ---- a turn that goes on has room

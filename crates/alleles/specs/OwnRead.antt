@@ -9,14 +9,14 @@ use Rattle.genotype.specs.Reading.{readingOf, listOf}
 use Rattle.genotype.specs.Answers.{readAnswer, checkedAnswer}
 use Rattle.genotype.specs.Paper.{readPaper}
 use Rattle.genotype.specs.declared.allele.Allele.{Allele}
-use Rattle.alleles.specs.Read.{laidOver}
+use Rattle.text.specs.Over.{laid}
 use Rattle.alleles.specs.declared.own_read.Filled.{Filled}
 
 -- the records before the place stay; none are read into where it lies past the row
 pub record ReadsOwn (t : List ℕ) (row : List Allele) (from : ℕ) (r : Filled) : Type 0 where
   pub answer : readPaper (r .answer) ≡ readAnswer (readingOf t) (length (drop from row))
-  pub records : r .row ≡ take from row ++ laidOver (readAnswer (readingOf t) (length (drop from row))) (listOf (readingOf t)) (drop from row)
+  pub records : r .row ≡ take from row ++ laid (readAnswer (readingOf t) (length (drop from row))) (listOf (readingOf t)) (drop from row)
 
 pub record ReadsOwnChecked (t alt : List ℕ) (row : List Allele) (from : ℕ) (r : Filled) : Type 0 where
   pub answer : readPaper (r .answer) ≡ checkedAnswer (altCount alt) (readingOf t) (length (drop from row))
-  pub records : r .row ≡ take from row ++ laidOver (checkedAnswer (altCount alt) (readingOf t) (length (drop from row))) (listOf (readingOf t)) (drop from row)
+  pub records : r .row ≡ take from row ++ laid (checkedAnswer (altCount alt) (readingOf t) (length (drop from row))) (listOf (readingOf t)) (drop from row)

@@ -2,11 +2,9 @@
 -- Assumes nothing.
 use Prim.Native.Nat.{ℕ}
 use mathlib.Core.Path.{_≡_}
-use mathlib.Core.List.{List, _++_}
-use lib.ListN.{length, drop}
-use lib.Dec.{eqb}
-use Rattle.text.specs.Pick.{pick}
-use Rattle.text.specs.Answer.{Answer, numberOf}
+use mathlib.Core.List.{List}
+use lib.ListN.{length}
+use Rattle.text.specs.Over.{laid}
 use Rattle.lists.specs.AlternateBases.{altCount}
 use Rattle.genotype.specs.Reading.{readingOf, listOf}
 use Rattle.genotype.specs.Answers.{readAnswer, checkedAnswer}
@@ -14,14 +12,10 @@ use Rattle.genotype.specs.Paper.{readPaper}
 use Rattle.genotype.specs.declared.allele.Allele.{Allele}
 use Rattle.genotype.specs.declared.read.Read.{Read}
 
--- only an answer that is done changes the row: the list over its first records
-unfoldable pub laidOver : Answer → List Allele → List Allele → List Allele
-laidOver a as′ row = pick (eqb (numberOf a) 0) (as′ ++ drop (length as′) row) row
-
 pub record ReadsRow (t : List ℕ) (row : List Allele) (r : Read) (row′ : List Allele) : Type 0 where
   pub answer : readPaper r ≡ readAnswer (readingOf t) (length row)
-  pub records : row′ ≡ laidOver (readAnswer (readingOf t) (length row)) (listOf (readingOf t)) row
+  pub records : row′ ≡ laid (readAnswer (readingOf t) (length row)) (listOf (readingOf t)) row
 
 pub record ReadsRowChecked (t alt : List ℕ) (row : List Allele) (r : Read) (row′ : List Allele) : Type 0 where
   pub answer : readPaper r ≡ checkedAnswer (altCount alt) (readingOf t) (length row)
-  pub records : row′ ≡ laidOver (checkedAnswer (altCount alt) (readingOf t) (length row)) (listOf (readingOf t)) row
+  pub records : row′ ≡ laid (checkedAnswer (altCount alt) (readingOf t) (length row)) (listOf (readingOf t)) row

@@ -1,12 +1,12 @@
 -- One turn of filling a row: a promise between the functions of this crate. Assumes nothing.
-use Prim.Native.Nat.{ℕ, _+_}
+use Prim.Native.Nat.{ℕ}
 use mathlib.Core.Bool.{Bool, true, false, _&&_}
-use mathlib.Core.List.{List, [], _∷_}
+use mathlib.Core.List.{List}
 use mathlib.Core.Option.{Option, some, none}
-use lib.ListN.{length, drop}
+use lib.ListN.{drop}
 use lib.Dec.{ltb}
 use Rattle.text.specs.Pick.{pick}
-use Rattle.genotype.specs.Reading.{headOf, impliedBy, alleleIn}
+use Rattle.genotype.specs.Reading.{firstOf, pastFirst}
 use Rattle.genotype.specs.declared.allele.Allele.{Allele}
 use Rattle.genotype.specs.declared.read.Read.{Read}
 use Rattle.genotype.specs.declared.read.Read.the-variants as R
@@ -14,15 +14,6 @@ use Rattle.alleles.specs.declared.read.Turn.{Turn}
 
 unfoldable pub ended : Turn
 ended = record { done = true; allele = record { number = 0; missing = false; phased = false }; next = 0 }
-
--- the first allele of a text, and the place past it where the text stands at `at`
-unfoldable pub firstOf : List ℕ → Option Allele
-firstOf [] = none
-firstOf (b ∷ s) = alleleIn (impliedBy s) (b ∷ headOf s)
-
-unfoldable pub pastFirst : ℕ → List ℕ → ℕ
-pastFirst at [] = at
-pastFirst at (b ∷ s) = at + 1 + length (headOf s)
 
 unfoldable pub laidTurn : Option Allele → ℕ → Turn
 laidTurn none next = ended

@@ -3,10 +3,7 @@
 use Prim.Native.Nat.{ℕ}
 use mathlib.Core.Path.{_≡_}
 use mathlib.Core.List.{List}
-use lib.Dec.{eqb}
-use Rattle.text.specs.Pick.{pick}
-use Rattle.text.specs.Answer.{numberOf}
-use Rattle.text.specs.Over.{overAt}
+use Rattle.text.specs.Over.{laidAt}
 use Rattle.genotype.specs.declared.allele.Allele.{Allele}
 use Rattle.spelling.specs.Spelling.{from44, spell}
 use Rattle.spelling.specs.Write.{listAnswer, textOf}
@@ -17,5 +14,5 @@ use Rattle.spelling.specs.declared.write.Write.{Write}
 -- only an answer that is done changes the output; a record's number has at most 64 bits, so what is written reads back
 pub record WritesAlleles (as′ : List Allele) (major minor : ℕ) (out : List ℕ) (at : ℕ) (r : Write) (out′ : List ℕ) : Type 0 where
   pub answer : writePaper r ≡ listAnswer as′ (from44 major minor) out at
-  pub bytes : out′ ≡ pick (eqb (numberOf (listAnswer as′ (from44 major minor) out at)) 0) (overAt at (textOf (spell (from44 major minor) as′)) out) out
+  pub bytes : out′ ≡ laidAt (listAnswer as′ (from44 major minor) out at) at (textOf (spell (from44 major minor) as′)) out
   pub small : Fitting as′
