@@ -9,6 +9,7 @@ use Rattle.text.specs.Range.{cut}
 use Rattle.text.specs.Over.{roomAnswer}
 use Rattle.decimal.specs.Decimal as D
 use Rattle.decimal.specs.Shortest.{shortest}
+use Rattle.pieces.specs.Block as K
 use Rattle.pieces.specs.Pieces as C
 use Rattle.line.specs.Pos as L
 use Rattle.lists.specs.Judge as J
@@ -24,13 +25,13 @@ use Rattle.examples.specs.Table as T
 pub holds : T.Holds
 unfolding
     T.table T.bytes T.answerTo T.questionOf T.replyOf T.entryReply T.bytesAt T.readReply T.spelledReply T.filtersReply
-    U.charsOf U.charsFrom U.charSize U.leadOf U.leadIn U.table U.within U.sizeBy U.follows U.second U.before
+    U.charsOf U.charsFrom U.charSize U.leadOf U.leadIn U.table U.sizeBy U.follows U.second U.before
     P.anySpace P.isSpace P.inAny P.spaces P.codePoint same B.isEmpty B.endsIn cut roomAnswer
     D.valueOf D.isDigit shortest
     C.split C.longer C.joined C.countOf C.lacks
     L.posAnswer L.positive
     J.entryAnswer J.charsAnswer J.fine J.altFine J.filterFine J.symbolFine J.insideFine F.entriesAnswer
-    R.readingOf R.listOf R.partsOf R.impliedOf R.impliedBy R.piecesOf R.isMark R.headOf R.markedPieces R.numbered R.bodied
+    R.readingOf R.listOf R.partsOf R.impliedOf R.impliedBy R.piecesOf R.isMark R.headOf K.beforeEither R.markedPieces R.numbered R.bodied
     R.alleleIn R.with R.gathered A.readAnswer A.fitAnswer allPhased
     S.spell S.from44 S.judged S.shaped S.firstUnsound S.isSound S.listText S.alleleText S.bodyText W.spelledAnswer W.textOf
     I.stepAnswer I.firstAnswer I.pairOf I.pairIn

@@ -1,5 +1,5 @@
 -- Cutting a text before each mark, shown byte by byte: the first piece, and the pieces of the text behind it. Assumes nothing.
-use Prim.Native.Nat.{ℕ, suc, _+_, _≤_, _<_, zero-le, suc-le-suc}
+use Prim.Native.Nat.{ℕ, _+_, _≤_, _<_}
 use mathlib.Core.Path.{_≡_, refl, sym, ap, _∙_}
 use mathlib.Core.List.{List, [], _∷_, map}
 use mathlib.Core.Bool.{Bool, true, false, false≢true, or-true}
@@ -11,6 +11,7 @@ use lib.Seq.{drop-drop}
 use borrow.Author.Tests.{eq-eqb, ne-eqb}
 use Rattle.text.specs.Pick.{pick}
 use Rattle.text.proofs.Lists.{here}
+use Rattle.pieces.proofs.BlockLaws.{before-none, before-here, before-more, before-le, before-take}
 use Rattle.genotype.specs.Reading.{isMark, headOf, markedPieces, piecesOf, bodied, alleleIn, impliedBy, impliedOf, partsOf}
 use Rattle.genotype.specs.declared.allele.Allele.{Allele}
 
@@ -66,47 +67,37 @@ marked-all i j (b ∷ s) = by (isMark b) refl (marked-all i j s)
 
 pub head-none : headOf [] ≡ []
 unfolding headOf
-head-none = refl
+head-none = before-none 124 47
 
 module _ (b : ℕ) (s : List ℕ) where
   pub head-mark : isMark b ≡ true → headOf (b ∷ s) ≡ []
-  unfolding headOf
-  head-mark m = rw m
+  unfolding headOf isMark
+  head-mark m = before-here 124 47 b s m
 
   pub head-more : isMark b ≡ false → headOf (b ∷ s) ≡ b ∷ headOf s
-  unfolding headOf
-  head-more m = rw m
+  unfolding headOf isMark
+  head-more m = before-more 124 47 b s m
 
 pub head-le : (s : List ℕ) → length (headOf s) ≤ length s
 unfolding headOf
-head-le [] = zero-le
-head-le (b ∷ s) = by (isMark b) (head-le s)
-  where
-    by : (t : Bool) → length (headOf s) ≤ length s → length (pick t [] (b ∷ headOf s)) ≤ suc (length s)
-    by true h = zero-le
-    by false h = suc-le-suc h
+head-le s = before-le 124 47 s
 
 pub head-take : (s : List ℕ) → take (length (headOf s)) s ≡ headOf s
 unfolding headOf
-head-take [] = refl
-head-take (b ∷ s) = by (isMark b) (head-take s)
-  where
-    by : (t : Bool) → take (length (headOf s)) s ≡ headOf s → take (length (pick t [] (b ∷ headOf s))) (b ∷ s) ≡ pick t [] (b ∷ headOf s)
-    by true h = refl
-    by false h = ap (λ (l : List ℕ). b ∷ l) h
+head-take s = before-take 124 47 s
 
 -- ---- the first piece, and the others
 
 -- the pieces from the first mark on are those of the text from there on
 marked-pieces : (s : List ℕ) → markedPieces s ≡ piecesOf (drop (length (headOf s)) s)
-unfolding headOf markedPieces piecesOf
-marked-pieces [] = refl
-marked-pieces (b ∷ s) = by (isMark b) (marked-pieces s)
+unfolding markedPieces piecesOf
+marked-pieces [] = rw head-none
+marked-pieces (b ∷ s) = by (isMark b) refl (marked-pieces s)
   where
-    by : (t : Bool) → markedPieces s ≡ piecesOf (drop (length (headOf s)) s)
-        → pick t ((b ∷ headOf s) ∷ markedPieces s) (markedPieces s) ≡ piecesOf (drop (length (pick t [] (b ∷ headOf s))) (b ∷ s))
-    by true h = refl
-    by false h = h
+    by : (t : Bool) → isMark b ≡ t → markedPieces s ≡ piecesOf (drop (length (headOf s)) s)
+        → pick t ((b ∷ headOf s) ∷ markedPieces s) (markedPieces s) ≡ piecesOf (drop (length (headOf (b ∷ s))) (b ∷ s))
+    by true m h = rw (head-mark b s m)
+    by false m h = rw (head-more b s m) h
 
 pub parts-first : (b : ℕ) (s : List ℕ) → partsOf (b ∷ s) ≡ alleleIn (impliedBy s) (b ∷ headOf s) ∷ map (alleleIn (impliedBy s)) (markedPieces s)
 unfolding partsOf piecesOf impliedOf

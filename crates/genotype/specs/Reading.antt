@@ -9,6 +9,7 @@ use lib.Dec.{ltb, eqb}
 use Rattle.text.specs.Pick.{pick, oneIf}
 use Rattle.text.specs.Answer.{Answer, says}
 use Rattle.text.specs.Same.{same}
+use Rattle.pieces.specs.Block.{beforeEither}
 use Rattle.decimal.specs.Decimal.{valueOf}
 use Rattle.pieces.specs.Pieces.{lacks}
 use Rattle.genotype.specs.declared.allele.Allele.{Allele}
@@ -21,8 +22,7 @@ isMark b = eqb b 124 || eqb b 47
 
 -- the bytes before the first mark
 unfoldable pub headOf : List ℕ → List ℕ
-headOf [] = []
-headOf (b ∷ s) = pick (isMark b) [] (b ∷ headOf s)
+headOf s = beforeEither 124 47 s
 
 -- the pieces from the first mark on
 unfoldable pub markedPieces : List ℕ → List (List ℕ)

@@ -1,18 +1,18 @@
--- Blocks without two bytes: what `quietLength` says byte by byte, each way through the loops, and what callers need. Assumes nothing.
+-- Blocks without two bytes: what `beforeEither` says byte by byte, each way through the loops, and what callers need. Assumes nothing.
 use Prim.Native.Nat.{ℕ, zero, suc, _+_, _-_, _<_, _≤_, zero-le}
-use mathlib.Core.Path.{_≡_, refl, sym, _∙_}
+use mathlib.Core.Path.{_≡_, refl, sym, _∙_, ap}
 use mathlib.Core.List.{List, [], _∷_}
 use mathlib.Core.Bool.{Bool, true, false, _&&_, _||_, and-true, and-false}
 use native.Mathlib.Omega.{arith}
 use native.Mathlib.Decide.{decLe}
 use native.Mathlib.Nat.{add-assoc, add-zero}
-use lib.ListN.{length, getD, drop, length-drop}
+use lib.ListN.{length, getD, drop, length-drop, take}
 use lib.Seq.{drop-drop, getD-drop}
 use lib.Dec.{leb, eqb}
 use borrow.Author.Tests.{le-leb, lt-leb, leb-true, leb-false, eq-eqb, ne-eqb, eqb-false}
 use Rattle.text.specs.Pick.{pick}
 use Rattle.text.proofs.Lists.{here}
-use Rattle.pieces.specs.Block.{Quiet, quietLength, pastQuiet}
+use Rattle.pieces.specs.Block.{Quiet, beforeEither, quietLength, pastQuiet}
 
 -- ---- a byte that is one of the two
 
@@ -27,21 +27,61 @@ struck-none hit n m = rw (ne-eqb _ _ n, ne-eqb _ _ m)
 
 -- ---- the bytes before the first of the two
 
--- no more than there are
+pub before-none : (a b : ℕ) → beforeEither a b [] ≡ []
+unfolding beforeEither
+before-none a b = refl
+
+module _ (a b x : ℕ) (s : List ℕ) where
+  pub before-here : (eqb x a || eqb x b) ≡ true → beforeEither a b (x ∷ s) ≡ []
+  unfolding beforeEither
+  before-here e = rw e
+
+  pub before-more : (eqb x a || eqb x b) ≡ false → beforeEither a b (x ∷ s) ≡ x ∷ beforeEither a b s
+  unfolding beforeEither
+  before-more e = rw e
+
+-- they are the first of the text
+pub before-take : (a b : ℕ) (s : List ℕ) → take (length (beforeEither a b s)) s ≡ beforeEither a b s
+unfolding beforeEither
+before-take a b [] = refl
+before-take a b (x ∷ s) = by (eqb x a || eqb x b) (before-take a b s)
+  where
+    by : (t : Bool) → take (length (beforeEither a b s)) s ≡ beforeEither a b s
+        → take (length (pick t [] (x ∷ beforeEither a b s))) (x ∷ s) ≡ pick t [] (x ∷ beforeEither a b s)
+    by true h = refl
+    by false h = ap (λ (l : List ℕ). x ∷ l) h
+
+-- how many there are
+quiet-cons : (a b x : ℕ) (s : List ℕ) → quietLength a b (x ∷ s) ≡ pick (eqb x a || eqb x b) 0 (1 + quietLength a b s)
+unfolding quietLength beforeEither
+quiet-cons a b x s = by (eqb x a || eqb x b)
+  where
+    by : (t : Bool) → length (pick t [] (x ∷ beforeEither a b s)) ≡ pick t 0 (1 + length (beforeEither a b s))
+    by true = refl
+    by false = omega arith
+
+quiet-none-left : (a b : ℕ) → quietLength a b [] ≡ 0
+unfolding quietLength beforeEither
+quiet-none-left a b = refl
+
+-- no more than the text's
+pub before-le : (a b : ℕ) (s : List ℕ) → length (beforeEither a b s) ≤ length s
+unfolding beforeEither
+before-le a b [] = zero-le
+before-le a b (x ∷ s) = by (eqb x a || eqb x b) (before-le a b s)
+  where
+    by : (t : Bool) → length (beforeEither a b s) ≤ length s → length (pick t [] (x ∷ beforeEither a b s)) ≤ suc (length s)
+    by true h = zero-le
+    by false h = omega arith
+
 pub quiet-most : (a b : ℕ) (s : List ℕ) → quietLength a b s ≤ length s
 unfolding quietLength
-quiet-most a b [] = omega arith
-quiet-most a b (x ∷ s) = by (eqb x a || eqb x b) (quiet-most a b s)
-  where
-    by : (t : Bool) → quietLength a b s ≤ length s → pick t 0 (1 + quietLength a b s) ≤ suc (length s)
-    by true l = omega arith
-    by false l = omega arith
+quiet-most a b s = before-le a b s
 
 -- none of them is one of the two
 quiet-none : (a b : ℕ) (s : List ℕ) (k : ℕ) → k < quietLength a b s → (getD s k 0 ≡ a → ⊥) × (getD s k 0 ≡ b → ⊥)
-unfolding quietLength
-quiet-none a b [] k h = absurd (omega arith)
-quiet-none a b (x ∷ s) k h = by (eqb x a) (eqb x b) refl refl k h (quiet-none a b s)
+quiet-none a b [] k h = absurd (omega (arith, quiet-none-left a b))
+quiet-none a b (x ∷ s) k h = by (eqb x a) (eqb x b) refl refl k (rw (quiet-cons a b x s) at h) (quiet-none a b s)
   where
     by : (t u : Bool) → eqb x a ≡ t → eqb x b ≡ u → (k : ℕ) → k < pick (t || u) 0 (1 + quietLength a b s)
         → ((k : ℕ) → k < quietLength a b s → (getD s k 0 ≡ a → ⊥) × (getD s k 0 ≡ b → ⊥)) → (getD (x ∷ s) k 0 ≡ a → ⊥) × (getD (x ∷ s) k 0 ≡ b → ⊥)
@@ -52,10 +92,9 @@ quiet-none a b (x ∷ s) k h = by (eqb x a) (eqb x b) refl refl k h (quiet-none 
 
 -- past some of them stand the others
 quiet-past : (a b : ℕ) (s : List ℕ) (n : ℕ) → n ≤ quietLength a b s → quietLength a b (drop n s) ≡ quietLength a b s - n
-unfolding quietLength
 quiet-past a b s zero h = omega arith
-quiet-past a b [] (suc n) h = absurd (omega arith)
-quiet-past a b (x ∷ s) (suc n) h = by (eqb x a || eqb x b) h (quiet-past a b s n)
+quiet-past a b [] (suc n) h = absurd (omega (arith, quiet-none-left a b))
+quiet-past a b (x ∷ s) (suc n) h = rw (quiet-cons a b x s) (by (eqb x a || eqb x b) (rw (quiet-cons a b x s) at h) (quiet-past a b s n))
   where
     by : (t : Bool) → suc n ≤ pick t 0 (1 + quietLength a b s) → (n ≤ quietLength a b s → quietLength a b (drop n s) ≡ quietLength a b s - n)
         → quietLength a b (drop n s) ≡ pick t 0 (1 + quietLength a b s) - suc n
@@ -92,9 +131,8 @@ gather-first h l = record { short = omega arith; within = omega arith; same = rw
 
 module _ {a b : ℕ} {s : List ℕ} {at hit i : ℕ} (g : Gathering a b s at hit i) where
   pub gather-turn : {r : ℕ} → i < 32 → r ≡ pick (eqb (getD s (at + i) 0) a || eqb (getD s (at + i) 0) b) 1 hit → Gathering a b s at r (i + 1)
-  unfolding quietLength
   gather-turn h e =
-      record { short = omega arith; within = g .within; same = rw e (by (eqb (getD s (at + i) 0) a || eqb (getD s (at + i) 0) b) (rw (here s (at + i) (omega (arith, g .within)), add-assoc) at (g .same))) }
+      record { short = omega arith; within = g .within; same = rw e (by (eqb (getD s (at + i) 0) a || eqb (getD s (at + i) 0) b) (rw (here s (at + i) (omega (arith, g .within)), add-assoc, quiet-cons) at (g .same))) }
     where
       q : ℕ
       q = quietLength a b (drop (at + (i + 1)) s)

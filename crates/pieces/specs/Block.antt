@@ -14,10 +14,13 @@ pub record Quiet (a b : ℕ) (s : List ℕ) (from end : ℕ) : Type 0 where
   pub no-first : (k : ℕ) → from ≤ k → k < end → getD s k 0 ≡ a → ⊥
   pub no-second : (k : ℕ) → from ≤ k → k < end → getD s k 0 ≡ b → ⊥
 
--- how many bytes stand before the text's first a or b, or its end
+-- the bytes before the text's first a or b, or its end
+unfoldable pub beforeEither : ℕ → ℕ → List ℕ → List ℕ
+beforeEither a b [] = []
+beforeEither a b (x ∷ s) = pick (eqb x a || eqb x b) [] (x ∷ beforeEither a b s)
+
 unfoldable pub quietLength : ℕ → ℕ → List ℕ → ℕ
-quietLength a b [] = 0
-quietLength a b (x ∷ s) = pick (eqb x a || eqb x b) 0 (1 + quietLength a b s)
+quietLength a b s = length (beforeEither a b s)
 
 -- the place past all whole blocks of 32 such bytes from the place `at` on
 unfoldable pub pastQuiet : ℕ → ℕ → List ℕ → ℕ → ℕ
