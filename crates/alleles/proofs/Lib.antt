@@ -1,6 +1,6 @@
 pub mod Row
-pub mod Again
 pub mod Parts
+pub mod Rest
 pub mod Local
 pub mod LocalBack
 pub mod GivenBack
@@ -10,6 +10,7 @@ pub mod FillLaws
 pub mod ReadDemands
 pub mod OwnReadLaws
 pub mod WriteStepLaws
+pub mod Small
 pub mod Tallying
 pub mod Putting
 pub mod WriteLaws

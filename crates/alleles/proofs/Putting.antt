@@ -6,6 +6,7 @@ use native.Mathlib.Numerals.{add-one-le}
 use mathlib.Core.List.{List, [], _∷_}
 use mathlib.Core.WellFounded.{WellFounded, InvImage·wf}
 use lib.WfN.{Nat·lt-wfRel}
+use lib.Dec.{lit<}
 use lib.ListN.{length, getD, drop, drop-of-length-le}
 use Rattle.genotype.specs.declared.allele.Allele.{Allele}
 use Rattle.alleles.specs.Put.{Wrote, putOne, putFrom, putAll}
@@ -27,7 +28,7 @@ module _ (d : Decision) (i at : ℕ) (l : List ℕ) where
   put-end = refl
 
 -- i records written, the output's place and list
-module _ (ys : List Allele) (d : Decision) (os : List ℕ) (from : ℕ) where
+module _ (ys : List Allele) (d : Decision) (os : List ℕ) where
   pub record St : Type 0 where
     pub i : ℕ
     pub at : ℕ
@@ -35,11 +36,11 @@ module _ (ys : List Allele) (d : Decision) (os : List ℕ) (from : ℕ) where
     pub below : i ≤ length ys
     pub long : length l ≡ length os
     pub at-fits : at < 2 ^ 64
-    pub same : putFrom i (drop i ys) d l at ≡ putAll ys d os from
+    pub same : putFrom i (drop i ys) d l at ≡ putAll ys d os
 
-  unfoldable pub start : from < 2 ^ 64 → St
+  unfoldable pub start : St
   unfolding putAll
-  start f = record { i = 0; at = from; l = os; below = zero-le; long = refl; at-fits = f; same = refl }
+  start = record { i = 0; at = 0; l = os; below = zero-le; long = refl; at-fits = lit< tt; same = refl }
 
   unfoldable pub further : (s : St) → s .i < length ys → (r : ℕ) (z : List ℕ) → Ensures r (s .l) z (s .at) (getD ys (s .i) blank) d (s .i) → r < 2 ^ 64
       → length z ≡ length (s .l) → St
@@ -57,10 +58,10 @@ module _ (ys : List Allele) (d : Decision) (os : List ℕ) (from : ℕ) where
           ap (putFrom (s .i + 1) rest d z) (e .0) ∙ ap (λ (u : List ℕ). putFrom (s .i + 1) rest d u (putOne (s .l) (s .at) a d (s .i) .next)) (e .1)
           ∙ sym (put-more d (s .i) (s .at) (s .l) a rest) ∙ ap (λ (v : List Allele). putFrom (s .i) v d (s .l) (s .at)) (sym (here ys (s .i) h))
 
-  pub over : (s : St) → length ys ≤ s .i → (s .at ≡ putAll ys d os from .next) × (s .l ≡ putAll ys d os from .out)
+  pub over : (s : St) → length ys ≤ s .i → (s .at ≡ putAll ys d os .next) × (s .l ≡ putAll ys d os .out)
   over s h = (ap (λ (u : Wrote). u .next) whole, ap (λ (u : Wrote). u .out) whole)
     where
-      whole : record { next = s .at; out = s .l } ≡ putAll ys d os from
+      whole : record { next = s .at; out = s .l } ≡ putAll ys d os
       whole = sym (put-end d (s .i) (s .at) (s .l)) ∙ ap (λ (v : List Allele). putFrom (s .i) v d (s .l) (s .at)) (sym (drop-of-length-le ys h)) ∙ s .same
 
   abbrev pub Nearer : St → St → Type 0

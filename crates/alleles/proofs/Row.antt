@@ -39,9 +39,9 @@ R = T.the-row
 abbrev pub IsR : Allele → Type 0
 IsR a = Is R a (T′.lowered a ∷ [])
 
--- what is read past the end of a row
+-- what is read past the end of a row, as `Fitting` has it
 abbrev pub blank : Allele
-blank = record { number = 0; missing = false; phased = false }
+blank = record { number = 0; missing = true; phased = true }
 
 -- what a test that was taken, or not, says
 pub yes-is : (t : Bool) → Holds t → t ≡ true

@@ -1,10 +1,7 @@
 -- A tally's machine value, and the loop of `tally_row`: its state, one more record, and the end. Assumes `Given`, and only for the machine value's type.
-use mathlib.Core.Path.{_≡_, refl, ap, sym, subst, _∙_}
-use Prim.Native.Nat.{ℕ, zero, suc, _<_, _≤_, _+_, _-_, zero-le}
+use mathlib.Core.Path.{_≡_, ap, sym, subst, _∙_}
+use Prim.Native.Nat.{ℕ, _<_, _≤_, _+_, _-_, zero-le}
 use native.Mathlib.Numerals.{add-one, add-one-le}
-use native.Mathlib.Decide.{decLt}
-use native.Mathlib.Omega.{arith}
-use mathlib.Core.Bool.{true}
 use mathlib.Core.List.{List, [], _∷_}
 use mathlib.Core.WellFounded.{WellFounded, InvImage·wf}
 use lib.WfN.{Nat·lt-wfRel}
@@ -22,7 +19,6 @@ use denote.Steps.{only}
 use denote.Struct.Laws as LL
 use Rattle.genotype.specs.declared.allele.Allele.{Allele}
 use Rattle.spelling.specs.Tally.{begun, tallied, tallyFrom, tallyOf}
-use Rattle.spelling.specs.Demands.{Fitting}
 use Rattle.spelling.specs.declared.tally.Tally.{Tally}
 use Rattle.spelling.proofs.TallySteps.{tally-start, tally-end, tally-more}
 use Rattle.spelling.proofs.tally.Tally as T
@@ -47,12 +43,6 @@ pub tally-typed : {M : Type 1} (𝓤 : URA M) (H : Heap 𝓤) (A : Atoms 𝓤) (
     → Holds (hasTy T′.mir w) × WT w
 tally-typed 𝓤 H A W t w is = LL.lawful T.the-type T′.the-laws 𝓤 H A W .typed t _ is .0
 
--- what lies past the end makes no difference within
-same-within : (ys : List Allele) (j : ℕ) (d e : Allele) → j < length ys → getD ys j d ≡ getD ys j e
-same-within [] j d e h = absurd (omega arith)
-same-within (y ∷ ys) zero d e h = refl
-same-within (y ∷ ys) (suc j) d e h = same-within ys j d e (omega arith)
-
 pub here : (ys : List Allele) (i : ℕ) → i < length ys → drop i ys ≡ getD ys i blank ∷ drop (i + 1) ys
 here ys i h = rw (add-one, drop-cons ys i blank)
 
@@ -63,7 +53,6 @@ module _ (ys : List Allele) (room : ℕ) where
     pub t : Tally
     pub below : i ≤ length ys
     pub is : IsTally t
-    pub small : (j : ℕ) → j < i → getD ys j blank .number ≤ 18446744073709551615
     pub same : tallyFrom t i (drop i ys) ≡ tallyOf room ys
 
   unfoldable pub start : (t : Tally) → IsTally t → t ≡ begun room → St
@@ -73,31 +62,20 @@ module _ (ys : List Allele) (room : ℕ) where
         t = t;
         below = zero-le;
         is = is;
-        small = λ j h. absurd (omega arith);
         same = ap (λ (u : Tally). tallyFrom u 0 ys) e ∙ sym (tally-start room ys);
       }
 
   unfoldable pub further : (s : St) → s .i < length ys → (r : Tally) → r ≡ tallied (s .t) (getD ys (s .i) blank) (s .i)
-      → getD ys (s .i) blank .number ≤ 18446744073709551615 → IsTally r → St
-  further s h r e f is = record { i = s .i + 1; t = r; below = add-one-le h; is = is; small = each; same = next ∙ s .same }
+      → IsTally r → St
+  further s h r e is = record { i = s .i + 1; t = r; below = add-one-le h; is = is; same = next ∙ s .same }
     where
-      each : (j : ℕ) → j < s .i + 1 → getD ys j blank .number ≤ 18446744073709551615
-      each j k =
-          elim (decLt j (s .i)) [
-            | yes l ↦ s .small j l
-            | no l ↦ let z : s .i ≡ j = omega arith in subst (λ (m : ℕ). getD ys m blank .number ≤ 18446744073709551615) z f
-          ]
-
       next : tallyFrom r (s .i + 1) (drop (s .i + 1) ys) ≡ tallyFrom (s .t) (s .i) (drop (s .i) ys)
       next =
           ap (λ (u : Tally). tallyFrom u (s .i + 1) (drop (s .i + 1) ys)) e ∙ sym (tally-more (s .t) (s .i) (getD ys (s .i) blank) (drop (s .i + 1) ys))
           ∙ ap (tallyFrom (s .t) (s .i)) (sym (here ys (s .i) h))
 
-  pub over : (s : St) → length ys ≤ s .i → (s .t ≡ tallyOf room ys) × Fitting ys
-  over s h = (sym (tally-end (s .t) (s .i)) ∙ ap (tallyFrom (s .t) (s .i)) (sym (drop-of-length-le ys h)) ∙ s .same, record { each = each })
-    where
-      each : (j : ℕ) → j < length ys → getD ys j (record { number = 0; missing = true; phased = true }) .number ≤ 18446744073709551615
-      each j k = subst (λ (a : Allele). a .number ≤ 18446744073709551615) (same-within ys j blank _ k) (s .small j (omega arith))
+  pub over : (s : St) → length ys ≤ s .i → s .t ≡ tallyOf room ys
+  over s h = sym (tally-end (s .t) (s .i)) ∙ ap (tallyFrom (s .t) (s .i)) (sym (drop-of-length-le ys h)) ∙ s .same
 
   abbrev pub Nearer : St → St → Type 0
   Nearer u s = length ys - u .i < length ys - s .i

@@ -2,27 +2,30 @@
 use Prim.Native.Nat.{ℕ, _+_, _-_, _≤_, _<_}
 use mathlib.Core.Path.{_≡_, refl, sym, ap, _∙_}
 use mathlib.Core.Bool.{Bool, true, false, _&&_, and-true, and-false}
-use mathlib.Core.List.{List, [], _∷_}
+use mathlib.Core.List.{List, [], _∷_, _++_}
 use native.Mathlib.Omega.{arith}
-use native.Mathlib.Decide.{decLe}
-use lib.ListN.{length}
+use lib.ListN.{length, take, drop}
 use lib.Dec.{eqb}
-use borrow.Author.Tests.{le-leb, lt-leb, ne-eqb}
-use Rattle.text.specs.Over.{overAt}
+use borrow.Author.Tests.{ne-eqb}
+use Rattle.text.specs.Over.{over, overAt}
 use Rattle.text.proofs.Lists.{overAt-nil, overAt-append, length-overAt}
 use Rattle.genotype.specs.declared.allele.Allele.{Allele}
 use Rattle.spelling.specs.Spelling.{from44, alleleText, listText}
 use Rattle.spelling.specs.Tally.{tallyOf}
 use Rattle.spelling.specs.Demands.{Fitting}
+use Rattle.spelling.specs.Write.{WritesList}
 use Rattle.spelling.specs.declared.tally.Tally.{Tally}
 use Rattle.spelling.specs.declared.tally.Plan.{Plan}
 use Rattle.spelling.specs.declared.tally.Plan.the-variants as P
+use Rattle.spelling.specs.declared.write.Write.{Write}
 use Rattle.spelling.specs.declared.write.Write.the-variants as W
 use Rattle.spelling.proofs.SpellLaws.{list-none, list-more, list-length}
 use Rattle.spelling.proofs.PlanLaws.{Told, plan-told}
 use Rattle.spelling.proofs.TallySteps.{bare-taken, marked-taken}
-use Rattle.spelling.proofs.ListLaws.{fits-at, ListOutcome, list-beyond, list-text, list-short, list-empty, list-bad, list-phasing}
-use Rattle.alleles.specs.Decide.{roomFrom, refusal, planned, decided}
+use Rattle.spelling.proofs.LayLaws.{over-start}
+use Rattle.spelling.proofs.WriteLaws.{writes-text, writes-short, writes-empty, writes-bad, writes-phasing}
+use Rattle.spelling.proofs.ListLaws.{fits-at, ListOutcome, list-beyond, list-rest}
+use Rattle.alleles.specs.Decide.{refusal, planned, decided}
 use Rattle.alleles.specs.Put.{Wrote, putText, putOne, putFrom, putAll}
 use Rattle.alleles.specs.Write.{WritesAlleles}
 use Rattle.alleles.specs.declared.write.Decision.{Decision}
@@ -69,46 +72,46 @@ from-text (a ∷ as′) i d out at {lead} w e h =
     later : (d .bare && eqb (i + 1) 0) ≡ false
     later = rw (ne-eqb (i + 1) 0 (λ z. omega arith)) (and-false (d .bare))
 
-module _ (as′ : List Allele) (d : Decision) (out : List ℕ) (at : ℕ) where
-  all-none : d .write ≡ false → putAll as′ d out at .out ≡ out
+module _ (as′ : List Allele) (d : Decision) (l : List ℕ) where
+  all-none : d .write ≡ false → putAll as′ d l .out ≡ l
   unfolding putAll
-  all-none e = from-none as′ 0 d out at e
+  all-none e = from-none as′ 0 d l 0 e
 
-  all-text : {bare : Bool} → d .write ≡ true → d .bare ≡ bare → at + length (listText bare as′) ≤ length out → putAll as′ d out at .out ≡ overAt at (listText bare as′) out
+  all-text : {bare : Bool} → d .write ≡ true → d .bare ≡ bare → length (listText bare as′) ≤ length l → putAll as′ d l .out ≡ over (listText bare as′) l
   unfolding putAll
-  all-text {bare} w e h = from-text as′ 0 d out at w (rw e (and-true bare)) h
+  all-text {bare} w e h = from-text as′ 0 d l 0 w (rw e (and-true bare)) (omega arith) ∙ over-start (listText bare as′) l
 
--- ---- the outcome
+-- ---- at the start of an output
 
-module _ (as′ : List Allele) (late : Bool) (out : List ℕ) (at : ℕ) where
+module _ (as′ : List Allele) (late : Bool) (l : List ℕ) where
   abbrev Gives : Decision → Type 0
-  Gives d = ListOutcome as′ late out at (d .answer) (putAll as′ d out at .out)
+  Gives d = WritesList as′ late l (d .answer) (putAll as′ d l .out)
 
-  planned-gives : at ≤ length out → (x : Plan) → Told as′ late (length out - at) x
-      → Gives (planned x (length out - at - tallyOf (length out - at) as′ .left))
+  planned-gives : (x : Plan) → Told as′ late (length l) x → Gives (planned x (length l - tallyOf (length l) as′ .left))
   unfolding planned refusal
-  planned-gives h P.Bare s =
-      list-text as′ late out at h s (bare-taken as′ late _ s) (let f = s .fits in all-text as′ _ out at refl refl (omega arith))
-  planned-gives h P.Marked s =
-      list-text as′ late out at h s (marked-taken as′ late _ s) (let f = s .fits in all-text as′ _ out at refl refl (omega arith))
-  planned-gives h P.Empty s = rw (all-none as′ (refusal W.Empty) out at refl) (list-empty as′ late out at h s)
-  planned-gives h (P.Bad k) s = rw (all-none as′ (refusal (W.Bad k)) out at refl) (list-bad as′ late out at h s)
-  planned-gives h P.Phasing s = rw (all-none as′ (refusal W.Phasing) out at refl) (list-phasing as′ late out at h s)
-  planned-gives h P.Short s = rw (all-none as′ (refusal W.Short) out at refl) (list-short as′ late out at h s)
+  planned-gives P.Bare s = writes-text l s (bare-taken as′ late _ s) (all-text as′ _ l refl refl (s .fits))
+  planned-gives P.Marked s = writes-text l s (marked-taken as′ late _ s) (all-text as′ _ l refl refl (s .fits))
+  planned-gives P.Empty s = rw (all-none as′ (refusal W.Empty) l refl) (writes-empty l s)
+  planned-gives (P.Bad k) s = rw (all-none as′ (refusal (W.Bad k)) l refl) (writes-bad l s)
+  planned-gives P.Phasing s = rw (all-none as′ (refusal W.Phasing) l refl) (writes-phasing l s)
+  planned-gives P.Short s = rw (all-none as′ (refusal W.Short) l refl) (writes-short l s)
 
-  decided-gives : Gives (decided (tallyOf (roomFrom (length out) at) as′) (length as′) late (length out) at)
-  unfolding decided roomFrom refusal
-  decided-gives =
-      elim (decLe at (length out)) [
-        | yes h ↦ rw (le-leb _ _ h) (planned-gives h _ (plan-told as′ late (length out - at)))
-        | no h ↦
-            let l : length out < at = omega arith in
-            rw (lt-leb _ _ l, all-none as′ (refusal W.Beyond) out at refl) (list-beyond as′ late out at l)
-      ]
+  decided-gives : Gives (decided (tallyOf (length l) as′) (length as′) late (length l))
+  unfolding decided
+  decided-gives = planned-gives _ (plan-told as′ late (length l))
 
-pub writes-all : (as′ : List Allele) (major minor : ℕ) (out : List ℕ) (at : ℕ) → Fitting as′ → (t : Tally) → t ≡ tallyOf (roomFrom (length out) at) as′
-    → (d : Decision) → d ≡ decided t (length as′) (from44 major minor) (length out) at → (out′ : List ℕ) → out′ ≡ putAll as′ d out at .out
-    → WritesAlleles as′ major minor out at (d .answer) out′
-writes-all as′ major minor out at small t te d de out′ oe =
-    let g = rw (← te, ← de) at (decided-gives as′ (from44 major minor) out at) in
-    record { answer = g .answer; bytes = oe ∙ g .bytes; small = small }
+  pub writes-start : {t : Tally} {d : Decision} {l′ : List ℕ} → t ≡ tallyOf (length l) as′ → d ≡ decided t (length as′) late (length l) → l′ ≡ putAll as′ d l .out
+      → WritesList as′ late l (d .answer) l′
+  writes-start te de e = let g = rw (← te, ← de) at decided-gives in record { answer = g .answer; bytes = e ∙ g .bytes }
+
+-- ---- from a place of an output
+
+module _ (as′ : List Allele) (major minor : ℕ) (out : List ℕ) (at : ℕ) (small : Fitting as′) where
+  writes-by : {r : Write} {out′ : List ℕ} → ListOutcome as′ (from44 major minor) out at r out′ → WritesAlleles as′ major minor out at r out′
+  writes-by g = record { answer = g .answer; bytes = g .bytes; small = small }
+
+  pub writes-beyond : length out < at → WritesAlleles as′ major minor out at W.Beyond out
+  writes-beyond h = writes-by (list-beyond as′ (from44 major minor) out at h)
+
+  pub writes-rest : {r : Write} {ys : List ℕ} → at ≤ length out → WritesList as′ (from44 major minor) (drop at out) r ys → WritesAlleles as′ major minor out at r (take at out ++ ys)
+  writes-rest h w = writes-by (list-rest as′ (from44 major minor) out at h w)

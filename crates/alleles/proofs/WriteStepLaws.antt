@@ -1,5 +1,5 @@
 -- What is decided by a tally, and one record written: each way through each function. Assumes nothing.
-use Prim.Native.Nat.{ℕ, _+_, _-_, _^_, _≤_, _<_}
+use Prim.Native.Nat.{ℕ, _+_, _-_, _^_, _<_}
 use mathlib.Core.Path.{_≡_, refl, sym, _∙_}
 use mathlib.Core.Bool.{Bool, true, false, not, _&&_, and-true, and-false}
 use mathlib.Core.List.{List}
@@ -8,7 +8,7 @@ use mir.Syntax.{w64}
 use mir.Val.{Fits}
 use lib.ListN.{length}
 use lib.Dec.{eqb}
-use borrow.Author.Tests.{le-leb, lt-leb, eq-eqb, ne-eqb, not-true, not-false}
+use borrow.Author.Tests.{eq-eqb, ne-eqb, not-true, not-false}
 use Rattle.text.specs.Pick.{pick}
 use Rattle.text.specs.Over.{overAt}
 use Rattle.genotype.specs.declared.allele.Allele.{Allele}
@@ -21,62 +21,47 @@ use Rattle.spelling.specs.declared.tally.Plan.the-variants as P
 use Rattle.spelling.specs.declared.write.Write.{Write}
 use Rattle.spelling.specs.declared.write.Write.the-variants as W
 use Rattle.spelling.proofs.TallySteps.{marked-room}
-use Rattle.alleles.specs.Decide.{roomFrom, refusal, planned, decided}
+use Rattle.alleles.specs.Decide.{refusal, planned, decided}
 use Rattle.alleles.specs.Put.{Wrote, putText, putOne}
 use Rattle.alleles.specs.declared.write.Decision.{Decision}
 
--- ---- the room, and the decision
-
-module _ (len at : ℕ) where
-  pub room-none : len < at → 0 ≡ roomFrom len at
-  unfolding roomFrom
-  room-none h = omega arith
-
-  pub room-some : at ≤ len → len - at ≡ roomFrom len at
-  unfolding roomFrom
-  room-some h = refl
+-- ---- the decision
 
 pub refuse-is : (w : Write) → _≡_ {A = Decision} (record { write = false; bare = false; answer = w }) (refusal w)
 unfolding refusal
 refuse-is w = refl
 
-module _ (t : Tally) (count : ℕ) (late : Bool) (len at : ℕ) where
-  pub decide-beyond : {r : Decision} → len < at → r ≡ refusal W.Beyond → r ≡ decided t count late len at
+module _ (t : Tally) (count : ℕ) (late : Bool) (room : ℕ) {taken : ℕ} {x : Plan} (g : taken ≡ room - t .left) (p : x ≡ planOf t count late) where
+  decide-planned : {y : Plan} → x ≡ y → planned y taken ≡ decided t count late room
   unfolding decided
-  decide-beyond h e = rw (lt-leb _ _ h) e
+  decide-planned q = rw (← p, q, g)
 
-  module _ {room taken : ℕ} {x : Plan} (h : at ≤ len) (e : room ≡ roomFrom len at) (g : taken ≡ roomFrom room (t .left)) (p : x ≡ planOf t count late) where
-    decide-planned : {y : Plan} → x ≡ y → planned y taken ≡ decided t count late len at
-    unfolding decided roomFrom
-    decide-planned q = rw (le-leb _ _ h, ← p, q, g, e)
+  pub decide-bare : x ≡ P.Bare → _≡_ {A = Decision} (record { write = true; bare = true; answer = W.Done taken }) (decided t count late room)
+  unfolding planned
+  decide-bare q = decide-planned q
 
-    pub decide-bare : x ≡ P.Bare → _≡_ {A = Decision} (record { write = true; bare = true; answer = W.Done taken }) (decided t count late len at)
-    unfolding planned
-    decide-bare q = decide-planned q
+  pub decide-sum : x ≡ P.Marked → room < 2 ^ 64 → Fits w64 (taken + 1)
+  decide-sum q f = let m = marked-room t count late (sym p ∙ q) in record { fits = omega arith }
 
-    pub decide-sum : x ≡ P.Marked → len < 2 ^ 64 → Fits w64 (taken + 1)
-    unfolding roomFrom
-    decide-sum q f = let m = marked-room t count late (sym p ∙ q) in record { fits = omega arith }
+  pub decide-marked : x ≡ P.Marked → _≡_ {A = Decision} (record { write = true; bare = false; answer = W.Done (taken + 1) }) (decided t count late room)
+  unfolding planned
+  decide-marked q = decide-planned q
 
-    pub decide-marked : x ≡ P.Marked → _≡_ {A = Decision} (record { write = true; bare = false; answer = W.Done (taken + 1) }) (decided t count late len at)
-    unfolding planned
-    decide-marked q = decide-planned q
+  pub decide-empty : {r : Decision} → x ≡ P.Empty → r ≡ refusal W.Empty → r ≡ decided t count late room
+  unfolding planned
+  decide-empty q f = f ∙ decide-planned q
 
-    pub decide-empty : {r : Decision} → x ≡ P.Empty → r ≡ refusal W.Empty → r ≡ decided t count late len at
-    unfolding planned
-    decide-empty q f = f ∙ decide-planned q
+  pub decide-bad : {r : Decision} {k : ℕ} → x ≡ P.Bad k → r ≡ refusal (W.Bad k) → r ≡ decided t count late room
+  unfolding planned
+  decide-bad q f = f ∙ decide-planned q
 
-    pub decide-bad : {r : Decision} {k : ℕ} → x ≡ P.Bad k → r ≡ refusal (W.Bad k) → r ≡ decided t count late len at
-    unfolding planned
-    decide-bad q f = f ∙ decide-planned q
+  pub decide-phasing : {r : Decision} → x ≡ P.Phasing → r ≡ refusal W.Phasing → r ≡ decided t count late room
+  unfolding planned
+  decide-phasing q f = f ∙ decide-planned q
 
-    pub decide-phasing : {r : Decision} → x ≡ P.Phasing → r ≡ refusal W.Phasing → r ≡ decided t count late len at
-    unfolding planned
-    decide-phasing q f = f ∙ decide-planned q
-
-    pub decide-short : {r : Decision} → x ≡ P.Short → r ≡ refusal W.Short → r ≡ decided t count late len at
-    unfolding planned
-    decide-short q f = f ∙ decide-planned q
+  pub decide-short : {r : Decision} → x ≡ P.Short → r ≡ refusal W.Short → r ≡ decided t count late room
+  unfolding planned
+  decide-short q f = f ∙ decide-planned q
 
 -- ---- one record
 
@@ -115,4 +100,4 @@ module _ (l : List ℕ) (at : ℕ) (a : Allele) (d : Decision) (i : ℕ) where
     pub put-later : (i ≡ 0 → ⊥) → PutsAt (alleleText false a) at l r l′ → (r ≡ putOne l at a d i .next) × (l′ ≡ putOne l at a d i .out)
     put-later z w = put-mark (rw (ne-eqb _ _ z) (and-false (d .bare))) w
 
-pub ruleset laws = (room-none, room-some, refuse-is, decide-beyond, decide-bare, decide-sum, decide-marked, decide-empty, decide-bad, decide-phasing, decide-short)
+pub ruleset laws = (refuse-is, decide-bare, decide-sum, decide-marked, decide-empty, decide-bad, decide-phasing, decide-short)

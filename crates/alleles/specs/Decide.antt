@@ -1,8 +1,6 @@
 -- What is to be done with a row, by its tally: a promise between the functions of this crate. Assumes nothing.
 use Prim.Native.Nat.{ℕ, _+_, _-_}
 use mathlib.Core.Bool.{Bool, true, false}
-use lib.Dec.{leb}
-use Rattle.text.specs.Pick.{pick}
 use Rattle.spelling.specs.Tally.{planOf}
 use Rattle.spelling.specs.declared.tally.Tally.{Tally}
 use Rattle.spelling.specs.declared.tally.Plan.{Plan}
@@ -10,10 +8,6 @@ use Rattle.spelling.specs.declared.tally.Plan.the-variants as P
 use Rattle.spelling.specs.declared.write.Write.{Write}
 use Rattle.spelling.specs.declared.write.Write.the-variants as W
 use Rattle.alleles.specs.declared.write.Decision.{Decision}
-
--- 0 where the place lies beyond
-unfoldable pub roomFrom : ℕ → ℕ → ℕ
-roomFrom len at = len - at
 
 unfoldable pub refusal : Write → Decision
 refusal w = record { write = false; bare = false; answer = w }
@@ -27,5 +21,5 @@ planned (P.Bad k) taken = refusal (W.Bad k)
 planned P.Phasing taken = refusal W.Phasing
 planned P.Short taken = refusal W.Short
 
-unfoldable pub decided : Tally → ℕ → Bool → ℕ → ℕ → Decision
-decided t count late len at = pick (leb at len) (planned (planOf t count late) (roomFrom len at - t .left)) (refusal W.Beyond)
+unfoldable pub decided : Tally → ℕ → Bool → ℕ → Decision
+decided t count late room = planned (planOf t count late) (room - t .left)

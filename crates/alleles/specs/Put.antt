@@ -30,6 +30,7 @@ unfolding putOne
 putFrom i [] d out at = record { next = at; out = out }
 putFrom i (a ∷ as′) d out at = putFrom (i + 1) as′ d (putOne out at a d i .out) (putOne out at a d i .next)
 
-unfoldable pub putAll : List Allele → Decision → List ℕ → ℕ → Wrote
+-- the whole row, at the start of the output
+unfoldable pub putAll : List Allele → Decision → List ℕ → Wrote
 unfolding putFrom
-putAll as′ d out at = putFrom 0 as′ d out at
+putAll as′ d out = putFrom 0 as′ d out 0

@@ -8,11 +8,11 @@ use spelling::tally::begin;
 use spelling::tally::plan_for;
 use spelling::write::Write;
 ghost use mathlib.Core.Path.{_≡_};
-ghost use Prim.Native.Nat.{_≤_};
+ghost use Prim.Native.Nat.{_-_};
 ghost use Rattle.spelling.specs.Spelling.{from44};
-ghost use Rattle.spelling.specs.Tally.{tallied, tallyOf};
-ghost use Rattle.spelling.specs.Demands.{Fitting};
-ghost use Rattle.alleles.specs.Decide.{roomFrom, refusal, decided};
+ghost use Rattle.spelling.specs.Tally.{tallyOf};
+ghost use Rattle.spelling.specs.Write.{WritesList};
+ghost use Rattle.alleles.specs.Decide.{refusal, decided};
 ghost use Rattle.alleles.specs.Put.{putOne, putAll};
 ghost use Rattle.alleles.specs.Write.{WritesAlleles};
 
@@ -23,14 +23,14 @@ struct Decision {
     answer: Write,
 }
 
-// The room from a place on: none where the place lies beyond the output.
-fn room_from(len: usize, at: usize) -> usize
-    ensures { λ r. ⌜ r ≡ roomFrom len at ⌝ }
+// How many bytes of a room are taken, where `left` are left.
+fn spent(room: usize, left: usize) -> usize
+    ensures { λ r. ⌜ r ≡ room - left ⌝ }
 {
-    if at > len {
+    if left > room {
         return 0;
     }
-    len - at
+    room - left
 }
 
 fn refuse(answer: Write) -> Decision
@@ -43,15 +43,11 @@ fn refuse(answer: Write) -> Decision
     }
 }
 
-// By the tally of a row of `count` records, for an output of `len` bytes: 6 first. What is written takes the room that is not
-// left, and a byte more with the first mark.
-fn decide(tally: Tally, count: usize, major: u32, minor: u32, len: usize, at: usize) -> Decision
-    ensures { λ r. ⌜ r ≡ decided tally count (from44 major minor) len at ⌝ }
+// By the tally of a row of `count` records, for `room` bytes. A byte more is taken with the first mark.
+fn decide(tally: Tally, count: usize, major: u32, minor: u32, room: usize) -> Decision
+    ensures { λ r. ⌜ r ≡ decided tally count (from44 major minor) room ⌝ }
 {
-    if at > len {
-        return refuse(Write::Beyond);
-    }
-    let taken = room_from(room_from(len, at), tally.left);
+    let taken = spent(room, tally.left);
     match plan_for(tally, count, major, minor) {
         Plan::Bare => Decision {
             write: true,
@@ -70,22 +66,14 @@ fn decide(tally: Tally, count: usize, major: u32, minor: u32, len: usize, at: us
     }
 }
 
-// The tally after record i. A record's number has at most 64 bits.
-fn count_one(tally: Tally, a: Allele, i: usize) -> Tally
-    ensures { λ r. ⌜ r ≡ tallied tally a i ⌝ }
-    ensures { λ r. ⌜ a .number ≤ 18446744073709551615 ⌝ }
-{
-    add(tally, a, i)
-}
-
 // The tally of the whole row.
 fn tally_row(row: &[Allele], room: usize) -> Tally
-    ensures { λ r. ⌜ (r ≡ tallyOf room (now (row .entry))) × Fitting (now (row .entry)) ⌝ }
+    ensures { λ r. ⌜ r ≡ tallyOf room (now (row .entry)) ⌝ }
 {
     let mut tally = begin(room);
     let mut i = 0;
     while i < row.len() {
-        tally = count_one(tally, row[i], i);
+        tally = add(tally, row[i], i);
         i += 1;
     }
     tally
@@ -104,11 +92,11 @@ fn put_one(out: &mut [u8], at: usize, a: Allele, decision: Decision, i: usize) -
     put_allele(a, false, out, at)
 }
 
-// Writes the whole row from a place on, where it is written.
-fn put_row(out: &mut [u8], from: usize, row: &[Allele], decision: Decision) -> usize
-    ensures { λ r. ⌜ (r ≡ putAll (now (row .entry)) decision (now (out .entry)) from .next) × (now (out .exit) ≡ putAll (now (row .entry)) decision (now (out .entry)) from .out) ⌝ }
+// Writes the whole row at the start of the output, where it is written.
+fn put_row(out: &mut [u8], row: &[Allele], decision: Decision) -> usize
+    ensures { λ r. ⌜ (r ≡ putAll (now (row .entry)) decision (now (out .entry)) .next) × (now (out .exit) ≡ putAll (now (row .entry)) decision (now (out .entry)) .out) ⌝ }
 {
-    let mut at = from;
+    let mut at = 0;
     let mut i = 0;
     while i < row.len() {
         at = put_one(out, at, row[i], decision, i);
@@ -117,12 +105,22 @@ fn put_row(out: &mut [u8], from: usize, row: &[Allele], decision: Decision) -> u
     at
 }
 
+// Writes the shortest permitted spelling at the start of the output.
+fn write_rest(row: &[Allele], major: u32, minor: u32, out: &mut [u8]) -> Write
+    ensures { λ r. ⌜ WritesList (now (row .entry)) (from44 major minor) (now (out .entry)) r (now (out .exit)) ⌝ }
+{
+    let tally = tally_row(row, out.len());
+    let decision = decide(tally, row.len(), major, minor, out.len());
+    put_row(out, row, decision);
+    decision.answer
+}
+
 // Writes the shortest spelling that a file format permits, from the place `at` on.
 pub fn write_alleles(row: &[Allele], major: u32, minor: u32, out: &mut [u8], at: usize) -> Write
     ensures { λ r. ⌜ WritesAlleles (now (row .entry)) major minor (now (out .entry)) at r (now (out .exit)) ⌝ }
 {
-    let tally = tally_row(row, room_from(out.len(), at));
-    let decision = decide(tally, row.len(), major, minor, out.len(), at);
-    put_row(out, at, row, decision);
-    decision.answer
+    if at > out.len() {
+        return Write::Beyond;
+    }
+    write_rest(row, major, minor, &mut out[at..])
 }

@@ -24,7 +24,7 @@ pub record Laying (n m p : List ℕ) (bare : Bool) (l₀ l : List ℕ) (at : ℕ
   pub room : at + length (listText lead (drop k (rowOf n m p))) ≤ length l₀
   pub same : overAt at (listText lead (drop k (rowOf n m p))) l ≡ over (listText bare (rowOf n m p)) l₀
 
-over-start : (vs l : List ℕ) → overAt 0 vs l ≡ over vs l
+pub over-start : (vs l : List ℕ) → overAt 0 vs l ≡ over vs l
 over-start vs l = sym (over-append [] vs l zero-le ∙ ap (overAt 0 vs) (over-nil l))
 
 pub lay-first : {n m p : List ℕ} {bare : Bool} {l : List ℕ} → Parallel n m p → length (listText bare (rowOf n m p)) ≤ length l

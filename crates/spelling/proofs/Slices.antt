@@ -1,14 +1,14 @@
 -- The reader and the writer of three slices answer and leave what those of the demands do with the list that the slices stand for, so
 -- what is proved of those holds of these. Assumes nothing.
 use Prim.Native.Nat.{ℕ, zero, suc}
-use mathlib.Core.Path.{_≡_, refl, sym, ap, _∙_}
+use mathlib.Core.Path.{_≡_, refl, ap, _∙_}
 use mathlib.Core.Bool.{Bool, true, false}
 use mathlib.Core.List.{List, [], _∷_, _++_}
 use native.Mathlib.Omega.{arith}
 use lib.ListN.{length, drop}
 use lib.Dec.{eqb}
 use Rattle.text.specs.Pick.{pick}
-use Rattle.text.specs.Answer.{Answer, numberOf}
+use Rattle.text.specs.Answer.{numberOf}
 use Rattle.text.specs.Over.{over}
 use Rattle.text.proofs.Lists.{over-is}
 use Rattle.genotype.specs.Reading.{readingOf, listOf, numbersOf, missingOf, phasedOf}

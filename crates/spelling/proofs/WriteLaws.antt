@@ -39,23 +39,23 @@ module _ {as′ : List Allele} {late : Bool} (l : List ℕ) where
   writes-by : {s : Spelled} {r : Write} {l′ : List ℕ} → spell late as′ ≡ s → Spelt s l r l′ → WritesList as′ late l r l′
   writes-by e w = record { answer = rw e (w .0); bytes = rw e (w .1) }
 
-  writes-text : {vs l′ : List ℕ} {r : ℕ} → Spells as′ late vs (length l) → r ≡ length vs → l′ ≡ over vs l → WritesList as′ late l (W.Done r) l′
+  pub writes-text : {vs l′ : List ℕ} {r : ℕ} → Spells as′ late vs (length l) → r ≡ length vs → l′ ≡ over vs l → WritesList as′ late l (W.Done r) l′
   unfolding writePaper spelledAnswer textOf
   writes-text {vs} g e b = writes-by (g .is) (rw (room-fits vs l (g .fits), e), rw (room-fits vs l (g .fits)) b)
 
-  writes-short : Overflows as′ late (length l) → WritesList as′ late l W.Short l
+  pub writes-short : Overflows as′ late (length l) → WritesList as′ late l W.Short l
   unfolding writePaper spelledAnswer textOf
   writes-short g = writes-by (g .is) (rw (room-lacks (g .vs) l (g .lacks)), rw (room-lacks (g .vs) l (g .lacks)))
 
-  writes-empty : spell late as′ ≡ empty → WritesList as′ late l W.Empty l
+  pub writes-empty : spell late as′ ≡ empty → WritesList as′ late l W.Empty l
   unfolding writePaper spelledAnswer
   writes-empty e = writes-by e (refl, refl)
 
-  writes-bad : {k : ℕ} → spell late as′ ≡ bad k → WritesList as′ late l (W.Bad k) l
+  pub writes-bad : {k : ℕ} → spell late as′ ≡ bad k → WritesList as′ late l (W.Bad k) l
   unfolding writePaper spelledAnswer
   writes-bad e = writes-by e (refl, refl)
 
-  writes-phasing : spell late as′ ≡ phasing → WritesList as′ late l W.Phasing l
+  pub writes-phasing : spell late as′ ≡ phasing → WritesList as′ late l W.Phasing l
   unfolding writePaper spelledAnswer
   writes-phasing e = writes-by e (refl, refl)
 

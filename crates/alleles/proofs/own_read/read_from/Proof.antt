@@ -140,7 +140,7 @@ module _ {M : Type 1} (𝓤 : URA M) (H : Heap 𝓤) (A : Atoms 𝓤) (W : Given
         assigns ! (addr ! (from ! (hop ! (look ! 8 refl) (stop !)))) (from ! (stop !)) (init ! 4 refl (tt, tt)) $
         assigns ! (agg ! (and-then ! (load ! (from ! (stop !)) (look ! 4 refl)) (and-then ! (load ! (from ! (stop !)) (look ! 6 refl)) (no-more !)))) (from ! (stop !)) (init ! 2 refl (tt, (tt, (record { fits = room .0 }, tt)))) $
         -- the array is cut, and its second part is lent for a lifetime ν of the call
-        move ! (16 ∷ []) $ use1 W (‵ (row R fullShare xs l₄ 0)) (array-in 𝓤 H A W 64 l₄ xs g₀) $ use1 W (‵ (row R fullShare (take k xs) l₄ 0) ⊛ ‵ (row R fullShare ds l₄ (place 16 0 k))) (row-cut 𝓤 H A W fullShare l₄ k xs 0) $ split ! $
+        move ! (16 ∷ []) $ use1 W (‵ (row R fullShare xs l₄ 0)) (array-in 𝓤 H A W 64 l₄ xs g₀) $ use1 W (‵ (row R fullShare (take k xs) l₄ 0) ⊛ ‵ (row R fullShare ds l₄ (place 16 0 k))) (row-cut 𝓤 H A W R fullShare l₄ k xs 0) $ split ! $
         move ! (1 ∷ []) $ use1 W (‵ (cells (mem R) ds l₄ (place 16 0 k))) (whole-in 𝓤 H A W R ds l₄ (place 16 0 k)) $ lft-new ! tt (λ ν. move ! (1 ∷ []) $
         use1 W (later (some (λ (δ : GName). ‵ (LentOwn ν l₄ δ) ⊛ ‵ (flent (ν ∷ []) (Held R (length ds) l₄ (place 16 0 k) δ))))) (lends-slice 𝓤 H A W R (named 1) (ν ∷ []) ds l₄ (place 16 0 k) room) $ await ! tt $ pick ! (λ δ. split ! $
         move ! (29 ∷ []) $ use1 W (‵ Own ⊛ ‵ Own) (shr-slice-copy 𝓤 H A W (named 0) κ u8 .twice x (text ∷ [])) $ split ! $ move ! (31 ∷ 4 ∷ 0 ∷ 2 ∷ []) $ group ! 4 $
@@ -155,7 +155,7 @@ module _ {M : Type 1} (𝓤 : URA M) (H : Heap 𝓤) (A : Atoms 𝓤) (W : Given
         move ! (1 ∷ []) $ split ! $ move ! (1 ∷ []) $ split ! $ lft-end ! tt $ move ! (0 ∷ 8 ∷ 4 ∷ []) $
         use3 W (later (‵ (Arr (mem R) (length ds) .lies (zs .1 .0) l₄ (place 16 0 k)))) (slice-back 𝓤 H A W R (ν ∷ []) δ (zs .1 .0) (length ds) l₄ (place 16 0 k)) $ await ! tt $ fsplit ! $ feqL ! (λ same.
         use1 W (‵ (row R fullShare (zs .1 .0) l₄ (place 16 0 k))) (whole-out 𝓤 H A W R (zs .1 .0) l₄ (place 16 0 k)) $ rewrite ! 0 (λ (m : ℕ). ‵ (row R fullShare (zs .1 .0) l₄ (place 16 0 m))) (sym (front-long xs k long within)) refl $
-        move ! (7 ∷ 0 ∷ []) $ use2 W (‵ (row R fullShare (take k xs ++ (zs .1 .0)) l₄ 0)) (row-join 𝓤 H A W fullShare l₄ (take k xs) (zs .1 .0) 0) $
+        move ! (7 ∷ 0 ∷ []) $ use2 W (‵ (row R fullShare (take k xs ++ (zs .1 .0)) l₄ 0)) (row-join 𝓤 H A W R fullShare l₄ (take k xs) (zs .1 .0) 0) $
         array-out ! 64 l₄ (take k xs ++ (zs .1 .0)) (whole-long xs k long within (zs .1 .0) same) (λ g.
         keep ! (2 ∷ 6 ∷ 7 ∷ 8 ∷ 9 ∷ 10 ∷ 11 ∷ 12 ∷ 13 ∷ 14 ∷ 15 ∷ 16 ∷ 17 ∷ 18 ∷ 19 ∷ 20 ∷ 21 ∷ 22 ∷ 0 ∷ 23 ∷ 24 ∷ 25 ∷ 26 ∷ 27 ∷ 28 ∷ 29 ∷ 30 ∷ 31 ∷ []) $
         -- [the token; what the text owns; _12; …; _0; …]

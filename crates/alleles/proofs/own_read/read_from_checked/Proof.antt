@@ -146,7 +146,7 @@ module _ {M : Type 1} (𝓤 : URA M) (H : Heap 𝓤) (A : Atoms 𝓤) (W : Given
         assigns ! (addr ! (from ! (hop ! (look ! 8 refl) (stop !)))) (from ! (stop !)) (init ! 4 refl (tt, tt)) $
         assigns ! (agg ! (and-then ! (load ! (from ! (stop !)) (look ! 4 refl)) (and-then ! (load ! (from ! (stop !)) (look ! 6 refl)) (no-more !)))) (from ! (stop !)) (init ! 2 refl (tt, (tt, (record { fits = room .0 }, tt)))) $
         -- the array is cut, and its second part is lent for a lifetime ν of the call
-        move ! (16 ∷ []) $ use1 W (‵ (row R fullShare xs l₅ 0)) (array-in 𝓤 H A W 64 l₅ xs g₀) $ use1 W (‵ (row R fullShare (take k xs) l₅ 0) ⊛ ‵ (row R fullShare ds l₅ (place 16 0 k))) (row-cut 𝓤 H A W fullShare l₅ k xs 0) $ split ! $
+        move ! (16 ∷ []) $ use1 W (‵ (row R fullShare xs l₅ 0)) (array-in 𝓤 H A W 64 l₅ xs g₀) $ use1 W (‵ (row R fullShare (take k xs) l₅ 0) ⊛ ‵ (row R fullShare ds l₅ (place 16 0 k))) (row-cut 𝓤 H A W R fullShare l₅ k xs 0) $ split ! $
         move ! (1 ∷ []) $ use1 W (‵ (cells (mem R) ds l₅ (place 16 0 k))) (whole-in 𝓤 H A W R ds l₅ (place 16 0 k)) $ lft-new ! tt (λ ν. move ! (1 ∷ []) $
         use1 W (later (some (λ (δ : GName). ‵ (LentOwn ν l₅ δ) ⊛ ‵ (flent (ν ∷ []) (Held R (length ds) l₅ (place 16 0 k) δ))))) (lends-slice 𝓤 H A W R (named 2) (ν ∷ []) ds l₅ (place 16 0 k) room) $ await ! tt $ pick ! (λ δ. split ! $
         move ! (31 ∷ []) $ use1 W (‵ Own ⊛ ‵ Own) (shr-slice-copy 𝓤 H A W (named 0) κ u8 .twice x (text ∷ [])) $ split ! $ move ! (33 ∷ []) $ use1 W (‵ Alt ⊛ ‵ Alt) (shr-slice-copy 𝓤 H A W (named 1) κ₁ u8 .twice y (alt ∷ [])) $ split ! $ move ! (35 ∷ 36 ∷ 6 ∷ 2 ∷ 0 ∷ 4 ∷ []) $ group ! 6 $
@@ -161,7 +161,7 @@ module _ {M : Type 1} (𝓤 : URA M) (H : Heap 𝓤) (A : Atoms 𝓤) (W : Given
         move ! (1 ∷ []) $ split ! $ move ! (1 ∷ []) $ split ! $ move ! (1 ∷ []) $ split ! $ lft-end ! tt $ move ! (0 ∷ 11 ∷ 5 ∷ []) $
         use3 W (later (‵ (Arr (mem R) (length ds) .lies (zs .1 .1 .0) l₅ (place 16 0 k)))) (slice-back 𝓤 H A W R (ν ∷ []) δ (zs .1 .1 .0) (length ds) l₅ (place 16 0 k)) $ await ! tt $ fsplit ! $ feqL ! (λ same.
         use1 W (‵ (row R fullShare (zs .1 .1 .0) l₅ (place 16 0 k))) (whole-out 𝓤 H A W R (zs .1 .1 .0) l₅ (place 16 0 k)) $ rewrite ! 0 (λ (m : ℕ). ‵ (row R fullShare (zs .1 .1 .0) l₅ (place 16 0 m))) (sym (front-long xs k long within)) refl $
-        move ! (10 ∷ 0 ∷ []) $ use2 W (‵ (row R fullShare (take k xs ++ (zs .1 .1 .0)) l₅ 0)) (row-join 𝓤 H A W fullShare l₅ (take k xs) (zs .1 .1 .0) 0) $
+        move ! (10 ∷ 0 ∷ []) $ use2 W (‵ (row R fullShare (take k xs ++ (zs .1 .1 .0)) l₅ 0)) (row-join 𝓤 H A W R fullShare l₅ (take k xs) (zs .1 .1 .0) 0) $
         array-out ! 64 l₅ (take k xs ++ (zs .1 .1 .0)) (whole-long xs k long within (zs .1 .1 .0) same) (λ g.
         keep ! (3 ∷ 2 ∷ 9 ∷ 8 ∷ 10 ∷ 11 ∷ 12 ∷ 13 ∷ 14 ∷ 15 ∷ 16 ∷ 17 ∷ 18 ∷ 19 ∷ 20 ∷ 21 ∷ 22 ∷ 23 ∷ 24 ∷ 25 ∷ 0 ∷ 26 ∷ 27 ∷ 28 ∷ 29 ∷ 30 ∷ 31 ∷ 32 ∷ 33 ∷ 34 ∷ 35 ∷ 36 ∷ []) $
         -- [the tokens; what the texts own; _13; …; _0; …]

@@ -173,7 +173,7 @@ module _ {M : Type 1} (𝓤 : URA M) (H : Heap 𝓤) (A : Atoms 𝓤) (W : Given
         assigns ! (addr ! (from ! (fld ! refl (hop ! (look-in ! 20 (sub ! 0 refl (whole !))) (stop !))))) (from ! (stop !)) (init ! 2 refl (tt, tt)) $
         assigns ! (agg ! (and-then ! (load ! (from ! (stop !)) (look ! 2 refl)) (and-then ! (load ! (from ! (fld ! refl (stop !))) (look-in ! 20 (sub ! 1 refl (whole !)))) (no-more !)))) (from ! (stop !)) (init ! 0 refl (tt, (tt, (record { fits = room .0 }, tt)))) $
         -- the row is cut, and its rest is lent for a lifetime ν of the call
-        move ! (16 ∷ []) $ use1 W (‵ (row R fullShare ys l₇ 0)) (array-in 𝓤 H A W 64 l₇ ys is) $ use1 W (‵ (row R fullShare (take k ys) l₇ 0) ⊛ ‵ (row R fullShare ds l₇ (place 16 0 k))) (row-cut 𝓤 H A W fullShare l₇ k ys 0) $ split ! $
+        move ! (16 ∷ []) $ use1 W (‵ (row R fullShare ys l₇ 0)) (array-in 𝓤 H A W 64 l₇ ys is) $ use1 W (‵ (row R fullShare (take k ys) l₇ 0) ⊛ ‵ (row R fullShare ds l₇ (place 16 0 k))) (row-cut 𝓤 H A W R fullShare l₇ k ys 0) $ split ! $
         lft-new ! tt (λ ν. move ! (2 ∷ []) $ feqI ! ℕ (length ds) (length ds) refl $ fjoin ! $
         use1 W (later (some (λ (γ : GName). ‵ (LentOwn ν l₇ γ) ⊛ ‵ (flent (ν ∷ []) (arr-parts (shares R) (length ds) .part fullShare ds l₇ (place 16 0 k)))))) (lends-shr-slice 𝓤 H A W R (named 0) (ν ∷ []) fullShare ds l₇ (place 16 0 k) room′) $ await ! tt $ pick ! (λ γ. split ! $
         -- [what the rest owns; the lender's part; ν's token; the front; _15; …; _8; …; that _7 dies; _6; …; _0; …; what the output owns; the token]
@@ -188,7 +188,7 @@ module _ {M : Type 1} (𝓤 : URA M) (H : Heap 𝓤) (A : Atoms 𝓤) (W : Given
         -- the lifetime is ended, the row is joined, and is room again
         move ! (1 ∷ []) $ split ! $ move ! (1 ∷ []) $ split ! $ move ! (2 ∷ []) $ lft-end ! tt $ move ! (0 ∷ 9 ∷ []) $ lent-back ! tt $ fsplit ! $ drop ! $
         rewrite ! 0 (λ (m : ℕ). ‵ (row R fullShare ds l₇ (place 16 0 m))) (sym (front k ys (subst (λ (m : ℕ). k ≤ m) (sym long) within))) refl $
-        move ! (9 ∷ 0 ∷ []) $ use2 W (‵ (row R fullShare (take k ys ++ ds) l₇ 0)) (row-join 𝓤 H A W fullShare l₇ (take k ys) ds 0) $
+        move ! (9 ∷ 0 ∷ []) $ use2 W (‵ (row R fullShare (take k ys ++ ds) l₇ 0)) (row-join 𝓤 H A W R fullShare l₇ (take k ys) ds 0) $
         use1 W (‵ (froom (tyArray T′.mir 64) l₇ 0)) (array-room 𝓤 H A W 64 l₇ (take k ys ++ ds) (ap length (take-append-drop k ys) ∙ long)) $
         keep ! (3 ∷ 1 ∷ 4 ∷ 9 ∷ 10 ∷ 11 ∷ 12 ∷ 13 ∷ 14 ∷ 15 ∷ 16 ∷ 17 ∷ 18 ∷ 19 ∷ 20 ∷ 21 ∷ 22 ∷ 23 ∷ 24 ∷ 0 ∷ 25 ∷ 26 ∷ 27 ∷ 28 ∷ 29 ∷ 30 ∷ 31 ∷ 32 ∷ 33 ∷ 34 ∷ 35 ∷ 36 ∷ 37 ∷ 38 ∷ 39 ∷ []) $
         -- [what the result owns; the token; the last list; _15; …; _0; …]

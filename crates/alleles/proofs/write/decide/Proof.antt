@@ -4,17 +4,8 @@ use borrow.Author.Needs.{needs}
 use Rattle.alleles.proofs.write.decide.Statement.{statement}
 use Rattle.alleles.proofs.write.decide.Tie as tie
 
-refuse-requires : tie.Need-refuse-requires
-refuse-requires c κs = search (needs, laws)
-
-returns : tie.Need-returns
-returns c = search (needs, laws)
-
-room-from-requires : tie.Need-room-from-requires
-room-from-requires c κs = search (needs, laws)
-
-room-from-requires-2 : tie.Need-room-from-requires-2
-room-from-requires-2 c κs = search (needs, laws)
+spent-requires : tie.Need-spent-requires
+spent-requires c κs = search (needs, laws)
 
 plan-for-requires : tie.Need-plan-for-requires
 plan-for-requires c κs = search (needs, laws)
@@ -25,32 +16,35 @@ enum-told c = search (needs, laws)
 enum-told-2 : tie.Need-enum-told-2
 enum-told-2 c = search (needs, laws)
 
-add-t15 : tie.Need-add-t15
-add-t15 c = search (needs, laws)
+add-t11 : tie.Need-add-t11
+add-t11 c = search (needs, laws)
 
 enum-told-3 : tie.Need-enum-told-3
 enum-told-3 c = search (needs, laws)
 
-refuse-requires-2 : tie.Need-refuse-requires-2
-refuse-requires-2 c κs = search (needs, laws)
+refuse-requires : tie.Need-refuse-requires
+refuse-requires c κs = search (needs, laws)
 
 enum-known-k : tie.Need-enum-known-k
 enum-known-k c = search (needs, laws)
 
-refuse-requires-3 : tie.Need-refuse-requires-3
-refuse-requires-3 c κs = search (needs, laws)
+refuse-requires-2 : tie.Need-refuse-requires-2
+refuse-requires-2 c κs = search (needs, laws)
 
 enum-told-4 : tie.Need-enum-told-4
 enum-told-4 c = search (needs, laws)
 
-refuse-requires-4 : tie.Need-refuse-requires-4
-refuse-requires-4 c κs = search (needs, laws)
+refuse-requires-3 : tie.Need-refuse-requires-3
+refuse-requires-3 c κs = search (needs, laws)
 
 enum-told-5 : tie.Need-enum-told-5
 enum-told-5 c = search (needs, laws)
 
-refuse-requires-5 : tie.Need-refuse-requires-5
-refuse-requires-5 c κs = search (needs, laws)
+refuse-requires-4 : tie.Need-refuse-requires-4
+refuse-requires-4 c κs = search (needs, laws)
+
+returns : tie.Need-returns
+returns c = search (needs, laws)
 
 returns-2 : tie.Need-returns-2
 returns-2 c = search (needs, laws)
@@ -67,32 +61,26 @@ returns-5 c = search (needs, laws)
 returns-6 : tie.Need-returns-6
 returns-6 c = search (needs, laws)
 
-returns-7 : tie.Need-returns-7
-returns-7 c = search (needs, laws)
-
 pub decide-spec : {M : Type 1} → statement M
 decide-spec =
     tie.close
     (tie.spec
-    refuse-requires
-    returns
-    room-from-requires
-    room-from-requires-2
+    spent-requires
     plan-for-requires
     enum-told
     enum-told-2
-    add-t15
+    add-t11
     enum-told-3
-    refuse-requires-2
+    refuse-requires
     enum-known-k
-    refuse-requires-3
+    refuse-requires-2
     enum-told-4
-    refuse-requires-4
+    refuse-requires-3
     enum-told-5
-    refuse-requires-5
+    refuse-requires-4
+    returns
     returns-2
     returns-3
     returns-4
     returns-5
-    returns-6
-    returns-7)
+    returns-6)

@@ -1,9 +1,9 @@
 -- `alleles::write::put_row` meets its contract: a walk of its MIR, by hand, with a loop whose turn reads one record and lends the output on to `put_one`, which is covered.
--- The row is looked into once, before the loop, and shut after it. The output is lent again in each turn, for a lifetime that is made for the call, and comes back at the list that `put_one` left (`Again.antt`).
+-- The row is looked into once, before the loop, and shut after it. The output is lent again in each turn, for a lifetime that is made for the call, and comes back at the list that `put_one` left (`Rest.antt`, from 0 on).
 -- The loop's variant is a state `St`, which carries the facts of the invariant, ordered by what is left of the row (`Putting.antt`).
 -- Assumes nothing.
 use mathlib.Core.Path.{_≡_, refl, sym, ap, subst}
-use Prim.Native.Nat.{ℕ, _<_, _^_, _+_}
+use Prim.Native.Nat.{ℕ, _<_, _^_, _+_, zero-le}
 use native.Mathlib.Nat.{lt-of-le-of-lt}
 use native.Mathlib.Numerals.{add-one-le, add-one-dec}
 use mathlib.Core.List.{[], _∷_, List}
@@ -30,7 +30,7 @@ use sound.WpLaws.{FmC, fmOf, WpFn-mono}
 use denote.RattleType.{RattleType, owns}
 use denote.Laws.{Is, shows}
 use denote.Memory.{pointee, shares}
-use denote.Plain.{uint-makes, uint-lawful, uint-vals, uint-tells}
+use denote.Plain.{uint-makes, uint-lawful}
 use denote.Builtin.{u8, usize}
 use denote.Ref.{RefT}
 use denote.Slice.{sliceTy, sliceVal, MutSlice, ShrSlice, Room, slice-vals, mut-slice-tells, shr-slice-tells}
@@ -52,7 +52,7 @@ use Rattle.genotype.proofs.allele.Allele as T
 use Rattle.genotype.proofs.allele.Allele.Laws as T′
 use Rattle.alleles.specs.Put.{putAll}
 use Rattle.alleles.specs.declared.write.Decision.{Decision}
-use Rattle.alleles.proofs.Again.{LentAgain, lends-again, comes-back}
+use Rattle.alleles.proofs.Rest.{LentRest, lends-rest, rest-back}
 use Rattle.alleles.proofs.Row.{R, IsR, blank, tail, typed, made, takes, puts-back}
 use Rattle.alleles.proofs.Putting.{Ensures, St, start, further, over, Nearer, Nearer-wf}
 use Rattle.alleles.proofs.write.Decision as D
@@ -76,10 +76,7 @@ IsDecision d = Is Decisions d (D′.lowered d ∷ [])
 abbrev stayed : Stays (put.ended .signature .params) (put.ended .kept)
 stayed = (
   stay-slice (0 ∷ []) tt (plain (λ _. u8)),
-  (
-    stay-dropped (plain (λ _. usize)) yes,
-    (stay-dropped (shrSliceOf (1 ∷ []) tt (plain (λ _. R))) yes, (stay-dropped (plain (λ _. Decisions)) yes, tt)),
-  ),
+  (stay-dropped (shrSliceOf (1 ∷ []) tt (plain (λ _. R))) yes, (stay-dropped (plain (λ _. Decisions)) yes, tt)),
 )
 
 abbrev word : Ty
@@ -99,8 +96,8 @@ abbrev PutOne : {M : Type 1} (𝓤 : URA M) (H : Heap 𝓤) (A : Atoms 𝓤) (me
 PutOne 𝓤 H A mem run = tripleOf 𝓤 H A one.signature (one.spec 𝓤 H A mem run)
 
 module _ {M : Type 1} (𝓤 : URA M) (H : Heap 𝓤) (A : Atoms 𝓤) (W : Given 𝓤 H A) (mem : Memory → SProp 𝓤) (run : Routine → Fun 𝓤)
-    (κ κ₁ : Lft) (q q₁ : Share) (b o b₁ o₁ : ℕ) (γ γ₁ : GName) (os : List ℕ) (f : ℕ) (ys : List Allele) (d : Decision)
-    (room₀ : Room u8 (length os)) (f-fits : f < 2 ^ 64) (room : Room R (length ys)) (d-is : IsDecision d) where
+    (κ κ₁ : Lft) (q q₁ : Share) (b o b₁ o₁ : ℕ) (γ γ₁ : GName) (os : List ℕ) (ys : List Allele) (d : Decision)
+    (room₀ : Room u8 (length os)) (room : Room R (length ys)) (d-is : IsDecision d) where
   abbrev n : ℕ
   n = length ys
 
@@ -115,13 +112,13 @@ module _ {M : Type 1} (𝓤 : URA M) (H : Heap 𝓤) (A : Atoms 𝓤) (W : Given
   x₁ = record { ptr = (b₁, o₁); name = γ₁; now = ys }
 
   abbrev Arg : Type 0
-  Arg = RefT (List ℕ) × (ℕ × (RefT (List Allele) × (Decision × Unit {0})))
+  Arg = RefT (List ℕ) × (RefT (List Allele) × (Decision × Unit {0}))
 
   abbrev args : Arg
-  args = (x γ os, (f, (x₁, (d, tt))))
+  args = (x γ os, (x₁, (d, tt)))
 
   abbrev at : Vals put.signature (κ, (κ₁, tt))
-  at = (out ∷ [], (vint w64 f ∷ [], (sliceVal (b₁, o₁) n ∷ [], (D′.lowered d ∷ [], tt))))
+  at = (out ∷ [], (sliceVal (b₁, o₁) n ∷ [], (D′.lowered d ∷ [], tt)))
 
   abbrev bound : walkOf 𝓤 H A put.ended stayed (put.clauses 𝓤 H A mem run) .Ghost
   bound = (((κ, (κ₁, tt)), (q, (q₁, tt)), tt, args, at), tt)
@@ -136,13 +133,13 @@ module _ {M : Type 1} (𝓤 : URA M) (H : Heap 𝓤) (A : Atoms 𝓤) (W : Given
   decision-typed : Holds (hasTy D′.mir (D′.lowered d)) × WT (D′.lowered d)
   decision-typed = LL.lawful D.the-type D′.the-laws 𝓤 H A W .typed d _ d-is .0
 
-  exits : (l : List ℕ) → length l ≡ length os → (r : ℕ) → r < 2 ^ 64 → (r ≡ putAll ys d os f .next) × (l ≡ putAll ys d os f .out)
+  exits : (l : List ℕ) → length l ≡ length os → (r : ℕ) → r < 2 ^ 64 → (r ≡ putAll ys d os .next) × (l ≡ putAll ys d os .out)
       → ent 𝓤 (⋆ 𝓤 H A (‵ (flft κ₁ q₁) ∷ ‵ (OutAt κ γ l (length os)) ∷ ‵ (flft κ q) ∷ [])) (Post (vint w64 r))
   exits l long r fits says-it =
       qed W (‵ (flft κ₁ q₁) ∷ ‵ (OutAt κ γ l (length os)) ∷ ‵ (flft κ q) ∷ []) ∵
-      suffices ! _ (ends-at 𝓤 H A put.ended stayed (put.clauses 𝓤 H A mem run) W bound (vint w64 r) r (l, (tt, (tt, (tt, tt)))) (long, (tt, (tt, (tt, tt))))) $ says ! says-it $
+      suffices ! _ (ends-at 𝓤 H A put.ended stayed (put.clauses 𝓤 H A mem run) W bound (vint w64 r) r (l, (tt, (tt, tt))) (long, (tt, (tt, tt)))) $ says ! says-it $
       nothing ! $ move ! (1 ∷ 0 ∷ []) $ join ! $ move ! (2 ∷ 0 ∷ []) $ join ! $ frame ! $
-      nothing ! $ nothing ! $ fjoin ! $ nothing ! $ fjoin ! $ nothing ! $ fjoin ! $ move ! (1 ∷ 0 ∷ []) $ fjoin ! $
+      nothing ! $ nothing ! $ fjoin ! $ nothing ! $ fjoin ! $ move ! (1 ∷ 0 ∷ []) $ fjoin ! $
       owned ! usize (Is usize) (uint-makes 𝓤 H A W w64) r _ (refl, fits) $ move ! (1 ∷ 0 ∷ []) $ done !
 
   -- ---- the call of `put_one` at the place p, with the list l and record i, for the lifetime ν
@@ -156,7 +153,7 @@ module _ {M : Type 1} (𝓤 : URA M) (H : Heap 𝓤) (A : Atoms 𝓤) (W : Given
         nothing ! $ owned ! usize (Is usize) (uint-makes 𝓤 H A W w64) i _ (refl, gi) $ fjoin ! $ owned ! Decisions (Is Decisions) (LL.makes D.the-type D′.the-plain 𝓤 H A) d _ d-is $ fjoin ! $ made ! a ga $ fjoin ! $
         owned ! usize (Is usize) (uint-makes 𝓤 H A W w64) p _ (refl, gp) $ fjoin ! $ move ! (1 ∷ 0 ∷ []) $ fjoin ! $ move ! (1 ∷ 0 ∷ []) $ join ! $ frame ! $ done !
 
-  module _ (𝓣 : Tables 𝓤 H) (fm : FmC 𝓤 H (W .laws) (𝓣 .C)) (known : Triple 𝓤 (𝓣 .C #alleles·write·put-one) (PutOne 𝓤 H A mem run)) (l₀ l₁ l₂ l₃ l₄ l₅ l₆ l₇ l₈ l₉ l₁₀ l₁₁ l₁₂ : ℕ) where
+  module _ (𝓣 : Tables 𝓤 H) (fm : FmC 𝓤 H (W .laws) (𝓣 .C)) (known : Triple 𝓤 (𝓣 .C #alleles·write·put-one) (PutOne 𝓤 H A mem run)) (l₀ l₁ l₂ l₃ l₄ l₅ l₆ l₇ l₈ l₉ l₁₀ l₁₁ : ℕ) where
     abbrev C : Calls 𝓤 H
     C = 𝓣 .C
 
@@ -164,62 +161,62 @@ module _ {M : Type 1} (𝓤 : URA M) (H : Heap 𝓤) (A : Atoms 𝓤) (W : Given
     Λ = 𝓣 .Λ
 
     abbrev En : Env 𝓤 H
-    En = (word, l₀) ∷ (outTy, l₁) ∷ (word, l₂) ∷ (rowTy, l₃) ∷ (D′.mir, l₄) ∷ (word, l₅) ∷ (word, l₆) ∷ (word, l₇) ∷ (tyBool, l₈) ∷ ((tyRef erased mut (tyInt w8)), l₉) ∷ (lentTy, l₁₀) ∷ (tyPtr, l₁₁) ∷ (T′.mir, l₁₂) ∷ []
+    En = (word, l₀) ∷ (outTy, l₁) ∷ (rowTy, l₂) ∷ (D′.mir, l₃) ∷ (word, l₄) ∷ (word, l₅) ∷ (word, l₆) ∷ (tyBool, l₇) ∷ ((tyRef erased mut (tyInt w8)), l₈) ∷ (lentTy, l₉) ∷ (tyPtr, l₁₀) ∷ (T′.mir, l₁₁) ∷ []
 
-    -- the invariant: the row, what the output owns, its token, then local k at 3 + 2 · (12 - k), then the row's open borrow
-    abbrev At : Share → St ys d os f → List (Item 𝓤)
+    -- the invariant: the row, what the output owns, its token, then local k at 3 + 2 · (11 - k), then the row's open borrow
+    abbrev At : Share → St ys d os → List (Item 𝓤)
     At q′ s = ‵ (row R q′ ys b₁ o₁) ∷ ‵ (OutAt κ γ (s .l) (length os)) ∷ ‵ (flft κ q)
-        ∷ ‵ (froom T′.mir l₁₂ 0) ∷ ‵ (fdies T′.mir l₁₂) ∷ ‵ (froom tyPtr l₁₁ 0) ∷ ‵ (fdies tyPtr l₁₁) ∷ ‵ (froom lentTy l₁₀ 0) ∷ ‵ (fdies lentTy l₁₀) ∷ ‵ (froom (tyRef erased mut (tyInt w8)) l₉ 0) ∷ ‵ (fdies (tyRef erased mut (tyInt w8)) l₉)
-        ∷ ‵ (froom tyBool l₈ 0) ∷ ‵ (fdies tyBool l₈) ∷ ‵ (froom word l₇ 0) ∷ ‵ (fdies word l₇) ∷ ‵ (fat fullShare word l₆ 0 (vint w64 (s .i))) ∷ ‵ (fdies word l₆) ∷ ‵ (fat fullShare word l₅ 0 (vint w64 (s .at))) ∷ ‵ (fdies word l₅) ∷ ‵ (fat fullShare D′.mir l₄ 0 (D′.lowered d)) ∷ ‵ (fdies D′.mir l₄)
-        ∷ ‵ (fat fullShare rowTy l₃ 0 (sliceVal (b₁, o₁) n)) ∷ ‵ (fdies rowTy l₃) ∷ ‵ (fat fullShare word l₂ 0 (vint w64 f)) ∷ ‵ (fdies word l₂) ∷ ‵ (fat fullShare outTy l₁ 0 out) ∷ ‵ (fdies outTy l₁) ∷ ‵ (froom word l₀ 0) ∷ ‵ (fdies word l₀)
+        ∷ ‵ (froom T′.mir l₁₁ 0) ∷ ‵ (fdies T′.mir l₁₁) ∷ ‵ (froom tyPtr l₁₀ 0) ∷ ‵ (fdies tyPtr l₁₀) ∷ ‵ (froom lentTy l₉ 0) ∷ ‵ (fdies lentTy l₉) ∷ ‵ (froom (tyRef erased mut (tyInt w8)) l₈ 0) ∷ ‵ (fdies (tyRef erased mut (tyInt w8)) l₈)
+        ∷ ‵ (froom tyBool l₇ 0) ∷ ‵ (fdies tyBool l₇) ∷ ‵ (froom word l₆ 0) ∷ ‵ (fdies word l₆) ∷ ‵ (fat fullShare word l₅ 0 (vint w64 (s .i))) ∷ ‵ (fdies word l₅) ∷ ‵ (fat fullShare word l₄ 0 (vint w64 (s .at))) ∷ ‵ (fdies word l₄) ∷ ‵ (fat fullShare D′.mir l₃ 0 (D′.lowered d)) ∷ ‵ (fdies D′.mir l₃)
+        ∷ ‵ (fat fullShare rowTy l₂ 0 (sliceVal (b₁, o₁) n)) ∷ ‵ (fdies rowTy l₂) ∷ ‵ (fat fullShare outTy l₁ 0 out) ∷ ‵ (fdies outTy l₁) ∷ ‵ (froom word l₀ 0) ∷ ‵ (fdies word l₀)
         ∷ ‵ (fobor κ₁ q₁ (arr-parts (shares R) n .part q′ ys b₁ o₁)) ∷ []
 
-    abbrev Turned : Share → St ys d os f → Out → SProp 𝓤
-    Turned q′ s = afterTurn 𝓤 H (Below 𝓤 H A (Nearer ys d os f) (At q′) s) (afterBlock 𝓤 H (afterSeq 𝓤 H (Wp 𝓤 H C Λ En code-mir.t-4 (atReturn 𝓤 H En Post)) (atReturn 𝓤 H En Post)))
+    abbrev Turned : Share → St ys d os → Out → SProp 𝓤
+    Turned q′ s = afterTurn 𝓤 H (Below 𝓤 H A (Nearer ys d os) (At q′) s) (afterBlock 𝓤 H (afterSeq 𝓤 H (Wp 𝓤 H C Λ En code-mir.t-4 (atReturn 𝓤 H En Post)) (atReturn 𝓤 H En Post)))
 
-    turns : (q′ : Share) (s : St ys d os f) → Sq W (At q′ s) (runs C Λ En code-mir.turn-1 (anyQ (Turned q′ s)))
+    turns : (q′ : Share) (s : St ys d os) → Sq W (At q′ s) (runs C Λ En code-mir.turn-1 (anyQ (Turned q′ s)))
     unfolding afterTurn further
     turns q′ s =
         assigns ! (of-opd ! (load ! (from ! (fld ! refl (stop !))) (look-in ! 21 (sub ! 1 refl (whole !))))) (from ! (stop !)) (init ! 13 refl (tt, record { fits = room .0 })) $
         assigns ! (bin ! (load ! (from ! (stop !)) (look ! 15 refl)) (load ! (from ! (stop !)) (look ! 13 refl)) tt) (from ! (stop !)) (init ! 11 refl (tt, tt)) $
         first ! $ branches ! (load ! (from ! (stop !)) (look ! 11 refl))
         (λ less. skips ! $ exec ! C Λ En (tail (tail (tail code-mir.turn-1))) (anyQ (Turned q′ s)) $
-        assigns ! (addr ! (from ! (fld ! refl (hop ! (look-in ! 25 (sub ! 0 refl (whole !))) (stop !))))) (from ! (stop !)) (init ! 9 refl (tt, tt)) $
-        assigns ! (agg ! (and-then ! (load ! (from ! (stop !)) (look ! 9 refl)) (and-then ! (load ! (from ! (fld ! refl (stop !))) (look-in ! 25 (sub ! 1 refl (whole !)))) (no-more !)))) (from ! (stop !)) (init ! 7 refl (tt, (tt, (record { fits = room₀ .0 }, tt)))) $
+        assigns ! (addr ! (from ! (fld ! refl (hop ! (look-in ! 23 (sub ! 0 refl (whole !))) (stop !))))) (from ! (stop !)) (init ! 9 refl (tt, tt)) $
+        assigns ! (agg ! (and-then ! (load ! (from ! (stop !)) (look ! 9 refl)) (and-then ! (load ! (from ! (fld ! refl (stop !))) (look-in ! 23 (sub ! 1 refl (whole !)))) (no-more !)))) (from ! (stop !)) (init ! 7 refl (tt, (tt, (record { fits = room₀ .0 }, tt)))) $
         -- the record is read
         assigns ! (bin ! (load ! (from ! (stop !)) (look ! 15 refl)) (lit ! tt) (scaled-fits (s .i) n 16 (in-row less) (room .1))) (from ! (stop !)) (store ! 13 refl (tt, scaled-fits (s .i) n 16 (in-row less) (room .1))) $
         assigns ! (bin ! (load ! (from ! (fld ! refl (stop !))) (look-in ! 21 (sub ! 0 refl (whole !)))) (load ! (from ! (stop !)) (look ! 13 refl)) tt) (from ! (stop !)) (init ! 5 refl (tt, tt)) $
-        rewrite ! 5 (λ (p : ℕ). ‵ (fat fullShare tyPtr l₁₁ 0 (vptr b₁ p))) (sym (place-is 16 o₁ (s .i))) refl $
+        rewrite ! 5 (λ (p : ℕ). ‵ (fat fullShare tyPtr l₁₀ 0 (vptr b₁ p))) (sym (place-is 16 o₁ (s .i))) refl $
         takes ! q′ ys (s .i) b₁ o₁ (in-row less) (λ g.
         assigns ! (of-opd ! (load ! (from ! (hop ! (look ! 6 refl) (stop !))) (look-raw ! 0 refl))) (from ! (stop !)) (init ! 4 refl (typed 𝓤 H A W elem g)) $
         puts-back ! q′ ys (s .i) b₁ o₁ (in-row less) g $
         -- the output is lent again, for a lifetime ν of the call
         rewrite ! 1 (λ (m : ℕ). ‵ (OutAt κ γ (s .l) m)) (sym (s .long)) refl $ lft-new ! tt (λ ν. move ! (2 ∷ 3 ∷ []) $
-        use2 W (later (some (λ (δ : GName). ‵ (OutAt (ν ∷ []) δ (s .l) (length (s .l))) ⊛ ‵ (LentAgain u8 κ (ν ∷ []) q γ b o δ (s .l))))) (lends-again u8 κ (ν ∷ []) q γ b o 𝓤 H A W (named 0) (named 0) (s .l)) $ await ! tt $ pick ! (λ δ. split ! $
+        use2 W (later (some (λ (δ : GName). ‵ (OutAt (ν ∷ []) δ (s .l) (length (s .l))) ⊛ ‵ (LentRest u8 κ (ν ∷ []) q γ b o (s .l) 0 δ)))) (lends-rest u8 κ (ν ∷ []) q γ b o (s .l) 0 𝓤 H A W (named 0) (named 0)) $ await ! tt $ pick ! (λ δ. split ! $
         rewrite ! 0 (λ (m : ℕ). ‵ (OutAt (ν ∷ []) δ (s .l) m)) (s .long) refl $ move ! (2 ∷ 0 ∷ []) $ use2 W (raw (PutOne 𝓤 H A mem run .pre (to-one ν δ (s .l) (s .at) elem (s .i)))) (goes ν δ (s .l) (s .at) elem (s .i) (s .at-fits) g i-fits) $
-        -- [what `put_one` asks; what is kept; the row; _12; …; _0; …]
+        -- [what `put_one` asks; what is kept; the row; _11; …; _0; …]
         calls-at ! fm (PutOne 𝓤 H A mem run) known (to-one ν δ (s .l) (s .at) elem (s .i)) (and-then ! (load ! (from ! (stop !)) (look ! 7 refl)) (and-then ! (load ! (from ! (stop !)) (look ! 17 refl)) (and-then ! (load ! (from ! (stop !)) (look ! 3 refl)) (and-then ! (load ! (from ! (stop !)) (look ! 19 refl)) (and-then ! (load ! (from ! (stop !)) (look ! 15 refl)) (no-more !)))))) (λ w.
         use1 W (later (some (λ (r : ℕ). ((‵ (flft (ν ∷ []) fullShare) ⊛ ‵ ftrue) ⊛ ‵ (usize .own r (w ∷ []))) ⊛ raw (ensured 𝓤 H A one.ended (one.clauses 𝓤 H A mem run) (ν ∷ [], tt) (x δ (s .l), (s .at, (elem, (d, (s .i, tt))))) tt r)))) (id⊢ 𝓤 _) $ await ! tt $ pick ! (λ r.
         split ! $ move ! (1 ∷ []) $ use1 W (some (λ (zs : List ℕ × (Unit {0} × (Unit {0} × (Unit {0} × (Unit {0} × Unit {0}))))). ‵ (lasts one.ended (ν ∷ [], tt) (x δ (s .l), (s .at, (elem, (d, (s .i, tt))))) zs) ⊛ raw (fact 𝓤 (Ensures r (s .l) (zs .0) (s .at) elem d (s .i))))) (id⊢ 𝓤 _) $ pick ! (λ zs.
         split ! $ move ! (1 ∷ []) $ heard ! (Ensures r (s .l) (zs .0) (s .at) elem d (s .i)) (λ e. fsplit ! $ fsplit ! $ move ! (1 ∷ []) $ feqL ! (λ len.
         move ! (2 ∷ []) $ split ! $ move ! (1 ∷ []) $ peeks ! usize (Is usize) (shows 𝓤 H A usize) r (w ∷ []) (λ is.
-        -- [what the result owns; the token of ν; the last list; true; what is kept; the row; _12; …; _0; …]
-        land ! (from ! (stop !)) (store ! 20 refl (uint-lawful 𝓤 H A W w64 .typed r _ is .0)) $ rewrite ! 20 (λ (u : Val). ‵ (fat fullShare word l₅ 0 u)) (ap only (is .0)) refl $
+        -- [what the result owns; the token of ν; the last list; true; what is kept; the row; _11; …; _0; …]
+        land ! (from ! (stop !)) (store ! 20 refl (uint-lawful 𝓤 H A W w64 .typed r _ is .0)) $ rewrite ! 20 (λ (u : Val). ‵ (fat fullShare word l₄ 0 u)) (ap only (is .0)) refl $
         -- the lifetime is ended, and the output comes back
         move ! (1 ∷ []) $ split ! $ lft-end ! tt $ move ! (0 ∷ 5 ∷ 3 ∷ []) $
-        use3 W (later (‵ (OutAt κ γ (zs .0) (length (s .l))) ⊛ ‵ (flft κ q))) (comes-back u8 κ (ν ∷ []) q γ b o 𝓤 H A W (named 0) (named 0) (s .l) δ (zs .0) (subst (Room u8) (sym (s .long)) room₀) len) $ await ! tt $ split ! $
-        keep ! (5 ∷ 0 ∷ 1 ∷ 6 ∷ 7 ∷ 8 ∷ 9 ∷ 10 ∷ 11 ∷ 12 ∷ 13 ∷ 14 ∷ 15 ∷ 16 ∷ 17 ∷ 18 ∷ 19 ∷ 20 ∷ 21 ∷ 22 ∷ 23 ∷ 24 ∷ 25 ∷ 26 ∷ 27 ∷ 28 ∷ 29 ∷ 30 ∷ 31 ∷ 32 ∷ []) $ rewrite ! 1 (λ (m : ℕ). ‵ (OutAt κ γ (zs .0) m)) (s .long) refl $
+        use3 W (later (‵ (OutAt κ γ (zs .0) (length (s .l))) ⊛ ‵ (flft κ q))) (rest-back u8 κ (ν ∷ []) q γ b o (s .l) 0 𝓤 H A W (named 0) (named 0) δ (zs .0) (subst (Room u8) (sym (s .long)) room₀) zero-le len) $ await ! tt $ split ! $
+        keep ! (5 ∷ 0 ∷ 1 ∷ 6 ∷ 7 ∷ 8 ∷ 9 ∷ 10 ∷ 11 ∷ 12 ∷ 13 ∷ 14 ∷ 15 ∷ 16 ∷ 17 ∷ 18 ∷ 19 ∷ 20 ∷ 21 ∷ 22 ∷ 23 ∷ 24 ∷ 25 ∷ 26 ∷ 27 ∷ 28 ∷ 29 ∷ 30 ∷ []) $ rewrite ! 1 (λ (m : ℕ). ‵ (OutAt κ γ (zs .0) m)) (s .long) refl $
         -- in the invariant's order again
         assigns-last ! (bin ! (load ! (from ! (stop !)) (look ! 15 refl)) (lit ! tt) (record { fits = one-more less })) (from ! (stop !)) (store ! 15 refl (tt, record { fits = one-more less })) $
         forget ! 3 refl $ forget ! 5 refl $ forget ! 7 refl $ forget ! 9 refl $ forget ! 11 refl $ forget ! 13 refl $
-        again ! (Nearer ys d os f) (At q′) s (further ys d os f s (in-row less) r (zs .0) e (is .1) len) (add-one-dec n (s .i) (in-row less))))))))))))
+        again ! (Nearer ys d os) (At q′) s (further ys d os s (in-row less) r (zs .0) e (is .1) len) (add-one-dec n (s .i) (in-row less))))))))))))
         (λ ends. jumps ! $ exec ! C Λ En code-mir.t-4 (atRet En Post) $
-        assigns ! (of-opd ! (load ! (from ! (stop !)) (look ! 17 refl))) (from ! (stop !)) (init ! 27 refl (tt, record { fits = s .at-fits })) $
-        move ! (0 ∷ 29 ∷ []) $ shuts-slice ! tt R q′ ys b₁ o₁ $
-        -- [κ₁'s token; what the output owns; κ's token; _12; …; _0; …]
-        returns ! (look ! 27 refl) $ forget ! 11 refl $ forget ! 13 refl $ forget ! 15 refl $ forget ! 17 refl $ forget ! 19 refl $ forget ! 21 refl $ forget ! 23 refl $ forget ! 25 refl $ forget ! 27 refl $
-        move ! (27 ∷ 28 ∷ []) $ free1 ! $ move ! (25 ∷ 26 ∷ []) $ free1 ! $ move ! (23 ∷ 24 ∷ []) $ free1 ! $ move ! (21 ∷ 22 ∷ []) $ free1 ! $ move ! (19 ∷ 20 ∷ []) $ free1 ! $ move ! (17 ∷ 18 ∷ []) $ free1 ! $ move ! (15 ∷ 16 ∷ []) $ free1 ! $ move ! (13 ∷ 14 ∷ []) $ free1 ! $ move ! (11 ∷ 12 ∷ []) $ free1 ! $ move ! (9 ∷ 10 ∷ []) $ free1 ! $ move ! (7 ∷ 8 ∷ []) $ free1 ! $ move ! (5 ∷ 6 ∷ []) $ free1 ! $ move ! (3 ∷ 4 ∷ []) $ free1 ! $ free0 ! $
-        by ! (exits (s .l) (s .long) (s .at) (s .at-fits) (over ys d os f s (nltb→le (s .i) n ends))))
+        assigns ! (of-opd ! (load ! (from ! (stop !)) (look ! 17 refl))) (from ! (stop !)) (init ! 25 refl (tt, record { fits = s .at-fits })) $
+        move ! (0 ∷ 27 ∷ []) $ shuts-slice ! tt R q′ ys b₁ o₁ $
+        -- [κ₁'s token; what the output owns; κ's token; _11; …; _0; …]
+        returns ! (look ! 25 refl) $ forget ! 11 refl $ forget ! 13 refl $ forget ! 15 refl $ forget ! 17 refl $ forget ! 19 refl $ forget ! 21 refl $ forget ! 23 refl $ forget ! 25 refl $
+        move ! (25 ∷ 26 ∷ []) $ free1 ! $ move ! (23 ∷ 24 ∷ []) $ free1 ! $ move ! (21 ∷ 22 ∷ []) $ free1 ! $ move ! (19 ∷ 20 ∷ []) $ free1 ! $ move ! (17 ∷ 18 ∷ []) $ free1 ! $ move ! (15 ∷ 16 ∷ []) $ free1 ! $ move ! (13 ∷ 14 ∷ []) $ free1 ! $ move ! (11 ∷ 12 ∷ []) $ free1 ! $ move ! (9 ∷ 10 ∷ []) $ free1 ! $ move ! (7 ∷ 8 ∷ []) $ free1 ! $ move ! (5 ∷ 6 ∷ []) $ free1 ! $ move ! (3 ∷ 4 ∷ []) $ free1 ! $ free0 ! $
+        by ! (exits (s .l) (s .long) (s .at) (s .at-fits) (over ys d os s (nltb→le (s .i) n ends))))
       where
         elem : Allele
         elem = getD ys (s .i) blank
@@ -234,50 +231,47 @@ module _ {M : Type 1} (𝓤 : URA M) (H : Heap 𝓤) (A : Atoms 𝓤) (W : Given
         i-fits = lt-of-le-of-lt (s .below) (room .0)
 
     -- the MIR, up to the loop: the row is looked into once, before it
-    begins : Sq W (‵ (froom T′.mir l₁₂ 0) ∷ ‵ (fdies T′.mir l₁₂) ∷ ‵ (froom tyPtr l₁₁ 0) ∷ ‵ (fdies tyPtr l₁₁) ∷ ‵ (froom lentTy l₁₀ 0) ∷ ‵ (fdies lentTy l₁₀) ∷ ‵ (froom (tyRef erased mut (tyInt w8)) l₉ 0) ∷ ‵ (fdies (tyRef erased mut (tyInt w8)) l₉)
-        ∷ ‵ (froom tyBool l₈ 0) ∷ ‵ (fdies tyBool l₈) ∷ ‵ (froom word l₇ 0) ∷ ‵ (fdies word l₇) ∷ ‵ (froom word l₆ 0) ∷ ‵ (fdies word l₆) ∷ ‵ (froom word l₅ 0) ∷ ‵ (fdies word l₅) ∷ ‵ (fat fullShare D′.mir l₄ 0 (D′.lowered d)) ∷ ‵ (fdies D′.mir l₄)
-        ∷ ‵ (fat fullShare rowTy l₃ 0 (sliceVal (b₁, o₁) n)) ∷ ‵ (fdies rowTy l₃) ∷ ‵ (fat fullShare word l₂ 0 (vint w64 f)) ∷ ‵ (fdies word l₂) ∷ ‵ (fat fullShare outTy l₁ 0 out) ∷ ‵ (fdies outTy l₁) ∷ ‵ (froom word l₀ 0) ∷ ‵ (fdies word l₀)
-        ∷ (‵ (flft κ q) ⊛ (‵ (flft κ₁ q₁) ⊛ ‵ ftrue)) ∷ ‵ (owns (MutSlice (named 0) κ u8 ∷ usize ∷ ShrSlice (named 1) κ₁ R ∷ Decisions ∷ []) args at) ∷ [])
+    begins : Sq W (‵ (froom T′.mir l₁₁ 0) ∷ ‵ (fdies T′.mir l₁₁) ∷ ‵ (froom tyPtr l₁₀ 0) ∷ ‵ (fdies tyPtr l₁₀) ∷ ‵ (froom lentTy l₉ 0) ∷ ‵ (fdies lentTy l₉) ∷ ‵ (froom (tyRef erased mut (tyInt w8)) l₈ 0) ∷ ‵ (fdies (tyRef erased mut (tyInt w8)) l₈)
+        ∷ ‵ (froom tyBool l₇ 0) ∷ ‵ (fdies tyBool l₇) ∷ ‵ (froom word l₆ 0) ∷ ‵ (fdies word l₆) ∷ ‵ (froom word l₅ 0) ∷ ‵ (fdies word l₅) ∷ ‵ (froom word l₄ 0) ∷ ‵ (fdies word l₄) ∷ ‵ (fat fullShare D′.mir l₃ 0 (D′.lowered d)) ∷ ‵ (fdies D′.mir l₃)
+        ∷ ‵ (fat fullShare rowTy l₂ 0 (sliceVal (b₁, o₁) n)) ∷ ‵ (fdies rowTy l₂) ∷ ‵ (fat fullShare outTy l₁ 0 out) ∷ ‵ (fdies outTy l₁) ∷ ‵ (froom word l₀ 0) ∷ ‵ (fdies word l₀)
+        ∷ (‵ (flft κ q) ⊛ (‵ (flft κ₁ q₁) ⊛ ‵ ftrue)) ∷ ‵ (owns (MutSlice (named 0) κ u8 ∷ ShrSlice (named 1) κ₁ R ∷ Decisions ∷ []) args at) ∷ [])
         (runs C Λ En code-mir.t-1 (atRet En Post))
     unfolding start
     begins =
-        assigns ! (of-opd ! (load ! (from ! (stop !)) (look ! 20 refl))) (from ! (stop !)) (init ! 14 refl (tt, record { fits = f-fits })) $ assigns ! (of-opd ! (lit ! tt)) (from ! (stop !)) (init ! 12 refl (tt, record { fits = lit< tt })) $
-        -- [_12; …; _0; …; the tokens; what the parameters own]
-        move ! (26 ∷ []) $ split ! $ move ! (1 ∷ []) $ split ! $ move ! (29 ∷ []) $ fsplit ! $ move ! (1 ∷ []) $ fsplit ! $ move ! (1 ∷ []) $ fsplit ! $ fsplit ! $ move ! (1 ∷ []) $ fsplit ! $
-        -- [res; the fractured borrow; the row's fact; what the decision owns; what the place owns; what the output owns; κ₁'s token; true; κ's token; _12; …; _0; …]
-        move ! (1 ∷ 6 ∷ []) $ looks-slice ! tt R (Is R) (shows 𝓤 H A R) (LL.vals T.the-type T′.the-laws) (LL.tells T.the-type T′.the-laws) (LL.copy T.the-type T′.the-copy 𝓤 H A W) ys b₁ o₁ (λ q′.
-        -- [the row; its open borrow; the fractured borrow; res; the row's fact; what the decision owns; what the place owns; what the output owns; true; κ's token; _12; …; _0; …]
-        keep ! (0 ∷ 7 ∷ 9 ∷ 10 ∷ 11 ∷ 12 ∷ 13 ∷ 14 ∷ 15 ∷ 16 ∷ 17 ∷ 18 ∷ 19 ∷ 20 ∷ 21 ∷ 22 ∷ 23 ∷ 24 ∷ 25 ∷ 26 ∷ 27 ∷ 28 ∷ 29 ∷ 30 ∷ 31 ∷ 32 ∷ 33 ∷ 34 ∷ 35 ∷ 1 ∷ []) $
-        first ! $ blocks ! $ loops ! 𝓣 (Nearer ys d os f) (Nearer-wf ys d os f) (At q′) (turns q′) (start ys d os f f-fits))
+        assigns ! (of-opd ! (lit ! tt)) (from ! (stop !)) (init ! 14 refl (tt, record { fits = lit< tt })) $ assigns ! (of-opd ! (lit ! tt)) (from ! (stop !)) (init ! 12 refl (tt, record { fits = lit< tt })) $
+        -- [_11; …; _0; …; the tokens; what the parameters own]
+        move ! (24 ∷ []) $ split ! $ move ! (1 ∷ []) $ split ! $ move ! (27 ∷ []) $ fsplit ! $ move ! (1 ∷ []) $ fsplit ! $ fsplit ! $ move ! (1 ∷ []) $ fsplit ! $
+        -- [res; the fractured borrow; the row's fact; what the decision owns; what the output owns; κ₁'s token; true; κ's token; _11; …; _0; …]
+        move ! (1 ∷ 5 ∷ []) $ looks-slice ! tt R (Is R) (shows 𝓤 H A R) (LL.vals T.the-type T′.the-laws) (LL.tells T.the-type T′.the-laws) (LL.copy T.the-type T′.the-copy 𝓤 H A W) ys b₁ o₁ (λ q′.
+        -- [the row; its open borrow; the fractured borrow; res; the row's fact; what the decision owns; what the output owns; true; κ's token; _11; …; _0; …]
+        keep ! (0 ∷ 6 ∷ 8 ∷ 9 ∷ 10 ∷ 11 ∷ 12 ∷ 13 ∷ 14 ∷ 15 ∷ 16 ∷ 17 ∷ 18 ∷ 19 ∷ 20 ∷ 21 ∷ 22 ∷ 23 ∷ 24 ∷ 25 ∷ 26 ∷ 27 ∷ 28 ∷ 29 ∷ 30 ∷ 31 ∷ 32 ∷ 1 ∷ []) $
+        first ! $ blocks ! $ loops ! 𝓣 (Nearer ys d os) (Nearer-wf ys d os) (At q′) (turns q′) (start ys d os))
 
   -- the entry
   walk : (𝓣 : Tables 𝓤 H) → FmC 𝓤 H (W .laws) (𝓣 .C) → Triple 𝓤 (𝓣 .C #alleles·write·put-one) (PutOne 𝓤 H A mem run)
-      → ent 𝓤 (onEntry 𝓤 H A put.signature (κ, (κ₁, tt)) (q, (q₁, tt)) args at) (WpFn 𝓤 H (𝓣 .C) (𝓣 .Λ) code.function (out ∷ vint w64 f ∷ sliceVal (b₁, o₁) n ∷ D′.lowered d ∷ []) Post)
+      → ent 𝓤 (onEntry 𝓤 H A put.signature (κ, (κ₁, tt)) (q, (q₁, tt)) args at) (WpFn 𝓤 H (𝓣 .C) (𝓣 .Λ) code.function (out ∷ sliceVal (b₁, o₁) n ∷ D′.lowered d ∷ []) Post)
   walk 𝓣 fm known =
-      qed W ((‵ (flft κ q) ⊛ (‵ (flft κ₁ q₁) ⊛ ‵ ftrue)) ∷ ‵ (owns (MutSlice (named 0) κ u8 ∷ usize ∷ ShrSlice (named 1) κ₁ R ∷ Decisions ∷ []) args at) ∷ []) ∵
-      enter ! (𝓣 .C) (𝓣 .Λ) code.function (out ∷ vint w64 f ∷ sliceVal (b₁, o₁) n ∷ D′.lowered d ∷ []) _ $
-      alloc1 ! (λ l₀. alloc1 ! (λ l₁. alloc1 ! (λ l₂. alloc1 ! (λ l₃. alloc1 ! (λ l₄. alloc1 ! (λ l₅. alloc1 ! (λ l₆. alloc1 ! (λ l₇. alloc1 ! (λ l₈. alloc1 ! (λ l₉. alloc1 ! (λ l₁₀. alloc1 ! (λ l₁₁. alloc1 ! (λ l₁₂. alloc0 ! $ params1 ! $
-      pass1 ! (init ! 22 refl (tt, (tt, (record { fits = room₀ .0 }, tt)))) $ pass1 ! (init ! 20 refl (tt, record { fits = f-fits })) $
+      qed W ((‵ (flft κ q) ⊛ (‵ (flft κ₁ q₁) ⊛ ‵ ftrue)) ∷ ‵ (owns (MutSlice (named 0) κ u8 ∷ ShrSlice (named 1) κ₁ R ∷ Decisions ∷ []) args at) ∷ []) ∵
+      enter ! (𝓣 .C) (𝓣 .Λ) code.function (out ∷ sliceVal (b₁, o₁) n ∷ D′.lowered d ∷ []) _ $
+      alloc1 ! (λ l₀. alloc1 ! (λ l₁. alloc1 ! (λ l₂. alloc1 ! (λ l₃. alloc1 ! (λ l₄. alloc1 ! (λ l₅. alloc1 ! (λ l₆. alloc1 ! (λ l₇. alloc1 ! (λ l₈. alloc1 ! (λ l₉. alloc1 ! (λ l₁₀. alloc1 ! (λ l₁₁. alloc0 ! $ params1 ! $
+      pass1 ! (init ! 20 refl (tt, (tt, (record { fits = room₀ .0 }, tt)))) $
       pass1 ! (init ! 18 refl (tt, (tt, (record { fits = room .0 }, tt)))) $ pass1 ! (init ! 16 refl decision-typed) $ pass0 ! $
-      begins 𝓣 fm known l₀ l₁ l₂ l₃ l₄ l₅ l₆ l₇ l₈ l₉ l₁₀ l₁₁ l₁₂)))))))))))))
+      begins 𝓣 fm known l₀ l₁ l₂ l₃ l₄ l₅ l₆ l₇ l₈ l₉ l₁₀ l₁₁))))))))))))
 
 module _ {M : Type 1} (𝓤 : URA M) (H : Heap 𝓤) (A : Atoms 𝓤) (W : Given 𝓤 H A) (mem : Memory → SProp 𝓤) (run : Routine → Fun 𝓤) where
   put-walks : (𝓣 : Tables 𝓤 H) → Triple 𝓤 (𝓣 .C #alleles·write·put-one) (PutOne 𝓤 H A mem run) → Walks 𝓤 H A put.ended stayed (WpFn 𝓤 H (𝓣 .C) (𝓣 .Λ) code.function) (put.clauses 𝓤 H A mem run)
   put-walks 𝓣 known = walked 𝓤 H A put.ended stayed (put.clauses 𝓤 H A mem run) (WpFn 𝓤 H (𝓣 .C) (𝓣 .Λ) code.function)
-      (λ κs. (slice-vals, (uint-vals w64, (slice-vals, ((λ d. D′.lowered d ∷ []), tt))))) (λ κs. (mut-slice-tells (named 0) (κs .0) u8, (uint-tells w64, (shr-slice-tells (named 1) (κs .1 .0) R, (D′.lowers .val-is, tt)))))
+      (λ κs. (slice-vals, (slice-vals, ((λ d. D′.lowered d ∷ []), tt)))) (λ κs. (mut-slice-tells (named 0) (κs .0) u8, (shr-slice-tells (named 1) (κs .1 .0) R, (D′.lowers .val-is, tt))))
       (λ κs qs bounds a g are. via 𝓤 _ (fst∗ 𝓤 _ (emp 𝓤))
-      (walk 𝓤 H A W mem run (κs .0) (κs .1 .0) (qs .0) (qs .1 .0) (a .0 .ptr .0) (a .0 .ptr .1) (a .1 .1 .0 .ptr .0) (a .1 .1 .0 .ptr .1) (a .0 .name) (a .1 .1 .0 .name) (a .0 .now) (a .1 .0) (a .1 .1 .0 .now) (a .1 .1 .1 .0)
-      (are .0 .0 .1) (are .1 .0 .1) (are .1 .1 .0 .0 .1) (are .1 .1 .1 .0) 𝓣 (fmOf 𝓤 H (W .laws) 𝓣) known))
+      (walk 𝓤 H A W mem run (κs .0) (κs .1 .0) (qs .0) (qs .1 .0) (a .0 .ptr .0) (a .0 .ptr .1) (a .1 .0 .ptr .0) (a .1 .0 .ptr .1) (a .0 .name) (a .1 .0 .name) (a .0 .now) (a .1 .0 .now) (a .1 .1 .0)
+      (are .0 .0 .1) (are .1 .0 .0 .1) (are .1 .1 .0) 𝓣 (fmOf 𝓤 H (W .laws) 𝓣) known))
 
 put-meets : {M : Type 1} (𝓤 : URA M) (H : Heap 𝓤) (A : Atoms 𝓤) → Given 𝓤 H A → (mem : Memory → SProp 𝓤) (run : Routine → Fun 𝓤) (𝓣 : Tables 𝓤 H) → Triple 𝓤 (𝓣 .C #alleles·write·put-one) (PutOne 𝓤 H A mem run)
     → Meets 𝓤 H A put.signature (WpFn 𝓤 H (𝓣 .C) (𝓣 .Λ) code.function) (put.spec 𝓤 H A mem run)
 put-meets 𝓤 H A W mem run 𝓣 known =
     walk-meets 𝓤 H A put.ended stayed W (
       goes-slice 𝓤 H A W 2 0 tt (plain (λ _. u8)),
-      (
-        goes-dropped 𝓤 H A W 2 (plain (λ _. usize)) yes (λ κs x f. refl),
-        (goes-dropped 𝓤 H A W 2 (shrSliceOf (1 ∷ []) tt (plain (λ _. R))) yes (λ κs x f. refl), (goes-dropped 𝓤 H A W 2 (plain (λ _. Decisions)) yes (λ κs x f. refl), tt)),
-      ),
+      (goes-dropped 𝓤 H A W 2 (shrSliceOf (1 ∷ []) tt (plain (λ _. R))) yes (λ κs x f. refl), (goes-dropped 𝓤 H A W 2 (plain (λ _. Decisions)) yes (λ κs x f. refl), tt)),
     ) (put.clauses 𝓤 H A mem run)
     (WpFn 𝓤 H (𝓣 .C) (𝓣 .Λ) code.function) (WpFn-mono 𝓤 H (W .laws) 𝓣 code.function) (put-walks 𝓤 H A W mem run 𝓣 known)
 

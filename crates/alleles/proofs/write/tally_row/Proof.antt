@@ -1,8 +1,8 @@
--- `alleles::write::tally_row` meets its contract: a walk of its MIR, by hand, with a loop whose turn reads one record and hands it to `count_one`, which is covered.
+-- `alleles::write::tally_row` meets its contract: a walk of its MIR, by hand, with a loop whose turn reads one record and hands it to `add`, which is covered.
 -- The row is looked into once, before the loop, and shut after it. The loop's variant is a state `St`, which carries the facts of the invariant, ordered by what is left of the row (`Tallying.antt`).
 -- Assumes nothing.
 use mathlib.Core.Path.{_≡_, refl, sym}
-use Prim.Native.Nat.{ℕ, _<_, _≤_, _^_, _+_}
+use Prim.Native.Nat.{ℕ, _<_, _^_, _+_}
 use native.Mathlib.Nat.{lt-of-le-of-lt}
 use native.Mathlib.Numerals.{add-one-le, add-one-dec}
 use mathlib.Core.List.{[], _∷_, List}
@@ -49,7 +49,6 @@ use Rattle.genotype.specs.declared.allele.Allele.{Allele}
 use Rattle.genotype.proofs.allele.Allele as T
 use Rattle.genotype.proofs.allele.Allele.Laws as T′
 use Rattle.spelling.specs.Tally.{begun, tallied, tallyOf}
-use Rattle.spelling.specs.Demands.{Fitting}
 use Rattle.spelling.specs.declared.tally.Tally.{Tally}
 use Rattle.spelling.proofs.tally.Tally as TT
 use Rattle.spelling.proofs.tally.Tally.Laws as TT′
@@ -57,12 +56,12 @@ use Rattle.spelling.proofs.tally.begin as begin
 use Rattle.spelling.proofs.tally.begin.Symbol as begin-def
 use Rattle.spelling.proofs.tally.begin.Symbol.{name as #spelling·tally·begin}
 use Rattle.spelling.proofs.tally.begin.Met as begin-thm
+use Rattle.spelling.proofs.tally.add as add
+use Rattle.spelling.proofs.tally.add.Symbol as add-def
+use Rattle.spelling.proofs.tally.add.Symbol.{name as #spelling·tally·add}
+use Rattle.spelling.proofs.tally.add.Met as add-thm
 use Rattle.alleles.proofs.Row.{R, IsR, blank, tail, typed, made, takes, puts-back}
 use Rattle.alleles.proofs.Tallying.{Tallies, IsTally, written, is-written, tally-typed, St, start, further, over, Nearer, Nearer-wf}
-use Rattle.alleles.proofs.write.count_one as one
-use Rattle.alleles.proofs.write.count_one.Symbol as one-def
-use Rattle.alleles.proofs.write.count_one.Symbol.{name as #alleles·write·count-one}
-use Rattle.alleles.proofs.write.count_one.Met as one-thm
 use Rattle.alleles.proofs.write.tally_row.Key.{name as #alleles·write·tally-row}
 use Rattle.alleles.proofs.write.tally_row as tally
 use Rattle.alleles.proofs.write.tally_row.Statement as stated
@@ -82,8 +81,8 @@ rowTy = sliceTy (tyRef (named 0) imm (pointee (R .written)))
 abbrev Begin : {M : Type 1} (𝓤 : URA M) (H : Heap 𝓤) (A : Atoms 𝓤) (mem : Memory → SProp 𝓤) (run : Routine → Fun 𝓤) → Contract 𝓤
 Begin 𝓤 H A mem run = tripleOf 𝓤 H A begin.signature (begin.spec 𝓤 H A mem run)
 
-abbrev CountOne : {M : Type 1} (𝓤 : URA M) (H : Heap 𝓤) (A : Atoms 𝓤) (mem : Memory → SProp 𝓤) (run : Routine → Fun 𝓤) → Contract 𝓤
-CountOne 𝓤 H A mem run = tripleOf 𝓤 H A one.signature (one.spec 𝓤 H A mem run)
+abbrev Add : {M : Type 1} (𝓤 : URA M) (H : Heap 𝓤) (A : Atoms 𝓤) (mem : Memory → SProp 𝓤) (run : Routine → Fun 𝓤) → Contract 𝓤
+Add 𝓤 H A mem run = tripleOf 𝓤 H A add.signature (add.spec 𝓤 H A mem run)
 
 module _ {M : Type 1} (𝓤 : URA M) (H : Heap 𝓤) (A : Atoms 𝓤) (W : Given 𝓤 H A) (mem : Memory → SProp 𝓤) (run : Routine → Fun 𝓤)
     (κ : Lft) (q : Share) (b o : ℕ) (γ : GName) (ys : List Allele) (m : ℕ) (room : Room R (length ys)) (m-fits : m < 2 ^ 64) where
@@ -105,7 +104,7 @@ module _ {M : Type 1} (𝓤 : URA M) (H : Heap 𝓤) (A : Atoms 𝓤) (W : Given
   abbrev Post : Val → SProp 𝓤
   Post = walkOf 𝓤 H A tally.ended stayed (tally.clauses 𝓤 H A mem run) .post bound
 
-  exits : (r : Tally) → IsTally r → (r ≡ tallyOf m ys) × Fitting ys → ent 𝓤 (⋆ 𝓤 H A (‵ (flft κ q) ∷ [])) (Post (TT′.lowered r))
+  exits : (r : Tally) → IsTally r → r ≡ tallyOf m ys → ent 𝓤 (⋆ 𝓤 H A (‵ (flft κ q) ∷ [])) (Post (TT′.lowered r))
   exits r is says-it =
       qed W (‵ (flft κ q) ∷ []) ∵
       suffices ! _ (ends-at 𝓤 H A tally.ended stayed (tally.clauses 𝓤 H A mem run) W bound (TT′.lowered r) r (tt, (tt, tt)) (tt, (tt, tt))) $ says ! says-it $
@@ -119,17 +118,17 @@ module _ {M : Type 1} (𝓤 : URA M) (H : Heap 𝓤) (A : Atoms 𝓤) (W : Given
   goes-begin : ent 𝓤 (emp 𝓤) (Begin 𝓤 H A mem run .pre to-begin)
   goes-begin = qed W [] ∵ nothing ! $ owned ! usize (Is usize) (uint-makes 𝓤 H A W w64) m _ (refl, m-fits) $ fjoin ! $ nothing ! $ join ! $ frame ! $ done !
 
-  -- ---- the call of `count_one` with the tally t and record i
+  -- ---- the call of `add` with the tally t and record i
   module _ (t : Tally) (a : Allele) (i : ℕ) where
-    abbrev to-one : CountOne 𝓤 H A mem run .Ghost
-    to-one = ((tt, tt, tt, (t, (a, (i, tt))), (TT′.lowered t ∷ [], (T′.lowered a ∷ [], (vint w64 i ∷ [], tt)))), tt)
+    abbrev to-add : Add 𝓤 H A mem run .Ghost
+    to-add = ((tt, tt, tt, (t, (a, (i, tt))), (TT′.lowered t ∷ [], (T′.lowered a ∷ [], (vint w64 i ∷ [], tt)))), tt)
 
-    goes-one : IsTally t → IsR a → i < 2 ^ 64 → ent 𝓤 (emp 𝓤) (CountOne 𝓤 H A mem run .pre to-one)
-    goes-one gt ga gi =
+    goes-add : IsTally t → IsR a → i < 2 ^ 64 → ent 𝓤 (emp 𝓤) (Add 𝓤 H A mem run .pre to-add)
+    goes-add gt ga gi =
         qed W [] ∵ nothing ! $ owned ! usize (Is usize) (uint-makes 𝓤 H A W w64) i _ (refl, gi) $ fjoin ! $ made ! a ga $ fjoin ! $
         owned ! Tallies (Is Tallies) (LL.makes TT.the-type TT′.the-plain 𝓤 H A) t _ gt $ fjoin ! $ nothing ! $ join ! $ frame ! $ done !
 
-  module _ (𝓣 : Tables 𝓤 H) (fm : FmC 𝓤 H (W .laws) (𝓣 .C)) (known : Triple 𝓤 (𝓣 .C #alleles·write·count-one) (CountOne 𝓤 H A mem run)) (l₀ l₁ l₂ l₃ l₄ l₅ l₆ l₇ l₈ : ℕ) where
+  module _ (𝓣 : Tables 𝓤 H) (fm : FmC 𝓤 H (W .laws) (𝓣 .C)) (known : Triple 𝓤 (𝓣 .C #spelling·tally·add) (Add 𝓤 H A mem run)) (l₀ l₁ l₂ l₃ l₄ l₅ l₆ l₇ l₈ : ℕ) where
     abbrev C : Calls 𝓤 H
     C = 𝓣 .C
 
@@ -163,12 +162,12 @@ module _ {M : Type 1} (𝓤 : URA M) (H : Heap 𝓤) (A : Atoms 𝓤) (W : Given
         takes ! q′ ys (s .i) b o (in-row less) (λ g.
         assigns ! (of-opd ! (load ! (from ! (hop ! (look ! 4 refl) (stop !))) (look-raw ! 0 refl))) (from ! (stop !)) (init ! 2 refl (typed 𝓤 H A W elem g)) $
         puts-back ! q′ ys (s .i) b o (in-row less) g $
-        -- [what `count_one` asks; the row; _8; …; _0; …]
-        use0 W (raw (CountOne 𝓤 H A mem run .pre (to-one (s .t) elem (s .i)))) (goes-one (s .t) elem (s .i) (s .is) g (i-fits less)) $
-        calls-at ! fm (CountOne 𝓤 H A mem run) known (to-one (s .t) elem (s .i)) (and-then ! (load ! (from ! (stop !)) (look ! 12 refl)) (and-then ! (load ! (from ! (stop !)) (look ! 2 refl)) (and-then ! (load ! (from ! (stop !)) (look ! 10 refl)) (no-more !)))) (λ w.
-        use1 W (later (some (λ (r : Tally). (‵ ftrue ⊛ ‵ (Tallies .own r (w ∷ []))) ⊛ raw (ensured 𝓤 H A one.ended (one.clauses 𝓤 H A mem run) tt (s .t, (elem, (s .i, tt))) tt r)))) (id⊢ 𝓤 _) $ await ! tt $ pick ! (λ r.
-        split ! $ move ! (1 ∷ []) $ use1 W (some (λ (zs : Unit {0} × (Unit {0} × (Unit {0} × Unit {0}))). ‵ (lasts one.ended tt (s .t, (elem, (s .i, tt))) zs) ⊛ (raw (fact 𝓤 (r ≡ tallied (s .t) elem (s .i))) ⊛ raw (fact 𝓤 (elem .number ≤ 18446744073709551615))))) (id⊢ 𝓤 _) $ pick ! (λ zs.
-        split ! $ move ! (1 ∷ []) $ split ! $ heard ! (r ≡ tallied (s .t) elem (s .i)) (λ e. heard ! (elem .number ≤ 18446744073709551615) (λ f.
+        -- [what `add` asks; the row; _8; …; _0; …]
+        use0 W (raw (Add 𝓤 H A mem run .pre (to-add (s .t) elem (s .i)))) (goes-add (s .t) elem (s .i) (s .is) g (i-fits less)) $
+        calls-at ! fm (Add 𝓤 H A mem run) known (to-add (s .t) elem (s .i)) (and-then ! (load ! (from ! (stop !)) (look ! 12 refl)) (and-then ! (load ! (from ! (stop !)) (look ! 2 refl)) (and-then ! (load ! (from ! (stop !)) (look ! 10 refl)) (no-more !)))) (λ w.
+        use1 W (later (some (λ (r : Tally). (‵ ftrue ⊛ ‵ (Tallies .own r (w ∷ []))) ⊛ raw (ensured 𝓤 H A add.ended (add.clauses 𝓤 H A mem run) tt (s .t, (elem, (s .i, tt))) tt r)))) (id⊢ 𝓤 _) $ await ! tt $ pick ! (λ r.
+        split ! $ move ! (1 ∷ []) $ use1 W (some (λ (zs : Unit {0} × (Unit {0} × (Unit {0} × Unit {0}))). ‵ (lasts add.ended tt (s .t, (elem, (s .i, tt))) zs) ⊛ raw (fact 𝓤 (r ≡ tallied (s .t) elem (s .i))))) (id⊢ 𝓤 _) $ pick ! (λ zs.
+        split ! $ move ! (1 ∷ []) $ heard ! (r ≡ tallied (s .t) elem (s .i)) (λ e.
         move ! (1 ∷ []) $ split ! $ move ! (1 ∷ []) $ peeks ! Tallies (Is Tallies) (shows 𝓤 H A Tallies) r (w ∷ []) (λ is.
         -- [what the result owns; true; the last values; the row; _8; …; _0; …]
         land ! (from ! (stop !)) (store ! 14 refl (tally-typed 𝓤 H A W r w is)) $ rewrite ! 14 (λ (u : Val). ‵ (fat fullShare TT′.mir l₃ 0 u)) (written r w is) refl $
@@ -176,7 +175,7 @@ module _ {M : Type 1} (𝓤 : URA M) (H : Heap 𝓤) (A : Atoms 𝓤) (W : Given
         -- in the invariant's order again
         assigns-last ! (bin ! (load ! (from ! (stop !)) (look ! 9 refl)) (lit ! tt) (record { fits = one-more less })) (from ! (stop !)) (store ! 9 refl (tt, record { fits = one-more less })) $
         forget ! 1 refl $ forget ! 3 refl $ forget ! 5 refl $ forget ! 7 refl $
-        again ! (Nearer ys m) (At q′) s (further ys m s (in-row less) r e f (is-written r w is)) (add-one-dec n (s .i) (in-row less))))))))))
+        again ! (Nearer ys m) (At q′) s (further ys m s (in-row less) r e (is-written r w is)) (add-one-dec n (s .i) (in-row less)))))))))
         (λ ends. jumps ! $ exec ! C Λ En code-mir.t-4 (atRet En Post) $
         assigns ! (of-opd ! (load ! (from ! (stop !)) (look ! 11 refl))) (from ! (stop !)) (init ! 17 refl (tally-typed 𝓤 H A W (s .t) (TT′.lowered (s .t)) (s .is))) $
         move ! (0 ∷ 19 ∷ []) $ shuts-slice ! tt R q′ ys b o $
@@ -213,7 +212,7 @@ module _ {M : Type 1} (𝓤 : URA M) (H : Heap 𝓤) (A : Atoms 𝓤) (W : Given
         keep ! (0 ∷ 7 ∷ 8 ∷ 9 ∷ 10 ∷ 11 ∷ 12 ∷ 13 ∷ 14 ∷ 15 ∷ 16 ∷ 17 ∷ 18 ∷ 19 ∷ 20 ∷ 21 ∷ 22 ∷ 23 ∷ 24 ∷ 1 ∷ []) $ first ! $ blocks ! $ loops ! 𝓣 (Nearer ys m) (Nearer-wf ys m) (At q′) (turns q′) (start ys m r is e))
 
   -- the MIR, up to the call of `begin`
-  walk : (𝓣 : Tables 𝓤 H) → FmC 𝓤 H (W .laws) (𝓣 .C) → Triple 𝓤 (𝓣 .C #spelling·tally·begin) (Begin 𝓤 H A mem run) → Triple 𝓤 (𝓣 .C #alleles·write·count-one) (CountOne 𝓤 H A mem run)
+  walk : (𝓣 : Tables 𝓤 H) → FmC 𝓤 H (W .laws) (𝓣 .C) → Triple 𝓤 (𝓣 .C #spelling·tally·begin) (Begin 𝓤 H A mem run) → Triple 𝓤 (𝓣 .C #spelling·tally·add) (Add 𝓤 H A mem run)
       → ent 𝓤 (onEntry 𝓤 H A tally.signature (κ, tt) (q, tt) x at) (WpFn 𝓤 H (𝓣 .C) (𝓣 .Λ) code.function (sliceVal (b, o) n ∷ vint w64 m ∷ []) Post)
   walk 𝓣 fm known-begin known =
       qed W ((‵ (flft κ q) ⊛ ‵ ftrue) ∷ ‵ (owns (ShrSlice (named 0) κ R ∷ usize ∷ []) x at) ∷ []) ∵
@@ -233,7 +232,7 @@ module _ {M : Type 1} (𝓤 : URA M) (H : Heap 𝓤) (A : Atoms 𝓤) (W : Given
       begins 𝓣 fm known l₀ l₁ l₂ l₃ l₄ l₅ l₆ l₇ l₈ r (is-written r w is) e))))))))))))))
 
 module _ {M : Type 1} (𝓤 : URA M) (H : Heap 𝓤) (A : Atoms 𝓤) (W : Given 𝓤 H A) (mem : Memory → SProp 𝓤) (run : Routine → Fun 𝓤) where
-  tally-walks : (𝓣 : Tables 𝓤 H) → Triple 𝓤 (𝓣 .C #spelling·tally·begin) (Begin 𝓤 H A mem run) → Triple 𝓤 (𝓣 .C #alleles·write·count-one) (CountOne 𝓤 H A mem run)
+  tally-walks : (𝓣 : Tables 𝓤 H) → Triple 𝓤 (𝓣 .C #spelling·tally·begin) (Begin 𝓤 H A mem run) → Triple 𝓤 (𝓣 .C #spelling·tally·add) (Add 𝓤 H A mem run)
       → Walks 𝓤 H A tally.ended stayed (WpFn 𝓤 H (𝓣 .C) (𝓣 .Λ) code.function) (tally.clauses 𝓤 H A mem run)
   tally-walks 𝓣 known-begin known = walked 𝓤 H A tally.ended stayed (tally.clauses 𝓤 H A mem run) (WpFn 𝓤 H (𝓣 .C) (𝓣 .Λ) code.function)
       (λ κs. (slice-vals, (uint-vals w64, tt))) (λ κs. (shr-slice-tells (named 0) (κs .0) R, (uint-tells w64, tt)))
@@ -241,7 +240,7 @@ module _ {M : Type 1} (𝓤 : URA M) (H : Heap 𝓤) (A : Atoms 𝓤) (W : Given
       (walk 𝓤 H A W mem run (κs .0) (qs .0) (a .0 .ptr .0) (a .0 .ptr .1) (a .0 .name) (a .0 .now) (a .1 .0) (are .0 .0 .1) (are .1 .0 .1) 𝓣 (fmOf 𝓤 H (W .laws) 𝓣) known-begin known))
 
 tally-meets : {M : Type 1} (𝓤 : URA M) (H : Heap 𝓤) (A : Atoms 𝓤) → Given 𝓤 H A → (mem : Memory → SProp 𝓤) (run : Routine → Fun 𝓤) (𝓣 : Tables 𝓤 H)
-    → Triple 𝓤 (𝓣 .C #spelling·tally·begin) (Begin 𝓤 H A mem run) → Triple 𝓤 (𝓣 .C #alleles·write·count-one) (CountOne 𝓤 H A mem run)
+    → Triple 𝓤 (𝓣 .C #spelling·tally·begin) (Begin 𝓤 H A mem run) → Triple 𝓤 (𝓣 .C #spelling·tally·add) (Add 𝓤 H A mem run)
     → Meets 𝓤 H A tally.signature (WpFn 𝓤 H (𝓣 .C) (𝓣 .Λ) code.function) (tally.spec 𝓤 H A mem run)
 tally-meets 𝓤 H A W mem run 𝓣 known-begin known =
     walk-meets 𝓤 H A tally.ended stayed W (goes-dropped 𝓤 H A W 1 (shrSliceOf (0 ∷ []) tt (plain (λ _. R))) yes (λ κs x f. refl), (goes-dropped 𝓤 H A W 1 (plain (λ _. usize)) yes (λ κs x f. refl), tt)) (tally.clauses 𝓤 H A mem run)
@@ -254,4 +253,4 @@ tally-row-spec 𝓤 H 𝓜 𝓖 𝓡 =
     (tables 𝓤 H 𝓜 𝓡 code.env .C) (tables 𝓤 H 𝓜 𝓡 code.env .Λ) #alleles·write·tally-row code.function (code.unfolded 𝓤 H 𝓜 𝓡)
     (tally-meets 𝓤 H (𝓖 .A) (givenOf 𝓤 H 𝓜 𝓖) (𝓜 .mem) (𝓡 .run) (tablesOf 𝓤 H 𝓜 (tables 𝓤 H 𝓜 𝓡 code.env))
     (cited 𝓤 H (Begin 𝓤 H (𝓖 .A) (𝓜 .mem) (𝓡 .run)) 𝓜 𝓡 code.env #spelling·tally·begin begin-def.routine code.calls-spelling·tally·begin (begin-thm.met 𝓤 H 𝓜 𝓖 𝓡))
-    (cited 𝓤 H (CountOne 𝓤 H (𝓖 .A) (𝓜 .mem) (𝓡 .run)) 𝓜 𝓡 code.env #alleles·write·count-one one-def.routine code.calls-alleles·write·count-one (one-thm.met 𝓤 H 𝓜 𝓖 𝓡)))
+    (cited 𝓤 H (Add 𝓤 H (𝓖 .A) (𝓜 .mem) (𝓡 .run)) 𝓜 𝓡 code.env #spelling·tally·add add-def.routine code.calls-spelling·tally·add (add-thm.met 𝓤 H 𝓜 𝓖 𝓡)))
