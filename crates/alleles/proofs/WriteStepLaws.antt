@@ -6,14 +6,11 @@ use mathlib.Core.List.{List}
 use native.Mathlib.Omega.{arith}
 use mir.Syntax.{w64}
 use mir.Val.{Fits}
-use lib.ListN.{length}
 use lib.Dec.{eqb}
 use borrow.Author.Tests.{eq-eqb, ne-eqb, not-true, not-false}
-use Rattle.text.specs.Pick.{pick}
-use Rattle.text.specs.Over.{overAt}
 use Rattle.genotype.specs.declared.allele.Allele.{Allele}
 use Rattle.spelling.specs.Spelling.{alleleText}
-use Rattle.spelling.specs.Put.{fitsAt, PutsAt}
+use Rattle.spelling.specs.Put.{PutsAt}
 use Rattle.spelling.specs.Tally.{planOf}
 use Rattle.spelling.specs.declared.tally.Tally.{Tally}
 use Rattle.spelling.specs.declared.tally.Plan.{Plan}
@@ -22,7 +19,7 @@ use Rattle.spelling.specs.declared.write.Write.{Write}
 use Rattle.spelling.specs.declared.write.Write.the-variants as W
 use Rattle.spelling.proofs.TallySteps.{marked-room}
 use Rattle.alleles.specs.Decide.{refusal, planned, decided}
-use Rattle.alleles.specs.Put.{Wrote, putText, putOne}
+use Rattle.alleles.specs.Put.{putText, putOne}
 use Rattle.alleles.specs.declared.write.Decision.{Decision}
 
 -- ---- the decision
@@ -68,21 +65,7 @@ module _ (t : Tally) (count : ℕ) (late : Bool) (room : ℕ) {taken : ℕ} {x :
 module _ {vs : List ℕ} {at : ℕ} {l : List ℕ} {r : ℕ} {l′ : List ℕ} (w : PutsAt vs at l r l′) where
   put-text : (r ≡ putText l at vs .next) × (l′ ≡ putText l at vs .out)
   unfolding putText
-  put-text = (w .place ∙ next (fitsAt vs at l), w .bytes ∙ out (fitsAt vs at l))
-    where
-      one : Wrote
-      one = record { next = at + length vs; out = overAt at vs l }
-
-      none : Wrote
-      none = record { next = at; out = l }
-
-      next : (b : Bool) → pick b (at + length vs) at ≡ pick b one none .next
-      next true = refl
-      next false = refl
-
-      out : (b : Bool) → pick b (overAt at vs l) l ≡ pick b one none .out
-      out true = refl
-      out false = refl
+  put-text = (w .place, w .bytes)
 
 module _ (l : List ℕ) (at : ℕ) (a : Allele) (d : Decision) (i : ℕ) where
   pub put-not : not (d .write) ≡ true → (at ≡ putOne l at a d i .next) × (l ≡ putOne l at a d i .out)

@@ -2,13 +2,11 @@
 use Prim.Native.Nat.{ℕ, _+_}
 use mathlib.Core.Bool.{_&&_}
 use mathlib.Core.List.{List, [], _∷_}
-use lib.ListN.{length}
 use lib.Dec.{eqb}
 use Rattle.text.specs.Pick.{pick}
-use Rattle.text.specs.Over.{overAt}
 use Rattle.genotype.specs.declared.allele.Allele.{Allele}
 use Rattle.spelling.specs.Spelling.{alleleText}
-use Rattle.spelling.specs.Put.{fitsAt}
+use Rattle.spelling.specs.Put.{placeAfter, bytesAfter}
 use Rattle.alleles.specs.declared.write.Decision.{Decision}
 
 -- the place past what was put, and the output
@@ -17,7 +15,7 @@ pub record Wrote : Type 0 where
   pub out : List ℕ
 
 unfoldable pub putText : List ℕ → ℕ → List ℕ → Wrote
-putText out at vs = pick (fitsAt vs at out) (record { next = at + length vs; out = overAt at vs out }) (record { next = at; out = out })
+putText out at vs = record { next = placeAfter vs at out; out = bytesAfter vs at out }
 
 -- the first without its mark where the decision says so
 unfoldable pub putOne : List ℕ → ℕ → Allele → Decision → ℕ → Wrote

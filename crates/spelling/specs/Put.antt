@@ -12,6 +12,12 @@ unfoldable pub fitsAt : List ℕ → ℕ → List ℕ → Bool
 fitsAt vs at l = leb (at + length vs) (length l)
 
 -- the place past it, or the place where it does not fit
+abbrev pub placeAfter : List ℕ → ℕ → List ℕ → ℕ
+placeAfter vs at l = pick (fitsAt vs at l) (at + length vs) at
+
+abbrev pub bytesAfter : List ℕ → ℕ → List ℕ → List ℕ
+bytesAfter vs at l = pick (fitsAt vs at l) (overAt at vs l) l
+
 pub record PutsAt (vs : List ℕ) (at : ℕ) (l : List ℕ) (r : ℕ) (l′ : List ℕ) : Type 0 where
-  pub place : r ≡ pick (fitsAt vs at l) (at + length vs) at
-  pub bytes : l′ ≡ pick (fitsAt vs at l) (overAt at vs l) l
+  pub place : r ≡ placeAfter vs at l
+  pub bytes : l′ ≡ bytesAfter vs at l
