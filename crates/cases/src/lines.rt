@@ -1,4 +1,4 @@
-// The verbs of the crate line.
+// The verbs of the crates line and fields.
 use crate::output::Answer;
 use crate::output::Buffer;
 use crate::output::Place;
@@ -17,13 +17,13 @@ use crate::words::index_in;
 use crate::words::number;
 use crate::words::word;
 use decimal::read::Number;
-use line::fields;
-use line::fields::Name;
-use line::fields::field;
-use line::fields::place_in;
-use line::fields::place_of;
-use line::pos::Position;
-use line::pos::read_pos;
+use fields::field;
+use fields::field::field;
+use fields::field::place_in;
+use fields::pos::Position;
+use fields::pos::read_pos;
+use line::place::Name;
+use line::place::place_of;
 use line::read::Read;
 use line::read::Record;
 use line::read::read_line;
@@ -182,16 +182,16 @@ fn place(s: &[u8], start: usize, len: usize, out: &mut Buffer, at: Place) -> Pla
 }
 
 // What a field's text is.
-fn put_text(found: fields::Text, out: &mut Buffer, at: Place) -> Place {
+fn put_text(found: field::Text, out: &mut Buffer, at: Place) -> Place {
     match found {
-        fields::Text::At(range) => {
+        field::Text::At(range) => {
             let next = put_number(out, at, 0);
             then_range(out, next, range)
         }
-        fields::Text::Absent => {
+        field::Text::Absent => {
             let next = put_number(out, at, 0);
             then_bytes(out, next, b"absent")
         }
-        fields::Text::Beyond => put_number(out, at, 6),
+        field::Text::Beyond => put_number(out, at, 6),
     }
 }

@@ -11,7 +11,7 @@ use Rattle.decimal.specs.Decimal as D
 use Rattle.decimal.specs.Shortest.{shortest}
 use Rattle.pieces.specs.Block as K
 use Rattle.pieces.specs.Pieces as C
-use Rattle.line.specs.Pos as L
+use Rattle.fields.specs.Pos as L
 use Rattle.lists.specs.Judge as J
 use Rattle.lists.specs.Write as F
 use Rattle.genotype.specs.Reading as R

@@ -10,7 +10,7 @@ use mathlib.Core.List.{List, [], _∷_, map}
 use lib.ListN.{length}
 use Rattle.text.specs.Answer.{Answer, says}
 use Rattle.text.specs.Range.{cut}
-use Rattle.line.specs.Pos.{posAnswer}
+use Rattle.fields.specs.Pos.{posAnswer}
 use Rattle.lists.specs.Judge.{entryAnswer}
 use Rattle.lists.specs.Write.{listText, entriesAnswer}
 use Rattle.lists.specs.declared.write.Kind.the-variants as K

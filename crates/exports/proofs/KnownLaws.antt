@@ -5,12 +5,12 @@ use mathlib.Core.List.{List, [], _∷_}
 use Rattle.text.specs.Answer.{says}
 use Rattle.text.specs.declared.range.Range.{Range}
 use Rattle.text.specs.Pick.{oneIf}
-use Rattle.line.specs.Fields.{rangeOf}
+use Rattle.line.specs.Place.{rangeOf}
 use Rattle.line.specs.Paper.{readPaper}
 use Rattle.line.specs.declared.read.Record.{Record}
 use Rattle.line.specs.declared.read.Read.{Read}
 use Rattle.line.specs.declared.read.Read.the-variants as R
-use Rattle.line.specs.declared.fields.Name.the-variants as N
+use Rattle.line.specs.declared.place.Name.the-variants as N
 use Rattle.line.proofs.CaseLaws as L
 use Rattle.info.specs.Paper as IP
 use Rattle.info.specs.declared.step.Entry.{Entry}

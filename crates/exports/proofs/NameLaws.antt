@@ -7,9 +7,9 @@ use native.Mathlib.Omega.{arith}
 use borrow.Author.Tests.{le-leb, lt-leb}
 use Rattle.text.specs.Answer.{Answer, says}
 use Rattle.text.specs.declared.range.Range.{Range}
-use Rattle.line.specs.Fields.{textAnswer}
-use Rattle.line.specs.declared.fields.Name.{Name}
-use Rattle.line.specs.declared.fields.Name.the-variants as N
+use Rattle.line.specs.declared.place.Name.{Name}
+use Rattle.line.specs.declared.place.Name.the-variants as N
+use Rattle.fields.specs.Fields.{textAnswer}
 use Rattle.exports.specs.Told.{Tells}
 use Rattle.exports.specs.Places.{names, nameOf, namedAnswer}
 

@@ -6,9 +6,9 @@ use lib.Dec.{leb}
 use Rattle.text.specs.Pick.{pick}
 use Rattle.text.specs.Answer.{Answer, says}
 use Rattle.text.specs.declared.range.Range.{Range}
-use Rattle.line.specs.Fields.{textAnswer}
-use Rattle.line.specs.declared.fields.Name.{Name}
-use Rattle.line.specs.declared.fields.Name.the-variants as N
+use Rattle.line.specs.declared.place.Name.{Name}
+use Rattle.line.specs.declared.place.Name.the-variants as N
+use Rattle.fields.specs.Fields.{textAnswer}
 
 -- the fields, in the order of a line's columns; the samples come after them
 abbrev pub names : List Name

@@ -3,17 +3,12 @@ use Prim.Native.Nat.{ℕ}
 use mathlib.Core.Path.{_≡_}
 use mathlib.Core.List.{[], _∷_}
 use Rattle.text.specs.Answer.{says}
-use Rattle.text.specs.declared.range.Range.{Range}
-use Rattle.line.specs.Fields.{rangeOf}
-use Rattle.line.specs.Paper.{recordPlaces, readPaper, fieldPaper, positionPaper}
+use Rattle.line.specs.Place.{rangeOf}
+use Rattle.line.specs.Paper.{recordPlaces, readPaper}
 use Rattle.line.specs.declared.read.Record.{Record}
 use Rattle.line.specs.declared.read.Read.{Read}
 use Rattle.line.specs.declared.read.Read.the-variants as R
-use Rattle.line.specs.declared.fields.Name.the-variants as N
-use Rattle.line.specs.declared.fields.Text.{Text}
-use Rattle.line.specs.declared.fields.Text.the-variants as F
-use Rattle.line.specs.declared.pos.Position.{Position}
-use Rattle.line.specs.declared.pos.Position.the-variants as P
+use Rattle.line.specs.declared.place.Name.the-variants as N
 
 module _ {x : Read} where
   pub read-record : {r : Record} {next : ℕ} → x ≡ R.Line r next → readPaper x ≡ says 0 (next ∷ recordPlaces r)
@@ -49,30 +44,4 @@ module _ {x : Read} where
   unfolding readPaper
   read-beyond e = rw e
 
-module _ {x : Text} where
-  pub text-at : {r : Range} → x ≡ F.At r → fieldPaper x ≡ says 0 (r .start ∷ r .len ∷ [])
-  unfolding fieldPaper
-  text-at e = rw e
-
-  pub text-absent : x ≡ F.Absent → fieldPaper x ≡ says 0 []
-  unfolding fieldPaper
-  text-absent e = rw e
-
-  pub text-beyond : x ≡ F.Beyond → fieldPaper x ≡ says 6 []
-  unfolding fieldPaper
-  text-beyond e = rw e
-
-module _ {x : Position} where
-  pub position-at : {n : ℕ} → x ≡ P.At n → positionPaper x ≡ says 0 (n ∷ [])
-  unfolding positionPaper
-  position-at e = rw e
-
-  pub position-nowhere : x ≡ P.Nowhere → positionPaper x ≡ says 0 []
-  unfolding positionPaper
-  position-nowhere e = rw e
-
-  pub position-bad : x ≡ P.Bad → positionPaper x ≡ says 21 []
-  unfolding positionPaper
-  position-bad e = rw e
-
-pub ruleset cases = (read-line, read-end, read-empty, read-fed, read-cut, read-broken, read-beyond, text-at, text-absent, text-beyond, position-at, position-nowhere, position-bad)
+pub ruleset cases = (read-line, read-end, read-empty, read-fed, read-cut, read-broken, read-beyond)

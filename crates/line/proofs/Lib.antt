@@ -4,8 +4,6 @@ pub mod ReadLaws
 pub mod PlaceLaws
 pub mod AnswerLaws
 pub mod MarkLaws
-pub mod PosLaws
-pub mod FieldLaws
 pub mod Exact
 pub mod One
 pub mod WindowLaws

@@ -1,37 +1,29 @@
 -- A record that was read has the places of its line's good columns; as none of them is empty, each lies in the buffer. Assumes nothing.
 use Prim.Native.Nat.{ℕ, zero, suc, _+_, _*_, _<_, _≤_, suc-le-suc}
 use mathlib.Core.Path.{_≡_, refl, sym, ap, _∙_}
-use mathlib.Core.Bool.{Bool, true, false}
 use mathlib.Core.Logic.{_⊎_, ⊎-elim}
 use mathlib.Core.List.{List, [], _∷_, _++_}
 use native.Mathlib.Omega.{arith}
 use lib.ListN.{length, getD, drop, length-drop, length-take, length-append, drop-of-length-le, List·getD-append}
 use lib.Seq.{getD-drop}
 use borrow.Author.Tests.{eq-eqb, ne-eqb}
-use Rattle.text.specs.Pick.{pick}
 use Rattle.text.specs.Answer.{says}
 use Rattle.text.specs.Range.{cut}
 use Rattle.text.specs.declared.range.Range.{Range}
-use Rattle.text.specs.Same.{same}
 use Rattle.text.proofs.Lists.{cut-is}
-use Rattle.text.proofs.SameLaws.{same-is, same-other}
 use Rattle.pieces.specs.Pieces.{split, pieces, joined}
 use Rattle.pieces.specs.Demands.{Free}
 use Rattle.pieces.proofs.PieceLaws.{split-joined, split-free, split-back, joined-none, joined-one, joined-more, pieces-none, pieces-some}
 use Rattle.line.specs.Line.{Ending, endingBytes, Line, line, lineOf, columnPlaces, leadingPlaces, fieldPlaces, lineAnswer, readAnswer}
-use Rattle.line.specs.Fields.{rangeOf, fieldAnswer}
-use Rattle.line.specs.Paper.{recordPlaces, fieldPaper}
+use Rattle.line.specs.Place.{rangeOf}
+use Rattle.line.specs.Paper.{recordPlaces}
 use Rattle.line.specs.Demands.{fieldOf, Refuses, CutsOut}
 use Rattle.line.specs.declared.read.Record.{Record}
-use Rattle.line.specs.declared.fields.Name.the-variants as N
-use Rattle.line.specs.declared.fields.Text.{Text}
-use Rattle.line.specs.declared.fields.Text.the-variants as F
+use Rattle.line.specs.declared.place.Name.the-variants as N
 use Rattle.line.proofs.ColumnLaws.{line-whole}
 use Rattle.line.proofs.LineLaws.{read-line}
-use Rattle.line.proofs.FieldLaws.{fits-within, info, dot-empty, field-stands}
 use Rattle.line.proofs.Exact.{Good, good-read, read-good}
 use Rattle.line.proofs.One.{column-leading, column-length, zero-within, cuts-out}
-use Rattle.line.proofs.Determined.{field-paper-injective}
 
 -- ---- the lengths of places
 
@@ -154,7 +146,7 @@ module _ {s : List ℕ} {at : ℕ} {r : Record} (g : Recorded s at r) where
       omega arith
 
   -- INFO is column 7
-  info-lies : Lies s (rangeOf r N.Info) (getD (split 9 (g .text)) 7 [])
+  pub info-lies : Lies s (rangeOf r N.Info) (getD (split 9 (g .text)) 7 [])
   unfolding rangeOf recordPlaces fieldOf
   info-lies =
       let n = eight in
@@ -207,36 +199,3 @@ module _ {s : List ℕ} {at : ℕ} {r : Record} (g : Recorded s at r) where
       let t = ap length (split-joined 9 (g .text)) in
       let e = ends in
       omega arith
-
--- ---- the text of INFO
-
--- the column, or the empty text where it is a `.`
-abbrev pub InfoTells : List ℕ → List ℕ → Text → Type 0
-InfoTells s c (F.At x) = Lies s x (pick (same c (46 ∷ [])) [] c)
-InfoTells s c F.Absent = ⊥
-InfoTells s c F.Beyond = ⊥
-
-pub info-tells : {s : List ℕ} {at : ℕ} {r : Record} (g : Recorded s at r) (x : Text) → fieldPaper x ≡ fieldAnswer s r N.Info
-    → InfoTells s (getD (split 9 (g .text)) 7 []) x
-unfolding fieldPaper
-info-tells {s} {at} {r} g x e = by (same c (46 ∷ [])) refl
-  where
-    c : List ℕ
-    c = getD (split 9 (g .text)) 7 []
-
-    i : Lies s (rangeOf r N.Info) c
-    i = info-lies g
-
-    is : (y : Range) → fieldAnswer s r N.Info ≡ says 0 (y .start ∷ y .len ∷ []) → Lies s y (pick (same c (46 ∷ [])) [] c) → InfoTells s c x
-    is y f l = rw (field-paper-injective x (F.At y) (e ∙ f)) l
-
-    by : (t : Bool) → same c (46 ∷ []) ≡ t → InfoTells s c x
-    by true t =
-        let h = i .fits in
-        is (record { start = rangeOf r N.Info .start + rangeOf r N.Info .len; len = 0 })
-        (dot-empty s r info (fits-within s (rangeOf r N.Info) h) (i .text ∙ same-is c (46 ∷ []) t))
-        (rw t (record { fits = omega arith; text = cut-is (rangeOf r N.Info .start + rangeOf r N.Info .len) 0 s }))
-    by false t =
-        is (rangeOf r N.Info)
-        (field-stands s r N.Info (fits-within s (rangeOf r N.Info) (i .fits)) (λ d. same-other c (46 ∷ []) t (sym (i .text) ∙ d)))
-        (rw t i)

@@ -1,6 +1,5 @@
 pub mod Line
-pub mod Pos
-pub mod Fields
+pub mod Place
 pub mod Paper
 pub mod Inner
 pub mod Demands

@@ -1,4 +1,3 @@
-// One line of VCF: its reader, and the text of each of its fields.
-pub mod fields;
-pub mod pos;
+// One line of VCF: its reader, and the place of each of its fields.
+pub mod place;
 pub mod read;

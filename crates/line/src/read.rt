@@ -13,7 +13,7 @@ ghost use Rattle.line.specs.Line.{required, lineOf, fieldPlaces, lineAns
 ghost use Rattle.line.specs.Paper.{recordPlaces, readPaper};
 ghost use Rattle.line.specs.Inner.{StopsAt, Stopped, Clear, TextEnd, judgementOf, judgedPaper, Unset, Marks, Spans, Rising, sevenPlaces, Told, InOrder};
 
-// The places of a line's ten fields. Others ask for them by `fields`.
+// The places of a line's ten fields. Others ask for them by `place_of`.
 pub struct Record {
     pub(crate) chrom: Range,
     pub(crate) pos: Range,

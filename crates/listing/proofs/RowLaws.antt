@@ -13,17 +13,20 @@ use Rattle.text.specs.declared.range.Range.{Range}
 use Rattle.text.proofs.Lists.{cut-is}
 use Rattle.pieces.specs.Pieces.{split}
 use Rattle.line.specs.Line.{lineOf, readAnswer}
-use Rattle.line.specs.Fields.{rangeOf, fieldAnswer}
-use Rattle.line.specs.Paper.{readPaper, fieldPaper}
+use Rattle.line.specs.Place.{rangeOf}
+use Rattle.line.specs.Paper.{readPaper}
 use Rattle.line.specs.declared.read.Record.{Record}
 use Rattle.line.specs.declared.read.Read.{Read}
 use Rattle.line.specs.declared.read.Read.the-variants as R
-use Rattle.line.specs.declared.fields.Name.the-variants as N
-use Rattle.line.specs.declared.fields.Text.{Text}
-use Rattle.line.specs.declared.fields.Text.the-variants as F
+use Rattle.line.specs.declared.place.Name.the-variants as N
 use Rattle.line.proofs.CaseLaws.{read-record, read-end, read-empty, read-fed, read-cut, read-broken, read-beyond}
-use Rattle.line.proofs.RecordLaws.{Recorded, recorded, Lies, samples-lie, samples-back, columns-within, info-tells}
+use Rattle.line.proofs.RecordLaws.{Recorded, recorded, Lies, samples-lie, samples-back, columns-within}
 use Rattle.line.proofs.MovesOn.{six-beyond}
+use Rattle.fields.specs.Fields.{fieldAnswer}
+use Rattle.fields.specs.Paper.{fieldPaper}
+use Rattle.fields.specs.declared.field.Text.{Text}
+use Rattle.fields.specs.declared.field.Text.the-variants as F
+use Rattle.fields.proofs.RecordLaws.{info-tells}
 use Rattle.info.specs.Info.{infoCount}
 use Rattle.samples.specs.Samples.{samplesOf}
 use Rattle.samples.proofs.Demands.{listed}

@@ -1,9 +1,9 @@
 // One turn over a window of the input: at most one line is read, or passed over.
+use fields::field::Text;
+use fields::field::field;
 use info::count::count as count_infos;
-use line::fields::Name;
-use line::fields::Text;
-use line::fields::field;
-use line::fields::place_of;
+use line::place::Name;
+use line::place::place_of;
 use line::read::Read;
 use line::read::Record;
 use line::read::read_line;

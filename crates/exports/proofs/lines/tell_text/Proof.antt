@@ -1,6 +1,6 @@
 -- Each arm tells what its answer says on paper. Assumes nothing.
 use borrow.Author.Needs.{needs}
-use Rattle.line.proofs.CaseLaws.{cases}
+use Rattle.fields.proofs.CaseLaws.{cases}
 use Rattle.exports.proofs.ToldLaws.{arms}
 use Rattle.exports.proofs.lines.tell_text.Statement.{statement}
 use Rattle.exports.proofs.lines.tell_text.Tie as tie

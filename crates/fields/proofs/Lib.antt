@@ -1,0 +1,5 @@
+pub mod PosLaws
+pub mod FieldLaws
+pub mod Determined
+pub mod RecordLaws
+pub mod CaseLaws

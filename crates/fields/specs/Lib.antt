@@ -1,0 +1,3 @@
+pub mod Pos
+pub mod Fields
+pub mod Paper

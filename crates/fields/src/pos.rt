@@ -1,0 +1,33 @@
+// POS: a position from 1 on, or none.
+use decimal::read::Number;
+use decimal::read::read_decimal;
+ghost use mathlib.Core.Path.{_≡_};
+ghost use Rattle.fields.specs.Pos.{posAnswer};
+ghost use Rattle.fields.specs.Paper.{positionPaper};
+
+// What a POS text says.
+pub enum Position {
+    // 0: a position.
+    At(u64),
+    // 0: none, `0`.
+    Nowhere,
+    // 21: it is bad.
+    Bad,
+}
+
+// Reads a POS text.
+pub fn read_pos(s: &[u8]) -> Position
+    ensures { λ r. ⌜ positionPaper r ≡ posAnswer (now (s .entry)) ⌝ }
+{
+    let read = read_decimal(s);
+    let Number::Value(n) = read else {
+        return Position::Bad;
+    };
+    if n > 0 {
+        return Position::At(n);
+    }
+    if s.len() == 1 {
+        return Position::Nowhere;
+    }
+    Position::Bad
+}
