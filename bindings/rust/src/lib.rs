@@ -38,6 +38,7 @@ pub mod alleles;
 pub mod decimal;
 #[allow(unsafe_code)]
 mod ffi;
+pub mod fields;
 pub mod genotype;
 pub mod info;
 pub mod join;

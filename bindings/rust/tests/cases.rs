@@ -10,7 +10,9 @@ use std::fs;
 use std::path::Path;
 
 use bruncadorza::text::Range;
-use bruncadorza::{alleles, decimal, genotype, info, join, line, lists, samples, spelling, text};
+use bruncadorza::{
+    alleles, decimal, fields, genotype, info, join, line, lists, samples, spelling, text,
+};
 use genotype::Allele;
 
 /// Every verb that a case can have.
@@ -345,15 +347,15 @@ fn field(name: &str, s: &[u8], at: usize) -> String {
 
 fn place(s: &[u8], start: usize, len: usize) -> String {
     let range = Range { start, len };
-    let found = line::place_in(s, range);
-    assert_eq!(found, line::text_in(s, line::Name::Chrom, range));
+    let found = fields::place_in(s, range);
+    assert_eq!(found, fields::text_in(s, line::Name::Chrom, range));
     match found {
-        line::Text::At(place) => {
+        fields::Text::At(place) => {
             assert_eq!(range.of(s).map(<[u8]>::len), Some(len));
             format!("{} {}", found.number(), at_place(place))
         }
-        line::Text::Absent => "0 absent".to_string(),
-        line::Text::Beyond => {
+        fields::Text::Absent => "0 absent".to_string(),
+        fields::Text::Beyond => {
             assert_eq!(range.of(s), None);
             said(found.number(), None)
         }
@@ -361,11 +363,11 @@ fn place(s: &[u8], start: usize, len: usize) -> String {
 }
 
 fn pos(s: &[u8]) -> String {
-    let read = line::read_pos(s);
+    let read = fields::read_pos(s);
     match read {
-        line::Position::At(n) => format!("{} {n}", read.number()),
-        line::Position::Nowhere => format!("{} none", read.number()),
-        line::Position::Bad => said(read.number(), None),
+        fields::Position::At(n) => format!("{} {n}", read.number()),
+        fields::Position::Nowhere => format!("{} none", read.number()),
+        fields::Position::Bad => said(read.number(), None),
     }
 }
 
