@@ -11,6 +11,5 @@ pub mod Impostors
 pub mod TurnLaws
 pub mod RowLaws
 pub mod KeepLaws
-pub mod PrintLaws
+pub mod CaseLaws
 pub mod Determined
-pub mod Totals

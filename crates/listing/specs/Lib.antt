@@ -1,5 +1,4 @@
 pub mod Listing
-pub mod Output
 pub mod Turn
 pub mod Kept
 pub mod Paper

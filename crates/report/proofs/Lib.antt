@@ -1,0 +1,3 @@
+pub mod PrintLaws
+pub mod Determined
+pub mod Totals

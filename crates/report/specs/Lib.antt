@@ -1,0 +1,4 @@
+pub mod Output
+pub mod Paper
+pub mod Inner
+pub mod Demands

@@ -1,0 +1,2 @@
+// The lines that vcflist prints, and what its last line counts.
+pub mod print;
