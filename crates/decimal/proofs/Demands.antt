@@ -14,7 +14,8 @@ use Rattle.decimal.specs.Shortest.{shortest}
 use Rattle.decimal.specs.Demands.{Digits, Decimal, bare, signed, ReadsDecimals, PassesZeros, ReadsBack, NoneShorter}
 use Rattle.text.proofs.Lists.{by-snoc}
 use Rattle.decimal.proofs.Digits.{digit-range, digits-snoc, worth-snoc}
-use Rattle.decimal.proofs.Shortest.{length-some, length-bound, shortest-digits-only, shortest-worth, lastDigits, shortest-last}
+use Rattle.decimal.proofs.Shortest.{length-bound, lastDigits, shortest-last}
+use Rattle.decimal.proofs.Lead.{shortest-plain}
 use Rattle.decimal.proofs.Value.{value-decimal, digits-value, decimal-value}
 
 pub reads-decimals : ReadsDecimals valueOf
@@ -30,7 +31,7 @@ unfolding PassesZeros valueOf
 passes-zeros b s h = rw (ne-eqb b 43 h) (zero-first b s)
 
 pub reads-back : ReadsBack shortest valueOf
-reads-back n h = digits-value (shortest n) (record { one = length-some n; digits = shortest-digits-only n; value = shortest-worth n; fits = h })
+reads-back n h = digits-value (shortest n) (shortest-plain n .spelled) h
 
 -- ---- digits, from their last
 
@@ -73,7 +74,7 @@ pub none-shorter : NoneShorter shortest valueOf
 none-shorter n t e d = by (value-decimal t n e) d
   where
     by : {t : List ℕ} → Decimal t n → (t ≡ shortest n → ⊥) → length (shortest n) < length t
-    by (bare {s} g) d =
+    by (bare {s} g b) d =
         let l = least g in
         elim (decLt (length (shortest n)) (length s)) [ yes h ↦ h | no h ↦ absurd (d (only g (omega arith))) ]
-    by (signed g) d = let l = least g in omega arith
+    by (signed g b) d = let l = least g in omega arith

@@ -16,16 +16,17 @@ use Rattle.decimal.proofs.Digits.{digit-range, digits-cons}
 
 -- ---- a text with a value is digits, or '+' and digits
 
-digits-are : (s : List ℕ) (n : ℕ) → digitsValue s ≡ some n → Digits s n
+digits-are : (s : List ℕ) (n : ℕ) → digitsValue s ≡ some n → Digits s n × (n ≤ 18446744073709551615)
 unfolding digitsValue
 digits-are [] n e = let z : _≡_ {A = ℕ} 0 1 = cc in absurd (omega arith)
 digits-are (b ∷ s) n e = by (allDigits (b ∷ s) && leb (worth (b ∷ s)) 18446744073709551615) refl e
   where
-    by : (t : Bool) → (allDigits (b ∷ s) && leb (worth (b ∷ s)) 18446744073709551615) ≡ t → pick t (some (worth (b ∷ s))) none ≡ some n → Digits (b ∷ s) n
+    by : (t : Bool) → (allDigits (b ∷ s) && leb (worth (b ∷ s)) 18446744073709551615) ≡ t → pick t (some (worth (b ∷ s))) none ≡ some n
+        → Digits (b ∷ s) n × (n ≤ 18446744073709551615)
     by true h e =
         let g = and-eq-true-iff (allDigits (b ∷ s)) (leb (worth (b ∷ s)) 18446744073709551615) .0 h in
         let v : worth (b ∷ s) ≡ n = cc in
-        record { one = omega arith; digits = g .0; value = v; fits = rw v at (leb-true (worth (b ∷ s)) 18446744073709551615 (g .1)) }
+        (record { one = omega arith; digits = g .0; value = v }, rw v at (leb-true (worth (b ∷ s)) 18446744073709551615 (g .1)))
     by false h e = let z : _≡_ {A = ℕ} 0 1 = cc in absurd (omega arith)
 
 pub value-decimal : (t : List ℕ) (n : ℕ) → valueOf t ≡ some n → Decimal t n
@@ -34,34 +35,34 @@ value-decimal [] n e = let z : _≡_ {A = ℕ} 0 1 = cc in absurd (omega arith)
 value-decimal (b ∷ s) n e = by (eqb b 43) refl e
   where
     by : (t : Bool) → eqb b 43 ≡ t → pick t (digitsValue s) (digitsValue (b ∷ s)) ≡ some n → Decimal (b ∷ s) n
-    by true h e = rw (eqb-true b 43 h) (signed (digits-are s n e))
-    by false h e = bare (digits-are (b ∷ s) n e)
+    by true h e = let g = digits-are s n e in rw (eqb-true b 43 h) (signed (g .0) (g .1))
+    by false h e = let g = digits-are (b ∷ s) n e in bare (g .0) (g .1)
 
-digits-told : (s : List ℕ) {n : ℕ} → Digits s n → digitsValue s ≡ some n
+digits-told : (s : List ℕ) {n : ℕ} → Digits s n → n ≤ 18446744073709551615 → digitsValue s ≡ some n
 unfolding digitsValue
-digits-told [] g = absurd (omega arith)
-digits-told (b ∷ s) g =
-    let w : worth (b ∷ s) ≤ 18446744073709551615 = rw (g .value) (g .fits) in
+digits-told [] g h = absurd (omega arith)
+digits-told (b ∷ s) g h =
+    let w : worth (b ∷ s) ≤ 18446744073709551615 = rw (g .value) h in
     rw (g .digits, le-leb _ _ w) (ap some (g .value))
 
-pub digits-value : (s : List ℕ) {n : ℕ} → Digits s n → valueOf s ≡ some n
+pub digits-value : (s : List ℕ) {n : ℕ} → Digits s n → n ≤ 18446744073709551615 → valueOf s ≡ some n
 unfolding valueOf
-digits-value [] g = absurd (omega arith)
-digits-value (b ∷ s) g =
+digits-value [] g h = absurd (omega arith)
+digits-value (b ∷ s) g h =
     let r = digit-range b ((digits-cons b s (g .digits)) .0) in
-    rw (ne-eqb b 43 (λ q. absurd (omega arith))) (digits-told (b ∷ s) g)
+    rw (ne-eqb b 43 (λ q. absurd (omega arith))) (digits-told (b ∷ s) g h)
 
 pub decimal-value : (t : List ℕ) {n : ℕ} → Decimal t n → valueOf t ≡ some n
 unfolding valueOf
-decimal-value t (bare g) = digits-value t g
-decimal-value t (signed {s} g) = digits-told s g
+decimal-value t (bare g h) = digits-value t g h
+decimal-value t (signed {s} g h) = digits-told s g h
 
 pub value-bound : (t : List ℕ) (n : ℕ) → valueOf t ≡ some n → n ≤ 18446744073709551615
 value-bound t n e = by (value-decimal t n e)
   where
     by : {t : List ℕ} → Decimal t n → n ≤ 18446744073709551615
-    by (bare g) = g .fits
-    by (signed g) = g .fits
+    by (bare g h) = h
+    by (signed g h) = h
 
 -- ---- the answer, read back
 

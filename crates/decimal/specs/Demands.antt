@@ -5,20 +5,24 @@ use mathlib.Core.Bool.{true}
 use mathlib.Core.Logic.{_↔_}
 use mathlib.Core.List.{List, _∷_}
 use mathlib.Core.Option.{Option, some}
-use lib.ListN.{length}
+use lib.ListN.{length, getD}
 use Rattle.decimal.specs.Decimal.{allDigits, worth}
 
--- one digit or more, worth n, which is not too much
+-- one digit or more, worth n
 pub record Digits (s : List ℕ) (n : ℕ) : Type 0 where
   pub one : 0 < length s
   pub digits : allDigits s ≡ true
   pub value : worth s ≡ n
-  pub fits : n ≤ 18446744073709551615
 
--- such digits, or '+' and such digits
+-- such digits, or '+' and such digits, worth not too much
 pub data Decimal : List ℕ → ℕ → Type 0 where
-  bare : {s : List ℕ} {n : ℕ} → Digits s n → Decimal s n
-  signed : {s : List ℕ} {n : ℕ} → Digits s n → Decimal (43 ∷ s) n
+  bare : {s : List ℕ} {n : ℕ} → Digits s n → n ≤ 18446744073709551615 → Decimal s n
+  signed : {s : List ℕ} {n : ℕ} → Digits s n → n ≤ 18446744073709551615 → Decimal (43 ∷ s) n
+
+-- such digits without leading zeros: the first of several is not '0'
+pub record Plain (s : List ℕ) (n : ℕ) : Type 0 where
+  pub spelled : Digits s n
+  pub lead : 1 < length s → getD s 0 0 ≡ 48 → ⊥
 
 -- the reader gives n exactly for the texts that are a decimal worth n
 unfoldable pub ReadsDecimals : (List ℕ → Option ℕ) → Type 0

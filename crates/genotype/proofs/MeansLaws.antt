@@ -21,7 +21,7 @@ use Rattle.decimal.proofs.Value.{value-decimal, decimal-value}
 use Rattle.pieces.specs.Pieces.{lacks}
 use Rattle.pieces.proofs.CountLaws.{lacks-none, lacks-here, lacks-other}
 use Rattle.genotype.specs.Reading.{isMark, headOf, markedPieces, numbered, bodied, alleleIn, impliedBy, partsOf, list, with, gathered, readingOf, listOf}
-use Rattle.genotype.specs.Means.{Mark, bar, slash, Body, dot, number, Later, allPhased, Means, marked}
+use Rattle.genotype.specs.Means.{markByte, Body, dot, number, Later, allPhased, Means, marked}
 use Rattle.genotype.specs.Means as M
 use Rattle.genotype.specs.declared.allele.Allele.{Allele}
 use Rattle.genotype.proofs.PieceLaws.{mark-bar, mark-slash, mark-none, in-bar, in-slash, in-plain, head-none, head-mark, head-more, parts-first}
@@ -41,13 +41,13 @@ digits-quiet (b ∷ s) e =
 
 body-quiet : {t : List ℕ} {a : Allele} → Body t a → Quiet t
 body-quiet dot = C.more (mark-none 46 (λ e. absurd (omega arith)) (λ e. absurd (omega arith))) C.none
-body-quiet (number (bare {s} g)) = digits-quiet s (g .digits)
-body-quiet (number (signed {s} g)) = C.more (mark-none 43 (λ e. absurd (omega arith)) (λ e. absurd (omega arith))) (digits-quiet s (g .digits))
+body-quiet (number (bare {s} g h)) = digits-quiet s (g .digits)
+body-quiet (number (signed {s} g h)) = C.more (mark-none 43 (λ e. absurd (omega arith)) (λ e. absurd (omega arith))) (digits-quiet s (g .digits))
 
 body-some : {t : List ℕ} {a : Allele} → Body t a → 0 < length t
 body-some dot = omega arith
-body-some (number (bare g)) = g .one
-body-some (number (signed g)) = omega arith
+body-some (number (bare g h)) = g .one
+body-some (number (signed g h)) = omega arith
 
 -- one digit is a body
 pub digit-body : (n : ℕ) (p : Bool) → n < 10 → Body ((48 + n) ∷ []) (record { number = n; missing = false; phased = p })
@@ -55,10 +55,10 @@ digit-body n p h = number (value-decimal ((48 + n) ∷ []) n (rw (shortest-one n
 
 -- a decimal is not the dot
 decimal-no-dot : {t : List ℕ} {n : ℕ} → Decimal t n → t ≡ 46 ∷ [] → ⊥
-decimal-no-dot (bare g) e =
+decimal-no-dot (bare g h) e =
     let r = digit-range 46 (digits-cons 46 [] (rw e at (g .digits)) .0) in
     omega arith
-decimal-no-dot (signed g) e = let z : _≡_ {A = ℕ} 43 46 = cc in omega arith
+decimal-no-dot (signed g h) e = let z : _≡_ {A = ℕ} 43 46 = cc in omega arith
 
 body-bodied : {t : List ℕ} {a : Allele} → Body t a → bodied (a .phased) t ≡ some a
 unfolding bodied numbered
@@ -88,17 +88,17 @@ bodied-body p t a e = by (same t (46 ∷ [])) refl e
 
 -- ---- a piece
 
-mark-is : {b : ℕ} {p : Bool} → Mark b p → isMark b ≡ true
-mark-is bar = mark-bar 124 refl
-mark-is slash = mark-slash 47 refl
+mark-is : {b : ℕ} (p : Bool) → b ≡ markByte p → isMark b ≡ true
+mark-is true e = mark-bar _ e
+mark-is false e = mark-slash _ e
 
 -- with its mark an allele is read as it is, whatever is implied
-marked-allele : (i : Bool) {b : ℕ} {t : List ℕ} {a : Allele} → Mark b (a .phased) → Body t a → alleleIn i (b ∷ t) ≡ some a
-marked-allele i {b} {t} {a} m c = by m (body-bodied c)
+marked-allele : (i : Bool) {b : ℕ} {t : List ℕ} {a : Allele} → b ≡ markByte (a .phased) → Body t a → alleleIn i (b ∷ t) ≡ some a
+marked-allele i {b} {t} {a} m c = by (a .phased) m (body-bodied c)
   where
-    by : {b : ℕ} {p : Bool} → Mark b p → bodied p t ≡ some a → alleleIn i (b ∷ t) ≡ some a
-    by bar e = in-bar i 124 t refl ∙ e
-    by slash e = in-slash i 47 t refl ∙ e
+    by : (p : Bool) → b ≡ markByte p → bodied p t ≡ some a → alleleIn i (b ∷ t) ≡ some a
+    by true m e = in-bar i b t m ∙ e
+    by false m e = in-slash i b t m ∙ e
 
 -- without one it has the phasing that is implied
 quiet-allele : (i : Bool) {t : List ℕ} → Quiet t → 0 < length t → alleleIn i t ≡ bodied i t
@@ -107,7 +107,7 @@ quiet-allele i (C.more {b} {s} m q) h = in-plain i b s (no-bar b m) (no-slash b 
 
 -- a piece that is an allele has its mark and a body, or is a body that has the phasing implied
 data Piece (i : Bool) : ℕ → List ℕ → Allele → Type 0 where
-  with-mark : {b : ℕ} {t : List ℕ} {a : Allele} → Mark b (a .phased) → Body t a → Piece i b t a
+  with-mark : {b : ℕ} {t : List ℕ} {a : Allele} → b ≡ markByte (a .phased) → Body t a → Piece i b t a
   plain : {b : ℕ} {t : List ℕ} {a : Allele} → isMark b ≡ false → a .phased ≡ i → Body (b ∷ t) a → Piece i b t a
 
 allele-piece : (i : Bool) (b : ℕ) (t : List ℕ) (a : Allele) → alleleIn i (b ∷ t) ≡ some a → Piece i b t a
@@ -116,11 +116,11 @@ allele-piece i b t a e = by (ℕ-discrete b 124) (ℕ-discrete b 47)
     by : Dec (b ≡ 124) → Dec (b ≡ 47) → Piece i b t a
     by (yes p) q =
         let c = bodied-body true t a (sym (in-bar i b t p) ∙ e) in
-        let m : Mark b (a .phased) = rw (p, c .phasing) bar in
+        let m : b ≡ markByte (a .phased) = rw (c .phasing) p in
         with-mark m (c .body)
     by (no p) (yes q) =
         let c = bodied-body false t a (sym (in-slash i b t q) ∙ e) in
-        let m : Mark b (a .phased) = rw (q, c .phasing) slash in
+        let m : b ≡ markByte (a .phased) = rw (c .phasing) q in
         with-mark m (c .body)
     by (no p) (no q) =
         let c = bodied-body i (b ∷ t) a (sym (in-plain i b t p q) ∙ e) in
@@ -130,17 +130,17 @@ allele-piece i b t a e = by (ℕ-discrete b 124) (ℕ-discrete b 47)
 
 later-head : {t : List ℕ} {as′ : List Allele} → Later t as′ → headOf t ≡ []
 later-head M.none = head-none
-later-head (M.more {b} m c l) = head-mark b _ (mark-is m)
+later-head (M.more {b} {a = a} m c l) = head-mark b _ (mark-is (a .phased) m)
 
 -- the phasing that their text implies is the one that they imply
 later-implied : {t : List ℕ} {as′ : List Allele} → Later t as′ → impliedBy t ≡ allPhased as′
 unfolding impliedBy
 later-implied M.none = rw (lacks-none 47, phased-none)
-later-implied (M.more {t = t} {rest} {a} {as′} m c l) = rw (phased-more a as′) (by m (later-implied l))
+later-implied (M.more {b} {t} {rest} {a} {as′} m c l) = rw (phased-more a as′) (by (a .phased) m (later-implied l))
   where
-    by : {b : ℕ} {p : Bool} → Mark b p → lacks 47 rest ≡ allPhased as′ → lacks 47 (b ∷ t ++ rest) ≡ (p && allPhased as′)
-    by bar e = rw (lacks-other 47 (t ++ rest) {a = 124} (λ e. absurd (omega arith)), lacks-quiet rest (body-quiet c)) e
-    by slash e = lacks-here 47 (t ++ rest) {a = 47} refl
+    by : (p : Bool) → b ≡ markByte p → lacks 47 rest ≡ allPhased as′ → lacks 47 (b ∷ t ++ rest) ≡ (p && allPhased as′)
+    by true m e = rw (lacks-other 47 (t ++ rest) {a = b} (λ z. absurd (omega arith)), lacks-quiet rest (body-quiet c)) e
+    by false m e = lacks-here 47 (t ++ rest) {a = b} m
 
 quiet-implied : (t : List ℕ) {s : List ℕ} → Quiet s → impliedBy (s ++ t) ≡ impliedBy t
 unfolding impliedBy
@@ -150,7 +150,7 @@ later-pieces : (i : Bool) {t : List ℕ} {as′ : List Allele} → Later t as′
 unfolding markedPieces
 later-pieces i M.none = refl
 later-pieces i (M.more {b} {t} {rest} {a} m c l) =
-    rw (mark-is m, head-quiet rest (body-quiet c) (later-head l), pieces-quiet rest (body-quiet c), marked-allele i m c)
+    rw (mark-is (a .phased) m, head-quiet rest (body-quiet c) (later-head l), pieces-quiet rest (body-quiet c), marked-allele i m c)
     (ap (λ (ps : List (Option Allele)). some a ∷ ps) (later-pieces i l))
 
 -- ---- the text

@@ -1,11 +1,11 @@
 -- The first allele of `0|1/2` is unphased: any later `/` counts, not only the nearest mark. By what the text means. Assumes
 -- nothing.
-use mathlib.Core.Path.{_≡_, sym, _∙_}
+use mathlib.Core.Path.{_≡_, refl, sym, _∙_}
 use mathlib.Core.Bool.{true, false}
 use mathlib.Core.List.{[], _∷_}
 use native.Mathlib.Omega.{arith}
 use Rattle.genotype.specs.Reading.{list, readingOf}
-use Rattle.genotype.specs.Means.{bar, slash, none, more, bare}
+use Rattle.genotype.specs.Means.{none, more, bare}
 use Rattle.genotype.proofs.PhasedLaws.{phased-more}
 use Rattle.genotype.proofs.MeansLaws.{reads-means, digit-body}
 
@@ -15,4 +15,4 @@ pub any-slash : readingOf (48 ∷ 124 ∷ 49 ∷ 47 ∷ 50 ∷ [])
     ∷ record { number = 1; missing = false; phased = true }
     ∷ record { number = 2; missing = false; phased = false }
     ∷ [])
-any-slash = reads-means _ _ .1 (bare (sym (phased-more _ _ ∙ phased-more _ _)) (digit-body 0 false (omega arith)) (more bar (digit-body 1 true (omega arith)) (more slash (digit-body 2 false (omega arith)) none)))
+any-slash = reads-means _ _ .1 (bare (sym (phased-more _ _ ∙ phased-more _ _)) (digit-body 0 false (omega arith)) (more refl (digit-body 1 true (omega arith)) (more refl (digit-body 2 false (omega arith)) none)))

@@ -104,17 +104,8 @@ count-ten n h = by (required n) refl
     by true e = lt-leb 10 n (elim (decLe 10 n) [ yes l ↦ absurd (false≢true (sym (count-required (inr l)) ∙ e)) | no l ↦ omega arith ])
     by false e = le-leb 10 n (⊎-elim (λ z. absurd (h z)) (λ l. l) (required-count n e))
 
--- what the test tells
-few : (q : Bool) {u : Bool} → u ≡ not q → u ≡ false → q ≡ true
-few true e y = refl
-few false e y = absurd (false≢true (sym y ∙ e))
-
-enough : (q : Bool) {u : Bool} → u ≡ not q → u ≡ true → q ≡ false
-enough true e y = absurd (false≢true (sym e ∙ y))
-enough false e y = refl
-
 pub count-some : (n : ℕ) {u : Bool} → u ≡ not (required n) → u ≡ true → 0 < n
-count-some n e y = ⊎-elim (λ z. omega arith) (λ l. omega arith) (required-count n (enough (required n) e y))
+count-some n e y = ⊎-elim (λ z. omega arith) (λ l. omega arith) (required-count n (not-true _ (sym e ∙ y)))
 
 pub last-is : (ends : List ℕ) → 0 < length ends → getD ends (length ends - 1) 0 ≡ startOf ends (length ends)
 last-is ends h = start-later ends (length ends) (λ e. omega arith)
@@ -245,11 +236,11 @@ module _ (t ends : List ℕ) {x : Ends} (e : endsPaper x ≡ endsAnswer t ends) 
     module _ {u : Bool} (n : u ≡ not (required (length ends))) where
       pub list-few : (l : List ℕ) → u ≡ false → joinedPaper J.Few ≡ listAnswer t ends l
       unfolding joinedPaper listAnswer
-      list-few l y = rw (list-rising, few (required (length ends)) n y)
+      list-few l y = rw (list-rising, not-false (required (length ends)) (sym n ∙ y))
 
       pub list-columns : (l : List ℕ) (r : Joined) → u ≡ true → joinedPaper r ≡ columnsAnswer t ends l → joinedPaper r ≡ listAnswer t ends l
       unfolding listAnswer
-      list-columns l r y f = rw (list-rising, enough (required (length ends)) n y) f
+      list-columns l r y f = rw (list-rising, not-true (required (length ends)) (sym n ∙ y)) f
 
 -- ---- the joiner
 

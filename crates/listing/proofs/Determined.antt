@@ -1,15 +1,20 @@
 -- Two outcomes that a contract allows are equal: a turn, its row and what was kept can be read back from their paper. Assumes nothing.
 use Prim.Native.Nat.{ℕ}
-use mathlib.Core.Path.{_≡_, refl, sym, ap, _∙_}
+use mathlib.Core.Path.{_≡_, refl, sym, ap, ap₂, _∙_}
 use mathlib.Core.Bool.{Bool}
 use mathlib.Core.List.{List, [], _∷_}
 use mathlib.Mathlib.Logic.Function.Defs.{LeftInverse·injective}
 use lib.ListN.{getD}
 use Rattle.text.specs.Answer.{Answer, says}
+use Rattle.text.specs.Over.{Writes}
+use Rattle.text.specs.declared.copy.Written.{Written}
+use Rattle.text.proofs.Determined.{writes-determined}
+use Rattle.listing.specs.Output.{rowBytes, totalBytes}
 use Rattle.listing.specs.Turn.{Move, beyond, more, ended, on, gives, turnMove}
-use Rattle.listing.specs.Paper.{refusalNumber, rowPaper, turnPaper, keptPaper, Keeps}
+use Rattle.listing.specs.Paper.{refusalNumber, rowPaper, turnPaper, keptPaper, Keeps, Counts}
 use Rattle.listing.specs.declared.keep.Kept.{Kept}
 use Rattle.listing.specs.declared.keep.Kept.the-variants as K
+use Rattle.listing.specs.declared.print.Totals.{Totals}
 use Rattle.listing.specs.declared.turn.Phase.{Phase}
 use Rattle.listing.specs.declared.turn.Row.{Row}
 use Rattle.listing.specs.declared.turn.Row.the-variants as R
@@ -80,3 +85,17 @@ kept-paper-injective K.Beyond K.Beyond e = cc
 
 pub keep-determined : {from end : ℕ} {l l′ l″ : List ℕ} {r r″ : Kept} → Keeps from end l r l′ → Keeps from end l r″ l″ → (r ≡ r″) × (l′ ≡ l″)
 keep-determined {r = r} {r″ = r″} p q = (kept-paper-injective r r″ (p .answer ∙ sym (q .answer)), p .bytes ∙ sym (q .bytes))
+
+-- ---- what is printed, and counted
+
+pub print-row-determined : (row : Row) {l l′ l″ : List ℕ} {r r″ : Written} → Writes (rowBytes (rowPaper row)) l r l′
+    → Writes (rowBytes (rowPaper row)) l r″ l″ → (r ≡ r″) × (l′ ≡ l″)
+print-row-determined row p q = writes-determined p q
+
+pub print-totals-determined : (t : Totals) {l l′ l″ : List ℕ} {r r″ : Written} → Writes (totalBytes (t .read) (t .refused)) l r l′
+    → Writes (totalBytes (t .read) (t .refused)) l r″ l″ → (r ≡ r″) × (l′ ≡ l″)
+print-totals-determined t p q = writes-determined p q
+
+pub count-determined : {t r r″ : Totals} {a : Answer} → Counts t a r → Counts t a r″ → r ≡ r″
+count-determined p q =
+    ap₂ (λ (n m : ℕ). record { read = n; refused = m }) (p .read ∙ sym (q .read)) (p .refused ∙ sym (q .refused))

@@ -11,5 +11,6 @@ pub mod Impostors
 pub mod TurnLaws
 pub mod RowLaws
 pub mod KeepLaws
-pub mod CaseLaws
+pub mod PrintLaws
 pub mod Determined
+pub mod Totals

@@ -7,6 +7,7 @@ use mathlib.Core.Logic.{_⊎_}
 use mathlib.Core.List.{List, [], _∷_, _++_}
 use lib.ListN.{length, take, drop}
 use Rattle.text.specs.Answer.{Answer}
+use Rattle.listing.specs.Output.{outputOf, printedFrom}
 use Rattle.listing.specs.Listing.{longest, Listing}
 use Rattle.listing.specs.Turn.{Move, beyond, more, ended, on, gives}
 use Rattle.listing.specs.declared.turn.Phase.{Phase}
@@ -96,3 +97,9 @@ KeepsWindow keep = (s : List ℕ) (base at end : ℕ) (l : List ℕ) (last : Boo
 -- bytes that the input goes on with make the window longer
 abbrev pub Grows : Type 0
 Grows = (s : List ℕ) (base : ℕ) (w v : List ℕ) → Holds s base w false → Holds s (base + length w) v false → Holds s base (w ++ v) false
+
+-- ---- what is printed
+
+-- rows printed and counted as they come, and then the totals, are all that is to be printed, where 64 bits hold the number of rows
+abbrev pub Prints : Type 0
+Prints = (rows : List Answer) → length rows ≤ 18446744073709551615 → printedFrom 0 0 rows ≡ outputOf rows

@@ -2,8 +2,8 @@
 use Prim.Native.Nat.{ℕ, _+_, _≤_}
 use mathlib.Core.Path.{_≡_}
 use mathlib.Core.Bool.{Bool, true, false}
-use mathlib.Core.List.{List, _∷_}
-use lib.ListN.{length, drop}
+use mathlib.Core.List.{List, _∷_, _++_}
+use lib.ListN.{length, take, drop}
 use Rattle.text.specs.Answer.{says}
 use Rattle.line.specs.Line.{lineOf, readAnswer}
 use Rattle.line.specs.Paper.{recordPlaces}
@@ -26,3 +26,10 @@ Reaches w at (R.Open next) = Ends w at next false
 -- the line reader gave this record and next place
 pub record ReadAt (w : List ℕ) (at next : ℕ) (r : Record) : Type 0 where
   pub read : readAnswer w at ≡ says 0 (next ∷ recordPlaces r)
+
+-- bytes put behind the first `at` of a line l, of which there are n then
+pub record Put (at : ℕ) (s l : List ℕ) (n : ℕ) (l′ : List ℕ) : Type 0 where
+  pub count : n ≡ at + length s
+  pub room : length l′ ≡ length l
+  pub within : n ≤ length l′
+  pub begun : take n l′ ≡ take at l ++ s

@@ -1,4 +1,5 @@
 pub mod Listing
+pub mod Output
 pub mod Turn
 pub mod Kept
 pub mod Paper

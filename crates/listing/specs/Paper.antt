@@ -3,6 +3,7 @@ use Prim.Native.Nat.{ℕ}
 use mathlib.Core.Path.{_≡_}
 use mathlib.Core.List.{List, [], _∷_}
 use Rattle.text.specs.Answer.{Answer, says}
+use Rattle.listing.specs.Output.{readAfter, refusedAfter}
 use Rattle.listing.specs.Kept.{keptAnswer, keptBytes}
 use Rattle.listing.specs.Turn.{Move, beyond, more, ended, on, gives}
 use Rattle.listing.specs.declared.turn.Row.{Row}
@@ -11,6 +12,7 @@ use Rattle.listing.specs.declared.turn.Turn.{Turn}
 use Rattle.listing.specs.declared.turn.Turn.the-variants as T
 use Rattle.listing.specs.declared.turn.Refusal.{Refusal}
 use Rattle.listing.specs.declared.turn.Refusal.the-variants as F
+use Rattle.listing.specs.declared.print.Totals.{Totals}
 use Rattle.listing.specs.declared.keep.Kept.{Kept}
 use Rattle.listing.specs.declared.keep.Kept.the-variants as K
 
@@ -41,3 +43,8 @@ keptPaper K.Beyond = says 6 []
 pub record Keeps (from end : ℕ) (l : List ℕ) (r : Kept) (l′ : List ℕ) : Type 0 where
   pub answer : keptPaper r ≡ keptAnswer from end l
   pub bytes : l′ ≡ keptBytes from end l
+
+-- the totals after one more row
+pub record Counts (t : Totals) (a : Answer) (r : Totals) : Type 0 where
+  pub read : r .read ≡ readAfter (t .read) a
+  pub refused : r .refused ≡ refusedAfter (t .refused) a

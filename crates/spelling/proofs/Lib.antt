@@ -7,7 +7,6 @@ pub mod LayLaws
 pub mod WriteLaws
 pub mod PaperLaws
 pub mod Determined
-pub mod PlainLaws
 pub mod PermittedLaws
 pub mod Shortest
 pub mod Exact

@@ -6,13 +6,12 @@ use mathlib.Core.Bool.{Bool, true, false}
 use mathlib.Core.List.{List, [], _∷_}
 use mathlib.Core.Option.{none}
 use borrow.Author.Tests.{eqb-true, eq-eqb}
-use Rattle.genotype.specs.Means.{Mark, bar, slash}
+use Rattle.decimal.proofs.Lead.{plain-only, shortest-plain}
 use Rattle.genotype.specs.declared.allele.Allele.{Allele}
-use Rattle.spelling.specs.Spelling.{bodyText, markByte, listText, isSound, firstUnsound}
+use Rattle.spelling.specs.Spelling.{bodyText, listText, isSound, firstUnsound}
 use Rattle.spelling.specs.Permitted as P
 use Rattle.spelling.specs.Permitted.{Plainly, dot, number, Following, more}
 use Rattle.spelling.proofs.SpellLaws.{sound-missing, sound-there, body-dot, body-number, list-none, list-marked, unsound-none, unsound-more, sound-parts}
-use Rattle.spelling.proofs.PlainLaws.{plain-only, shortest-plain}
 
 -- ---- one allele
 
@@ -31,26 +30,18 @@ pub plainly-sound : {a : Allele} {s : List ℕ} → Plainly a s → isSound a �
 plainly-sound (dot m n) = sym (sound-missing _ m) ∙ eq-eqb _ 0 n
 plainly-sound (number m p) = sym (sound-there _ m)
 
-pub mark-only : {b : ℕ} {p : Bool} → Mark b p → b ≡ markByte p
-mark-only bar = refl
-mark-only slash = refl
-
-pub mark-has : (p : Bool) → Mark (markByte p) p
-mark-has true = bar
-mark-has false = slash
-
 -- ---- the alleles after the first
 
 pub following-only : {as′ : List Allele} {t : List ℕ} → Following as′ t → t ≡ listText false as′
 following-only P.none = sym (list-none false)
-following-only (more {a = a} {as′} m p f) = rw (mark-only m, plainly-only p, following-only f) (sym (list-marked a as′))
+following-only (more {a = a} {as′} m p f) = rw (m, plainly-only p, following-only f) (sym (list-marked a as′))
 
 pub following-has : (k : ℕ) (as′ : List Allele) → firstUnsound k as′ ≡ none → Following as′ (listText false as′)
 following-has k [] e = rw (list-none false) P.none
 following-has k (a ∷ as′) e =
     let h = sound-parts k a as′ e in
     rw (list-marked a as′)
-    (more (mark-has (a .phased)) (plainly-has a (h .0)) (following-has (k + 1) as′ (h .1)))
+    (more refl (plainly-has a (h .0)) (following-has (k + 1) as′ (h .1)))
 
 pub following-sound : (k : ℕ) {as′ : List Allele} {t : List ℕ} → Following as′ t → firstUnsound k as′ ≡ none
 following-sound k P.none = unsound-none k

@@ -15,8 +15,9 @@ use Rattle.text.specs.declared.copy.Written.the-variants.{Done, Short}
 use Rattle.text.proofs.Lists.{length-rest, rest-put, rest-back, overAt-before}
 use Rattle.text.proofs.WrittenLaws.{Wrote, writes-done, writes-short}
 use Rattle.decimal.specs.Shortest.{shortest}
+use Rattle.genotype.specs.Means.{markByte}
 use Rattle.genotype.specs.declared.allele.Allele.{Allele}
-use Rattle.spelling.specs.Spelling.{bodyText, markByte, alleleText}
+use Rattle.spelling.specs.Spelling.{bodyText, alleleText}
 use Rattle.spelling.specs.Put.{fitsAt, PutsAt}
 use Rattle.spelling.proofs.SpellLaws.{body-dot, body-number, bare-text, marked-text, marked-length}
 

@@ -9,10 +9,11 @@ use lib.ListN.{length}
 use Rattle.text.specs.Answer.{numberOf}
 use Rattle.text.proofs.Lists.{take-overAt}
 use Rattle.decimal.specs.Demands as D
+use Rattle.decimal.specs.Demands.{Plain}
 use Rattle.genotype.specs.Means as M
 use Rattle.genotype.specs.Means.{Body, Later, Means}
 use Rattle.genotype.specs.declared.allele.Allele.{Allele}
-use Rattle.spelling.specs.Permitted.{Plain, Plainly, dot, number, Following, none, more, Permitted, bare, marked}
+use Rattle.spelling.specs.Permitted.{Plainly, dot, number, Following, none, more, Permitted, bare, marked}
 use Rattle.spelling.specs.Demands.{writer, Fitting, WritesShortest, RoundTrip}
 use Rattle.spelling.proofs.Exact.{writes-shortest}
 
@@ -27,8 +28,8 @@ fitting-rest f = record { each = λ i h. f .each (suc i) (omega arith) }
 dot-body : (n : ℕ) (m p : Bool) → m ≡ true → n ≡ 0 → Body (46 ∷ []) (record { number = n; missing = m; phased = p })
 dot-body n m p e z = rw (e, z) M.dot
 
-number-body : (n : ℕ) (m p : Bool) {s : List ℕ} → m ≡ false → n ≤ 18446744073709551615 → Plain n s → Body s (record { number = n; missing = m; phased = p })
-number-body n m p e h g = rw e (M.number (D.bare (record { one = g .some; digits = g .digits; value = g .value; fits = h })))
+number-body : (n : ℕ) (m p : Bool) {s : List ℕ} → m ≡ false → n ≤ 18446744073709551615 → Plain s n → Body s (record { number = n; missing = m; phased = p })
+number-body n m p e h g = rw e (M.number (D.bare (g .spelled) h))
 
 plainly-body : {a : Allele} {s : List ℕ} → a .number ≤ 18446744073709551615 → Plainly a s → Body s a
 plainly-body {a} h (dot m n) = dot-body (a .number) (a .missing) (a .phased) m n

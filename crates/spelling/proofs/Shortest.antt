@@ -12,7 +12,7 @@ use Rattle.genotype.specs.declared.allele.Allele.{Allele}
 use Rattle.spelling.specs.Spelling.{listText, firstUnsound, text, shaped, spell}
 use Rattle.spelling.specs.Permitted.{Permitted, bare, marked, TheShortest}
 use Rattle.spelling.proofs.SpellLaws.{list-bare, list-marked, marked-longer, unsound-more, sound-parts, spell-none, spell-sound, spell-bad}
-use Rattle.spelling.proofs.PermittedLaws.{plainly-only, plainly-has, plainly-sound, mark-only, mark-has, following-only, following-has, following-sound}
+use Rattle.spelling.proofs.PermittedLaws.{plainly-only, plainly-has, plainly-sound, following-only, following-has, following-sound}
 
 -- ---- a permitted spelling is one of two texts
 
@@ -22,7 +22,7 @@ data OneOfTwo (late : Bool) (a : Allele) (as′ : List Allele) (u : List ℕ) : 
 
 one-of-two : {late : Bool} {a : Allele} {as′ : List Allele} {u : List ℕ} → Permitted late (a ∷ as′) u → OneOfTwo late a as′ u
 one-of-two {a = a} {as′} (bare e p f) = is-bare e (rw (plainly-only p, following-only f) (sym (list-bare a as′)))
-one-of-two {a = a} {as′} (marked l m p f) = is-marked l (rw (mark-only m, plainly-only p, following-only f) (sym (list-marked a as′)))
+one-of-two {a = a} {as′} (marked l m p f) = is-marked l (rw (m, plainly-only p, following-only f) (sym (list-marked a as′)))
 
 -- ---- two phasings are equal or not
 
@@ -53,7 +53,7 @@ module _ (late : Bool) (a : Allele) (as′ : List Allele) (h : firstUnsound 0 (a
   shortest-marked : late ≡ true → (a .phased ≡ allPhased as′ → ⊥) → TheShortest (Permitted late (a ∷ as′)) (listText false (a ∷ as′))
   shortest-marked l d =
       let s = sound-parts 0 a as′ h in
-      record { has = rw (list-marked a as′) (marked l (mark-has (a .phased)) (plainly-has a (s .0)) (following-has 1 as′ (s .1))); least = λ u p n. by (one-of-two p) n }
+      record { has = rw (list-marked a as′) (marked l refl (plainly-has a (s .0)) (following-has 1 as′ (s .1))); least = λ u p n. by (one-of-two p) n }
     where
       by : {u : List ℕ} → OneOfTwo late a as′ u → (u ≡ listText false (a ∷ as′) → ⊥) → length (listText false (a ∷ as′)) < length u
       by (is-bare e f) n = absurd (d e)

@@ -11,9 +11,9 @@ use lib.Dec.{leb, eqb}
 use borrow.Author.Tests.{lt-ltb, le-ltb, eq-eqb, ne-eqb}
 use Rattle.decimal.specs.Shortest.{shortest}
 use Rattle.decimal.proofs.Shortest.{length-20}
-use Rattle.genotype.specs.Means.{allPhased}
+use Rattle.genotype.specs.Means.{markByte, allPhased}
 use Rattle.genotype.specs.declared.allele.Allele.{Allele}
-use Rattle.spelling.specs.Spelling.{bodyText, markByte, alleleText, listText, isSound, firstUnsound, from44, bad, empty, shaped, judged, spell}
+use Rattle.spelling.specs.Spelling.{bodyText, alleleText, listText, isSound, firstUnsound, from44, bad, empty, shaped, judged, spell}
 
 -- ---- one allele
 

@@ -6,7 +6,7 @@ use mathlib.Core.Option.{Option, some, none}
 use lib.Dec.{leb, ltb, eqb}
 use Rattle.text.specs.Pick.{pick}
 use Rattle.decimal.specs.Shortest.{shortest}
-use Rattle.genotype.specs.Means.{allPhased}
+use Rattle.genotype.specs.Means.{markByte, allPhased}
 use Rattle.genotype.specs.declared.allele.Allele.{Allele}
 
 -- ---- the text
@@ -14,10 +14,6 @@ use Rattle.genotype.specs.declared.allele.Allele.{Allele}
 -- `.`, or the number
 unfoldable pub bodyText : Allele → List ℕ
 bodyText a = pick (a .missing) (46 ∷ []) (shortest (a .number))
-
-abbrev pub markByte : Bool → ℕ
-markByte true = 124
-markByte false = 47
 
 -- with its mark, unless it is bare
 unfoldable pub alleleText : Bool → Allele → List ℕ

@@ -5,7 +5,8 @@ use text::copy::Written;
 use text::copy::copy;
 ghost use mathlib.Core.Path.{_≡_};
 ghost use Rattle.text.specs.Over.{Writes};
-ghost use Rattle.spelling.specs.Spelling.{bodyText, markByte, alleleText};
+ghost use Rattle.genotype.specs.Means.{markByte};
+ghost use Rattle.spelling.specs.Spelling.{bodyText, alleleText};
 ghost use Rattle.spelling.specs.Put.{PutsAt};
 
 // Writes an allele without its mark at the start of the output: `.` or its number.

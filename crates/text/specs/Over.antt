@@ -34,9 +34,9 @@ laidAt a at vs l = pick (eqb (numberOf a) 0) (overAt at vs l) l
 unfoldable pub roomAnswer : List ℕ → List ℕ → Answer
 roomAnswer vs l = pick (leb (length vs) (length l)) (says 0 (length vs ∷ [])) (says 17 [])
 
--- 6 before the answer a, for a place beyond the output
+-- 6 before the answer a, for a place beyond the bytes l
 abbrev pub placed : ℕ → List ℕ → Answer → Answer
-placed at out a = pick (leb at (length out)) a (says 6 [])
+placed at l a = pick (leb at (length l)) a (says 6 [])
 
 -- a writer of the bytes vs answers r, and leaves l′ in a slice that held l
 pub record Writes (vs l : List ℕ) (r : Written) (l′ : List ℕ) : Type 0 where

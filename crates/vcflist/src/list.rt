@@ -11,12 +11,12 @@ use crate::output::put_last;
 use crate::output::put_row;
 use listing::keep::Kept;
 use listing::keep::keep_rest;
+use listing::print::Totals;
+use listing::print::count_row;
 use listing::turn::Phase;
 use listing::turn::Row;
 use listing::turn::Turn;
 use listing::turn::take_turn;
-use report::print::Totals;
-use report::print::count_row;
 
 // What the buffer holds; the phase and the place of the next turn; where the next line is put; what was counted.
 struct State {

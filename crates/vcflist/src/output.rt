@@ -1,9 +1,9 @@
 // Printed lines, gathered in a lent buffer that is written out when the next one doesn't fit.
 use libc::STDOUT_FILENO;
+use listing::print::Totals;
+use listing::print::print_row;
+use listing::print::print_totals;
 use listing::turn::Row;
-use report::print::Totals;
-use report::print::print_row;
-use report::print::print_totals;
 use text::copy::Written;
 
 // Where the next line goes, or that nothing more is to be written.

@@ -1,8 +1,8 @@
--- `report::print::count_row` meets its contract: each kind of row is counted by one more. Assumes nothing.
-use Rattle.report.proofs.PrintLaws.{laws}
+-- `listing::print::count_row` meets its contract: each kind of row is counted by one more. Assumes nothing.
+use Rattle.listing.proofs.PrintLaws.{laws}
 use borrow.Author.Needs.{needs}
-use Rattle.report.proofs.print.count_row.Statement.{statement}
-use Rattle.report.proofs.print.count_row.Tie as tie
+use Rattle.listing.proofs.print.count_row.Statement.{statement}
+use Rattle.listing.proofs.print.count_row.Tie as tie
 
 enum-told : tie.Need-enum-told
 enum-told c = search (needs, laws)

@@ -16,15 +16,14 @@ use Rattle.text.proofs.Lists.{over-long, take-over}
 use Rattle.text.proofs.WrittenLaws.{Wrote, writes-done, writes-short}
 use Rattle.decimal.specs.Shortest.{shortest}
 use Rattle.decimal.proofs.Shortest.{length-20}
-use Rattle.listing.specs.Paper.{refusalNumber, rowPaper}
+use Rattle.listing.specs.Inner.{Put}
+use Rattle.listing.specs.Output.{numbers, rowBytes, totalBytes, oneMore, readAfter, refusedAfter}
+use Rattle.listing.specs.Paper.{refusalNumber, rowPaper, Counts}
 use Rattle.listing.specs.declared.turn.Refusal.{Refusal}
+use Rattle.listing.specs.declared.turn.Refusal.the-variants as F
 use Rattle.listing.specs.declared.turn.Row.{Row}
 use Rattle.listing.specs.declared.turn.Row.the-variants as R
-use Rattle.listing.proofs.CaseLaws.{number-empty, number-fed, number-cut, number-not-utf8, number-long, number-some, number-told, read-paper, refused-paper}
-use Rattle.report.specs.Inner.{Put}
-use Rattle.report.specs.Output.{numbers, rowBytes, totalBytes, oneMore, readAfter, refusedAfter}
-use Rattle.report.specs.Paper.{Counts}
-use Rattle.report.specs.declared.print.Totals.{Totals}
+use Rattle.listing.specs.declared.print.Totals.{Totals}
 
 -- ---- putting bytes
 
@@ -141,15 +140,51 @@ pub total-line : (read refused : ℕ) {a b c d n : ℕ} {l l₁ l₂ l₃ l₄ l
 unfolding totalBytes
 total-line read refused p q s t u w = line-out (put-append (put-append (put-append p q) (put-append s t)) u) w
 
+-- ---- a refusal's number
+
+pub number-empty : {w : Refusal} → w ≡ F.Empty → 2 ≡ refusalNumber w
+unfolding refusalNumber
+number-empty e = rw e
+
+pub number-fed : {w : Refusal} → w ≡ F.Fed → 3 ≡ refusalNumber w
+unfolding refusalNumber
+number-fed e = rw e
+
+pub number-cut : {w : Refusal} → w ≡ F.Cut → 4 ≡ refusalNumber w
+unfolding refusalNumber
+number-cut e = rw e
+
+pub number-not-utf8 : {w : Refusal} → w ≡ F.NotUtf8 → 5 ≡ refusalNumber w
+unfolding refusalNumber
+number-not-utf8 e = rw e
+
+pub number-long : {w : Refusal} → w ≡ F.Long → 22 ≡ refusalNumber w
+unfolding refusalNumber
+number-long e = rw e
+
+-- it is not 0
+number-some : (w : Refusal) → 1 ≤ refusalNumber w
+unfolding refusalNumber
+number-some F.Empty = omega arith
+number-some F.Fed = omega arith
+number-some F.Cut = omega arith
+number-some F.NotUtf8 = omega arith
+number-some F.Long = omega arith
+
+pub number-told : (w : Refusal) {n : ℕ} → n ≡ refusalNumber w → 1 ≤ n
+number-told w e = rw e (number-some w)
+
 -- ---- a row
 
 pub row-read : {row : Row} {columns infos samples : ℕ} {out out′ : List ℕ} {r : Written} → row ≡ R.Read columns infos samples
     → Writes (rowBytes (says 0 (columns ∷ infos ∷ samples ∷ []))) out r out′ → Writes (rowBytes (rowPaper row)) out r out′
-row-read e w = rw (read-paper e) w
+unfolding rowPaper
+row-read e w = rw e w
 
 pub row-refused : {row : Row} {why : Refusal} {n : ℕ} {out out′ : List ℕ} {r : Written} → row ≡ R.Refused why → n ≡ refusalNumber why
     → Writes (rowBytes (says n [])) out r out′ → Writes (rowBytes (rowPaper row)) out r out′
-row-refused e m w = rw (refused-paper e) (rw m at w)
+unfolding rowPaper
+row-refused e m w = rw e (rw m at w)
 
 -- ---- the totals
 
@@ -163,8 +198,8 @@ more-counted h = rw (lt-leb _ _ h)
 
 pub count-read : {t : Totals} {row : Row} {columns infos samples x : ℕ} → row ≡ R.Read columns infos samples → x ≡ oneMore (t .read)
     → Counts t (rowPaper row) (record { read = x; refused = t .refused })
-unfolding readAfter refusedAfter
-count-read e h = rw (read-paper e) (record { read = h; refused = refl })
+unfolding rowPaper readAfter refusedAfter
+count-read e h = rw e (record { read = h; refused = refl })
 
 after-refused : (t : Totals) (number x : ℕ) → 1 ≤ number → x ≡ oneMore (t .refused) → Counts t (says number []) (record { read = t .read; refused = x })
 unfolding readAfter refusedAfter
@@ -173,7 +208,8 @@ after-refused t (suc number) x s h = record { read = refl; refused = h }
 
 pub count-refused : {t : Totals} {row : Row} {why : Refusal} {x : ℕ} → row ≡ R.Refused why → x ≡ oneMore (t .refused)
     → Counts t (rowPaper row) (record { read = t .read; refused = x })
-count-refused {t} {row} {why} {x} e h = rw (refused-paper e) (after-refused t (refusalNumber why) x (number-some why) h)
+unfolding rowPaper
+count-refused {t} {row} {why} {x} e h = rw e (after-refused t (refusalNumber why) x (number-some why) h)
 
 pub ruleset laws = (
   put-first,

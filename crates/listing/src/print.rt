@@ -1,7 +1,7 @@
 // The lines that vcflist prints, and what its last line counts.
+use crate::turn::Refusal;
+use crate::turn::Row;
 use decimal::print::print_decimal;
-use listing::turn::Refusal;
-use listing::turn::Row;
 use text::copy::Written;
 use text::copy::copy;
 ghost use mathlib.Core.Path.{_≡_};
@@ -10,10 +10,9 @@ ghost use lib.ListN.{length};
 ghost use mathlib.Core.List.{[], _∷_};
 ghost use Rattle.text.specs.Answer.{says};
 ghost use Rattle.text.specs.Over.{Writes};
-ghost use Rattle.listing.specs.Paper.{refusalNumber, rowPaper};
-ghost use Rattle.report.specs.Output.{numbers, rowBytes, totalBytes, oneMore};
-ghost use Rattle.report.specs.Paper.{Counts};
-ghost use Rattle.report.specs.Inner.{Put};
+ghost use Rattle.listing.specs.Output.{numbers, rowBytes, totalBytes, oneMore};
+ghost use Rattle.listing.specs.Paper.{refusalNumber, rowPaper, Counts};
+ghost use Rattle.listing.specs.Inner.{Put};
 
 // How many lines were read, and how many refused.
 pub struct Totals {

@@ -7,8 +7,8 @@ use native.Mathlib.Omega.{arith}
 use lib.ListN.{length}
 use borrow.Author.Tests.{lt-leb}
 use Rattle.text.specs.Answer.{Answer, says}
-use Rattle.report.specs.Output.{rowBytes, totalBytes, readRows, refusedRows, rowsBytes, outputOf, oneMore, readAfter, refusedAfter, printedFrom}
-use Rattle.report.specs.Demands.{Prints}
+use Rattle.listing.specs.Output.{rowBytes, totalBytes, readRows, refusedRows, rowsBytes, outputOf, oneMore, readAfter, refusedAfter, printedFrom}
+use Rattle.listing.specs.Demands.{Prints}
 
 one-more : (n : ℕ) → n < 18446744073709551615 → oneMore n ≡ n + 1
 unfolding oneMore

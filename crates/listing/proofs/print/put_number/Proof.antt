@@ -1,8 +1,8 @@
--- `report::print::put_number` meets its contract: a space and the digits that the scratch array holds; 20 bytes hold them all. Assumes nothing.
-use Rattle.report.proofs.PrintLaws.{laws}
+-- `listing::print::put_number` meets its contract: a space and the digits that the scratch array holds; 20 bytes hold them all. Assumes nothing.
+use Rattle.listing.proofs.PrintLaws.{laws}
 use borrow.Author.Needs.{needs}
-use Rattle.report.proofs.print.put_number.Statement.{statement}
-use Rattle.report.proofs.print.put_number.Tie as tie
+use Rattle.listing.proofs.print.put_number.Statement.{statement}
+use Rattle.listing.proofs.print.put_number.Tie as tie
 
 slice-aggregate-put : tie.Need-slice-aggregate-put
 slice-aggregate-put c = search (needs, laws)

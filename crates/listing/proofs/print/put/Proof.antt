@@ -1,10 +1,10 @@
--- `report::print::put` meets its contract: i bytes stand behind the place, and before them what stood there. Assumes nothing.
+-- `listing::print::put` meets its contract: i bytes stand behind the place, and before them what stood there. Assumes nothing.
 use Prim.Native.Nat.{_-_}
 use lib.ListN.{length}
 use borrow.Author.Needs.{needs}
-use Rattle.report.proofs.PrintLaws.{Putting, laws}
-use Rattle.report.proofs.print.put.Statement.{statement}
-use Rattle.report.proofs.print.put.Tie as tie
+use Rattle.listing.proofs.PrintLaws.{Putting, laws}
+use Rattle.listing.proofs.print.put.Statement.{statement}
+use Rattle.listing.proofs.print.put.Tie as tie
 
 abbrev Inv-loop : tie.InvT-loop
 Inv-loop line₀ at s i₀ line i = Putting at s line₀ line i

@@ -1,8 +1,8 @@
--- `report::print::print_row` meets its contract: each kind of row has its printer. Assumes nothing.
-use Rattle.report.proofs.PrintLaws.{laws}
+-- `listing::print::print_row` meets its contract: each kind of row has its printer. Assumes nothing.
+use Rattle.listing.proofs.PrintLaws.{laws}
 use borrow.Author.Needs.{needs}
-use Rattle.report.proofs.print.print_row.Statement.{statement}
-use Rattle.report.proofs.print.print_row.Tie as tie
+use Rattle.listing.proofs.print.print_row.Statement.{statement}
+use Rattle.listing.proofs.print.print_row.Tie as tie
 
 enum-known-row : tie.Need-enum-known-row
 enum-known-row c = search (needs, laws)

@@ -1,8 +1,8 @@
--- `report::print::number_of` meets its contract: each refusal has its number. Assumes nothing.
-use Rattle.report.proofs.PrintLaws.{laws}
+-- `listing::print::number_of` meets its contract: each refusal has its number. Assumes nothing.
+use Rattle.listing.proofs.PrintLaws.{laws}
 use borrow.Author.Needs.{needs}
-use Rattle.report.proofs.print.number_of.Statement.{statement}
-use Rattle.report.proofs.print.number_of.Tie as tie
+use Rattle.listing.proofs.print.number_of.Statement.{statement}
+use Rattle.listing.proofs.print.number_of.Tie as tie
 
 enum-told : tie.Need-enum-told
 enum-told c = search (needs, laws)

@@ -1,8 +1,8 @@
--- `report::print::print_refused` meets its contract: the pieces, put one behind the other, are the row's bytes. Assumes nothing.
-use Rattle.report.proofs.PrintLaws.{laws}
+-- `listing::print::print_totals` meets its contract: the pieces, put one behind the other, are the line's bytes. Assumes nothing.
+use Rattle.listing.proofs.PrintLaws.{laws}
 use borrow.Author.Needs.{needs}
-use Rattle.report.proofs.print.print_refused.Statement.{statement}
-use Rattle.report.proofs.print.print_refused.Tie as tie
+use Rattle.listing.proofs.print.print_totals.Statement.{statement}
+use Rattle.listing.proofs.print.print_totals.Tie as tie
 
 slice-aggregate-put : tie.Need-slice-aggregate-put
 slice-aggregate-put c = search (needs, laws)
@@ -28,6 +28,21 @@ slice-aggregate-put-4 c = search (needs, laws)
 put-requires-2 : tie.Need-put-requires-2
 put-requires-2 c κs = search (needs, laws)
 
+slice-aggregate-put-number-2 : tie.Need-slice-aggregate-put-number-2
+slice-aggregate-put-number-2 c = search (needs, laws)
+
+put-number-requires-2 : tie.Need-put-number-requires-2
+put-number-requires-2 c κs = search (needs, laws)
+
+slice-aggregate-put-5 : tie.Need-slice-aggregate-put-5
+slice-aggregate-put-5 c = search (needs, laws)
+
+slice-aggregate-put-6 : tie.Need-slice-aggregate-put-6
+slice-aggregate-put-6 c = search (needs, laws)
+
+put-requires-3 : tie.Need-put-requires-3
+put-requires-3 c κs = search (needs, laws)
+
 array-share-prefix-line : tie.Need-array-share-prefix-line
 array-share-prefix-line c = search (needs, laws)
 
@@ -43,8 +58,8 @@ same-length c = search (needs, laws)
 returns : tie.Need-returns
 returns c = search (needs, laws)
 
-pub print-refused-spec : {M : Type 1} → statement M
-print-refused-spec =
+pub print-totals-spec : {M : Type 1} → statement M
+print-totals-spec =
     tie.close
     (tie.spec
     slice-aggregate-put
@@ -55,6 +70,11 @@ print-refused-spec =
     slice-aggregate-put-3
     slice-aggregate-put-4
     put-requires-2
+    slice-aggregate-put-number-2
+    put-number-requires-2
+    slice-aggregate-put-5
+    slice-aggregate-put-6
+    put-requires-3
     array-share-prefix-line
     slice-aggregate-copy
     copy-requires

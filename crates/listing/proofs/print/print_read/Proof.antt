@@ -1,8 +1,8 @@
--- `report::print::print_read` meets its contract: the pieces, put one behind the other, are the row's bytes. Assumes nothing.
-use Rattle.report.proofs.PrintLaws.{laws}
+-- `listing::print::print_read` meets its contract: the pieces, put one behind the other, are the row's bytes. Assumes nothing.
+use Rattle.listing.proofs.PrintLaws.{laws}
 use borrow.Author.Needs.{needs}
-use Rattle.report.proofs.print.print_read.Statement.{statement}
-use Rattle.report.proofs.print.print_read.Tie as tie
+use Rattle.listing.proofs.print.print_read.Statement.{statement}
+use Rattle.listing.proofs.print.print_read.Tie as tie
 
 slice-aggregate-put : tie.Need-slice-aggregate-put
 slice-aggregate-put c = search (needs, laws)

@@ -1,8 +1,8 @@
--- `report::print::one_more` meets its contract: by the code's own test. Assumes nothing.
-use Rattle.report.proofs.PrintLaws.{laws}
+-- `listing::print::one_more` meets its contract: by the code's own test. Assumes nothing.
+use Rattle.listing.proofs.PrintLaws.{laws}
 use borrow.Author.Needs.{needs}
-use Rattle.report.proofs.print.one_more.Statement.{statement}
-use Rattle.report.proofs.print.one_more.Tie as tie
+use Rattle.listing.proofs.print.one_more.Statement.{statement}
+use Rattle.listing.proofs.print.one_more.Tie as tie
 
 returns : tie.Need-returns
 returns c = search (needs, laws)

@@ -1,3 +1,0 @@
-pub mod PrintLaws
-pub mod Determined
-pub mod Totals

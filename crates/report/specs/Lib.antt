@@ -1,4 +1,0 @@
-pub mod Output
-pub mod Paper
-pub mod Inner
-pub mod Demands
