@@ -8,10 +8,9 @@ use mathlib.Core.List.{List, _++_}
 use lib.Dec.{lit<}
 use lib.ListN.{length, take, drop, drop-of-length-le, length-append, length-take, length-drop}
 use lib.Seq.{take-all}
-use Rattle.text.specs.Over.{laid}
 use Rattle.lists.specs.AlternateBases.{altCount}
-use Rattle.genotype.specs.Reading.{readingOf, listOf}
-use Rattle.genotype.specs.Answers.{readAnswer, checkedAnswer}
+use Rattle.genotype.specs.Reading.{readingOf}
+use Rattle.genotype.specs.Answers.{readAnswer, checkedAnswer, rowRead, rowChecked}
 use Rattle.genotype.specs.declared.allele.Allele.{Allele}
 use Rattle.genotype.specs.declared.read.Read.{Read}
 use Rattle.alleles.specs.Read.{ReadsRow, ReadsRowChecked}
@@ -55,11 +54,11 @@ module _ (row : List Allele) (from : ℕ) (n : length row ≡ 64) (h : 64 < from
     pub past-row : ReadsOwn t row 64 r → ReadsOwn t row from r
     past-row f = record {
       answer = f .answer ∙ (λ i. readAnswer (readingOf t) (length (same-rest i)));
-      records = f .records ∙ (λ i. same-front i ++ laid (readAnswer (readingOf t) (length (same-rest i))) (listOf (readingOf t)) (same-rest i));
+      records = f .records ∙ (λ i. same-front i ++ rowRead t (same-rest i));
     }
 
     pub past-row-checked : (alt : List ℕ) → ReadsOwnChecked t alt row 64 r → ReadsOwnChecked t alt row from r
     past-row-checked alt f = record {
       answer = f .answer ∙ (λ i. checkedAnswer (altCount alt) (readingOf t) (length (same-rest i)));
-      records = f .records ∙ (λ i. same-front i ++ laid (checkedAnswer (altCount alt) (readingOf t) (length (same-rest i))) (listOf (readingOf t)) (same-rest i));
+      records = f .records ∙ (λ i. same-front i ++ rowChecked t alt (same-rest i));
     }

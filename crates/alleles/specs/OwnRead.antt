@@ -5,18 +5,17 @@ use mathlib.Core.Path.{_≡_}
 use mathlib.Core.List.{List, _++_}
 use lib.ListN.{length, take, drop}
 use Rattle.lists.specs.AlternateBases.{altCount}
-use Rattle.genotype.specs.Reading.{readingOf, listOf}
-use Rattle.genotype.specs.Answers.{readAnswer, checkedAnswer}
+use Rattle.genotype.specs.Reading.{readingOf}
+use Rattle.genotype.specs.Answers.{readAnswer, checkedAnswer, rowRead, rowChecked}
 use Rattle.genotype.specs.Paper.{readPaper}
 use Rattle.genotype.specs.declared.allele.Allele.{Allele}
-use Rattle.text.specs.Over.{laid}
 use Rattle.alleles.specs.declared.own_read.Filled.{Filled}
 
 -- the records before the place stay; none are read into where it lies past the row
 pub record ReadsOwn (t : List ℕ) (row : List Allele) (from : ℕ) (r : Filled) : Type 0 where
   pub answer : readPaper (r .answer) ≡ readAnswer (readingOf t) (length (drop from row))
-  pub records : r .row ≡ take from row ++ laid (readAnswer (readingOf t) (length (drop from row))) (listOf (readingOf t)) (drop from row)
+  pub records : r .row ≡ take from row ++ rowRead t (drop from row)
 
 pub record ReadsOwnChecked (t alt : List ℕ) (row : List Allele) (from : ℕ) (r : Filled) : Type 0 where
   pub answer : readPaper (r .answer) ≡ checkedAnswer (altCount alt) (readingOf t) (length (drop from row))
-  pub records : r .row ≡ take from row ++ laid (checkedAnswer (altCount alt) (readingOf t) (length (drop from row))) (listOf (readingOf t)) (drop from row)
+  pub records : r .row ≡ take from row ++ rowChecked t alt (drop from row)

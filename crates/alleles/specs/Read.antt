@@ -4,18 +4,17 @@ use Prim.Native.Nat.{ℕ}
 use mathlib.Core.Path.{_≡_}
 use mathlib.Core.List.{List}
 use lib.ListN.{length}
-use Rattle.text.specs.Over.{laid}
 use Rattle.lists.specs.AlternateBases.{altCount}
-use Rattle.genotype.specs.Reading.{readingOf, listOf}
-use Rattle.genotype.specs.Answers.{readAnswer, checkedAnswer}
+use Rattle.genotype.specs.Reading.{readingOf}
+use Rattle.genotype.specs.Answers.{readAnswer, checkedAnswer, rowRead, rowChecked}
 use Rattle.genotype.specs.Paper.{readPaper}
 use Rattle.genotype.specs.declared.allele.Allele.{Allele}
 use Rattle.genotype.specs.declared.read.Read.{Read}
 
 pub record ReadsRow (t : List ℕ) (row : List Allele) (r : Read) (row′ : List Allele) : Type 0 where
   pub answer : readPaper r ≡ readAnswer (readingOf t) (length row)
-  pub records : row′ ≡ laid (readAnswer (readingOf t) (length row)) (listOf (readingOf t)) row
+  pub records : row′ ≡ rowRead t row
 
 pub record ReadsRowChecked (t alt : List ℕ) (row : List Allele) (r : Read) (row′ : List Allele) : Type 0 where
   pub answer : readPaper r ≡ checkedAnswer (altCount alt) (readingOf t) (length row)
-  pub records : row′ ≡ laid (checkedAnswer (altCount alt) (readingOf t) (length row)) (listOf (readingOf t)) row
+  pub records : row′ ≡ rowChecked t alt row

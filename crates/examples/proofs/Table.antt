@@ -7,6 +7,7 @@ use Rattle.text.specs.Same.{same}
 use Rattle.text.specs.Bytes as B
 use Rattle.text.specs.Range.{cut}
 use Rattle.text.specs.Over.{roomAnswer}
+use Rattle.text.specs.First.{firstWhere}
 use Rattle.decimal.specs.Decimal as D
 use Rattle.decimal.specs.Shortest.{shortest}
 use Rattle.pieces.specs.Block as K
@@ -26,7 +27,7 @@ pub holds : T.Holds
 unfolding
     T.table T.bytes T.answerTo T.questionOf T.replyOf T.entryReply T.bytesAt T.readReply T.spelledReply T.filtersReply
     U.charsOf U.charsFrom U.charSize U.leadOf U.leadIn U.table U.sizeBy U.follows U.second U.before
-    P.anySpace P.isSpace P.inAny P.spaces P.codePoint same B.isEmpty B.endsIn cut roomAnswer
+    P.anySpace P.isSpace P.inAny P.spaces P.codePoint same firstWhere B.isEmpty B.endsIn cut roomAnswer
     D.valueOf D.isDigit shortest
     C.split C.longer C.joined C.countOf C.lacks
     L.posAnswer L.positive

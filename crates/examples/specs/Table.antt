@@ -9,7 +9,7 @@ use mathlib.Core.Bool.{true, false}
 use mathlib.Core.List.{List, [], _∷_, map}
 use lib.ListN.{length}
 use Rattle.text.specs.Answer.{Answer, says}
-use Rattle.text.specs.Range.{cut}
+use Rattle.text.specs.Range.{cut, rangeAt}
 use Rattle.fields.specs.Pos.{posAnswer}
 use Rattle.lists.specs.Judge.{entryAnswer}
 use Rattle.lists.specs.Write.{listText, entriesAnswer}
@@ -58,7 +58,7 @@ pub data Reply : Type 0 where
 unfoldable pub bytesAt : List ℕ → List ℕ → List (List ℕ)
 bytesAt t [] = []
 bytesAt t (start ∷ []) = []
-bytesAt t (start ∷ len ∷ places) = cut (record { start = start; len = len }) t ∷ bytesAt t places
+bytesAt t (start ∷ len ∷ places) = cut (rangeAt start len) t ∷ bytesAt t places
 
 -- the places follow the next place
 unfoldable pub entryReply : List ℕ → Answer → Reply

@@ -4,15 +4,13 @@ use Prim.Native.Nat.{ℕ}
 use mathlib.Core.Path.{_≡_}
 use mathlib.Core.List.{List}
 use Rattle.text.specs.Answer.{Answer}
-use Rattle.text.specs.Over.{laid, laidAt, roomAnswer}
+use Rattle.text.specs.Over.{roomAnswer, roomLeft}
 use Rattle.decimal.specs.Shortest.{shortest}
-use Rattle.pieces.specs.Entries.{entryList}
 use Rattle.lists.specs.Write as L
 use Rattle.lists.specs.declared.write.Kind.{Kind}
-use Rattle.spelling.specs.Spelling.{from44, spell}
-use Rattle.spelling.specs.Row.{rowOf}
+use Rattle.spelling.specs.Spelling.{from44}
 use Rattle.spelling.specs.Write as S
-use Rattle.join.specs.Join.{joinAnswer, lineText}
+use Rattle.join.specs.Join.{joinAnswer, lineLeft}
 use Rattle.exports.specs.Told.{Tells, leftBy}
 
 -- an entry whose answer is a, with at most k values, and that leaves `left` in an output that held out
@@ -21,17 +19,16 @@ pub record TellsWriting (k : ℕ) (a : Answer) (left out l : List ℕ) (r : ℕ)
   pub output : out′ ≡ leftBy k l left out
 
 abbrev pub PrintsDecimal : ℕ → List ℕ → List ℕ → ℕ → List ℕ → List ℕ → Type 0
-PrintsDecimal n out l r out′ l′ = TellsWriting 1 (roomAnswer (shortest n) out) (laid (roomAnswer (shortest n) out) (shortest n) out) out l r out′ l′
+PrintsDecimal n out l r out′ l′ = TellsWriting 1 (roomAnswer (shortest n) out) (roomLeft (shortest n) out) out l r out′ l′
 
 abbrev pub WritesEntries : Kind → List ℕ → List ℕ → List ℕ → ℕ → List ℕ → ℕ → List ℕ → List ℕ → Type 0
 WritesEntries kind t ends out at l r out′ l′ =
-    TellsWriting 1 (L.writeAnswer kind t ends out at) (laidAt (L.writeAnswer kind t ends out at) at (L.listText kind (entryList t ends)) out) out l r out′ l′
+    TellsWriting 1 (L.writeAnswer kind t ends out at) (L.listLeft kind t ends out at) out l r out′ l′
 
 abbrev pub WritesGenotype : List ℕ → List ℕ → List ℕ → ℕ → ℕ → List ℕ → ℕ → List ℕ → ℕ → List ℕ → List ℕ → Type 0
 WritesGenotype n m p major minor out at l r out′ l′ =
-    TellsWriting 1 (S.rowAnswer n m p (from44 major minor) out at)
-    (laidAt (S.rowAnswer n m p (from44 major minor) out at) at (S.textOf (spell (from44 major minor) (rowOf n m p))) out) out l r out′ l′
+    TellsWriting 1 (S.rowAnswer n m p (from44 major minor) out at) (S.rowLeft n m p (from44 major minor) out at) out l r out′ l′
 
 abbrev pub JoinsColumns : List ℕ → List ℕ → List ℕ → ℕ → List ℕ → ℕ → List ℕ → List ℕ → Type 0
 JoinsColumns t ends out at l r out′ l′ =
-    TellsWriting 1 (joinAnswer t ends at out) (laidAt (joinAnswer t ends at out) at (lineText (entryList t ends)) out) out l r out′ l′
+    TellsWriting 1 (joinAnswer t ends at out) (lineLeft t ends at out) out l r out′ l′

@@ -7,6 +7,7 @@ use types.Run.{OneOf}
 use denote.Enum.Declared.{tagOf}
 use borrow.Author.Tests.{lt-ltb, le-ltb}
 use Rattle.text.specs.Answer.{numberOf}
+use Rattle.text.proofs.FirstLaws.{where-none, where-here, where-later}
 use Rattle.lists.specs.AlternateBases.{altCount}
 use Rattle.genotype.specs.Reading.{Reading, list, bad, empty, readingOf, stepAnswer, listOf, ListMeant}
 use Rattle.genotype.specs.Answers.{wholeAnswer, fitAnswer, firstAbove, aboveAnswer, checkedAnswer}
@@ -41,15 +42,15 @@ module _ (t : List ℕ) (count at k : ℕ) (x : Step) (g : Finding t count at k)
 
     pub find-at : count < a .number → abovePaper (O.At k) ≡ firstAbove count 0 (listOf (readingOf t))
     unfolding abovePaper firstAbove
-    find-at h = rw (left, lt-ltb _ _ h) at (g .same)
+    find-at h = rw (left, where-here _ k a (leftOf t next (k + 1)) (lt-ltb _ _ h)) at (g .same)
 
     pub find-turn : a .number ≤ count → Finding t count next (k + 1)
     unfolding firstAbove
-    find-turn h = record { ahead = ahead-turn (g .ahead) e q; same = rw (left, le-ltb _ _ h) at (g .same) }
+    find-turn h = record { ahead = ahead-turn (g .ahead) e q; same = rw (left, where-later _ k a (leftOf t next (k + 1)) (le-ltb _ _ h)) at (g .same) }
 
   pub find-none : OneOf (1 ∷ 2 ∷ 3 ∷ []) (tagOf T.the-type x) → abovePaper O.Nothing ≡ firstAbove count 0 (listOf (readingOf t))
   unfolding abovePaper firstAbove
-  find-none h = rw (left-end t at k x (g .ahead) e h) at (g .same)
+  find-none h = rw (left-end t at k x (g .ahead) e h, where-none _ k) at (g .same)
 
 -- ---- the answer
 
@@ -57,8 +58,8 @@ module _ (t : List ℕ) (count at k : ℕ) (x : Step) (g : Finding t count at k)
 other-above : (count : ℕ) (r : Reading) → (numberOf (wholeAnswer r) ≡ 0 → ⊥) → firstAbove count 0 (listOf r) ≡ none
 unfolding wholeAnswer firstAbove listOf
 other-above count (list as′) n = absurd (n refl)
-other-above count (bad k) n = refl
-other-above count empty n = refl
+other-above count (bad k) n = where-none _ 0
+other-above count empty n = where-none _ 0
 
 -- a done answer is a list's
 whole-list : (r : Reading) (n : ℕ) → readPaper (R.Done n) ≡ wholeAnswer r → r ≡ list (listOf r)

@@ -6,7 +6,7 @@ use mathlib.Core.List.{List, [], _∷_}
 use native.Mathlib.Omega.{arith}
 use native.Mathlib.Decide.{ℕ-discrete}
 use lib.ListN.{length}
-use borrow.Author.Tests.{eq-eqb, ne-eqb, lt-ltb, le-ltb}
+use borrow.Author.Tests.{eq-eqb, ne-eqb, lt-leb, le-leb}
 use Rattle.text.specs.Answer.{Answer, says, numberOf}
 use Rattle.text.specs.Over.{over}
 use Rattle.genotype.specs.Reading.{list, bad, empty, readingOf, listOf, numbersOf, missingOf, phasedOf}
@@ -20,11 +20,11 @@ use Rattle.genotype.specs.declared.read.Read.{Read}
 module _ (room : ℕ) where
   pub answer-list : (as′ : List Allele) → length as′ ≤ room → readAnswer (list as′) room ≡ says 0 (length as′ ∷ [])
   unfolding readAnswer fitAnswer wholeAnswer
-  answer-list as′ h = rw (le-ltb _ _ h)
+  answer-list as′ h = rw (le-leb _ _ h)
 
   pub answer-short : (as′ : List Allele) → room < length as′ → readAnswer (list as′) room ≡ says 17 []
   unfolding readAnswer fitAnswer wholeAnswer
-  answer-short as′ h = rw (lt-ltb _ _ h)
+  answer-short as′ h = rw (lt-leb _ _ h)
 
   pub answer-bad : (k : ℕ) → readAnswer (bad k) room ≡ says 12 (k ∷ [])
   unfolding readAnswer fitAnswer wholeAnswer

@@ -6,7 +6,7 @@ use native.Mathlib.Omega.{arith}
 use types.Run.{OneOf, miss}
 use denote.Enum.Declared.{tagOf}
 use lib.ListN.{length, drop}
-use borrow.Author.Tests.{lt-ltb, le-ltb}
+use borrow.Author.Tests.{lt-leb, le-leb}
 use Rattle.text.specs.Answer.{Answer, says, numberOf}
 use Rattle.genotype.specs.Reading.{Reading, list, bad, empty, with, gathered, readingOf, listOf, partsOf, stepAnswer}
 use Rattle.genotype.specs.Answers.{wholeAnswer, fitAnswer, readAnswer}
@@ -119,11 +119,11 @@ other-number (R.Above k) h e = omega arith
 
 pub fit-short : (x : Read) {n room : ℕ} → x ≡ R.Done n → room < n → readPaper R.Short ≡ fitAnswer (readPaper x) room
 unfolding readPaper fitAnswer
-fit-short x e h = rw (e, lt-ltb _ _ h)
+fit-short x e h = rw (e, lt-leb _ _ h)
 
 pub fit-done : (x : Read) {n room : ℕ} → x ≡ R.Done n → n ≤ room → readPaper (R.Done n) ≡ fitAnswer (readPaper x) room
 unfolding readPaper fitAnswer
-fit-done x e h = rw (e, le-ltb _ _ h)
+fit-done x e h = rw (e, le-leb _ _ h)
 
 pub fit-other : (x : Read) (room : ℕ) → OneOf (1 ∷ 2 ∷ 3 ∷ 4 ∷ 5 ∷ []) (tagOf D.the-type x) → readPaper x ≡ fitAnswer (readPaper x) room
 unfolding readPaper fitAnswer

@@ -3,9 +3,8 @@ use Prim.Native.Nat.{ℕ}
 use mathlib.Core.Path.{_≡_, refl}
 use mathlib.Core.List.{List}
 use lib.ListN.{length}
-use Rattle.text.specs.Over.{laid}
-use Rattle.genotype.specs.Reading.{readingOf, listOf}
-use Rattle.genotype.specs.Answers.{readAnswer}
+use Rattle.genotype.specs.Reading.{readingOf}
+use Rattle.genotype.specs.Answers.{readAnswer, rowRead}
 use Rattle.genotype.specs.Demands.{reader}
 use Rattle.genotype.specs.declared.allele.Allele.{Allele}
 
@@ -14,6 +13,6 @@ module _ (t : List ℕ) (row : List Allele) where
   unfolding reader
   reader-answer = refl
 
-  pub reader-row : reader t row .row ≡ laid (readAnswer (readingOf t) (length row)) (listOf (readingOf t)) row
+  pub reader-row : reader t row .row ≡ rowRead t row
   unfolding reader
   reader-row = refl

@@ -1,5 +1,5 @@
 -- What the readers answer, and what they leave in the lent row (docs/RULES.md, "Genotypes"). Assumes nothing.
-use Prim.Native.Nat.{ℕ, _+_, _≤_}
+use Prim.Native.Nat.{ℕ, _≤_, zero, suc}
 use mathlib.Core.Path.{_≡_}
 use mathlib.Core.Bool.{_&&_}
 use mathlib.Core.List.{List, [], _∷_}
@@ -8,7 +8,8 @@ use lib.ListN.{length}
 use lib.Dec.{ltb, eqb}
 use Rattle.text.specs.Pick.{pick}
 use Rattle.text.specs.Answer.{Answer, says}
-use Rattle.text.specs.Over.{laid}
+use Rattle.text.specs.Over.{laid, roomFor}
+use Rattle.text.specs.First.{firstWhere}
 use Rattle.lists.specs.AlternateBases.{altCount}
 use Rattle.genotype.specs.Reading.{Reading, list, bad, empty, readingOf, listOf, numbersOf, missingOf, phasedOf}
 use Rattle.genotype.specs.Paper.{readPaper}
@@ -25,10 +26,11 @@ wholeAnswer empty = says 11 []
 
 -- ---- room last
 
--- 17 where so many alleles are more than the row holds
+-- of a text that reads as so many alleles
 unfoldable pub fitAnswer : Answer → ℕ → Answer
-fitAnswer (says n []) room = says n []
-fitAnswer (says n (count ∷ vs)) room = pick (eqb n 0 && ltb room count) (says 17 []) (says n (count ∷ vs))
+fitAnswer (says zero []) room = says 0 []
+fitAnswer (says zero (count ∷ vs)) room = roomFor count room
+fitAnswer (says (suc n) vs) room = says (suc n) vs
 
 unfoldable pub readAnswer : Reading → ℕ → Answer
 unfolding wholeAnswer
@@ -38,8 +40,7 @@ readAnswer r room = fitAnswer (wholeAnswer r) room
 
 -- the index of the first allele above the count, the first of these having index k
 unfoldable pub firstAbove : ℕ → ℕ → List Allele → Option ℕ
-firstAbove count k [] = none
-firstAbove count k (a ∷ as′) = pick (ltb count (a .number)) (some k) (firstAbove count (k + 1) as′)
+firstAbove count k as′ = firstWhere (λ (a : Allele). ltb count (a .number)) k as′
 
 -- 20 after 12 and before 17
 unfoldable pub aboveAnswer : Option ℕ → Answer → Answer
@@ -56,6 +57,13 @@ checkedAnswer count r room = aboveAnswer (firstAbove count 0 (listOf r)) (readAn
 unfoldable pub rowAnswer : List ℕ → List ℕ → List ℕ → Answer → Answer
 rowAnswer n m p a = pick (eqb (length n) (length m) && eqb (length n) (length p)) a (says 16 [])
 
+-- for a text, and also with no allele above what an ALT column counts
+abbrev pub textAnswer : List ℕ → List ℕ → List ℕ → List ℕ → Answer
+textAnswer t n m p = rowAnswer n m p (readAnswer (readingOf t) (length n))
+
+abbrev pub checkedText : List ℕ → List ℕ → List ℕ → List ℕ → List ℕ → Answer
+checkedText t alt n m p = rowAnswer n m p (checkedAnswer (altCount alt) (readingOf t) (length n))
+
 -- so many entries fit each
 pub record Room (k : ℕ) (n m p : List ℕ) : Type 0 where
   pub numbers : k ≤ length n
@@ -70,7 +78,14 @@ pub record Reads (a : Answer) (as′ : List Allele) (n m p : List ℕ) (r : Read
   pub phased : p′ ≡ laid a (phasedOf as′) p
 
 abbrev pub ReadsText : List ℕ → List ℕ → List ℕ → List ℕ → Read → List ℕ → List ℕ → List ℕ → Type 0
-ReadsText t n m p r n′ m′ p′ = Reads (rowAnswer n m p (readAnswer (readingOf t) (length n))) (listOf (readingOf t)) n m p r n′ m′ p′
+ReadsText t n m p r n′ m′ p′ = Reads (textAnswer t n m p) (listOf (readingOf t)) n m p r n′ m′ p′
 
 abbrev pub ReadsChecked : List ℕ → List ℕ → List ℕ → List ℕ → List ℕ → Read → List ℕ → List ℕ → List ℕ → Type 0
-ReadsChecked t alt n m p r n′ m′ p′ = Reads (rowAnswer n m p (checkedAnswer (altCount alt) (readingOf t) (length n))) (listOf (readingOf t)) n m p r n′ m′ p′
+ReadsChecked t alt n m p r n′ m′ p′ = Reads (checkedText t alt n m p) (listOf (readingOf t)) n m p r n′ m′ p′
+
+-- a row of records, with the list laid over it where the answer is done
+abbrev pub rowRead : List ℕ → List Allele → List Allele
+rowRead t row = laid (readAnswer (readingOf t) (length row)) (listOf (readingOf t)) row
+
+abbrev pub rowChecked : List ℕ → List ℕ → List Allele → List Allele
+rowChecked t alt row = laid (checkedAnswer (altCount alt) (readingOf t) (length row)) (listOf (readingOf t)) row

@@ -6,9 +6,9 @@ use mathlib.Core.Logic.{_↔_}
 use mathlib.Core.List.{List, [], _∷_}
 use lib.ListN.{length}
 use Rattle.text.specs.Answer.{Answer, says, numberOf}
-use Rattle.text.specs.Over.{over, laid}
-use Rattle.genotype.specs.Reading.{readingOf, listOf}
-use Rattle.genotype.specs.Answers.{readAnswer}
+use Rattle.text.specs.Over.{over}
+use Rattle.genotype.specs.Reading.{readingOf}
+use Rattle.genotype.specs.Answers.{readAnswer, rowRead}
 use Rattle.genotype.specs.Means.{Means}
 use Rattle.genotype.specs.declared.allele.Allele.{Allele}
 
@@ -25,7 +25,7 @@ unfoldable pub reader : Reader
 reader t row =
     record {
       answer = readAnswer (readingOf t) (length row);
-      row = laid (readAnswer (readingOf t) (length row)) (listOf (readingOf t)) row;
+      row = rowRead t row;
     }
 
 -- the answer 0 stands for this list and for no other, and the row holds it

@@ -5,13 +5,13 @@ use mathlib.Core.List.{List}
 use lib.ListN.{length, getD}
 use denote.Ref.{RefT, now}
 use Rattle.text.specs.Answer.{Answer, valuesOf}
-use Rattle.text.specs.Range.{cut}
+use Rattle.text.specs.Range.{cut, rangeAt}
 use Rattle.text.specs.declared.range.Range.{Range}
 use Rattle.info.specs.Find.{findAnswer}
 
 -- the value's place: the fourth and fifth value of what `find` answers; where there are none, empty at the column's end
 unfoldable pub shownOf : ℕ → Answer → Range
-shownOf end a = record { start = getD (valuesOf a) 3 end; len = getD (valuesOf a) 4 0 }
+shownOf end a = rangeAt (getD (valuesOf a) 3 end) (getD (valuesOf a) 4 0)
 
 unfoldable pub shown : List ℕ → List ℕ → Range
 shown t key = shownOf (length t) (findAnswer t key)

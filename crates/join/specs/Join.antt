@@ -54,7 +54,11 @@ listAnswer t ends l =
 unfoldable pub joinAnswer : List ℕ → List ℕ → ℕ → List ℕ → Answer
 joinAnswer t ends at out = placed at out (listAnswer t ends (drop at out))
 
--- the joiner answers r, and leaves out′ in an output that held out: only an answer that is done changes it
+-- only an answer that is done changes the output
+abbrev pub lineLeft : List ℕ → List ℕ → ℕ → List ℕ → List ℕ
+lineLeft t ends at out = laidAt (joinAnswer t ends at out) at (lineText (entryList t ends)) out
+
+-- the joiner answers r, and leaves out′ in an output that held out
 pub record JoinsAt (t ends : List ℕ) (at : ℕ) (out : List ℕ) (r : Joined) (out′ : List ℕ) : Type 0 where
   pub answer : joinedPaper r ≡ joinAnswer t ends at out
-  pub bytes : out′ ≡ laidAt (joinAnswer t ends at out) at (lineText (entryList t ends)) out
+  pub bytes : out′ ≡ lineLeft t ends at out

@@ -8,7 +8,7 @@ use lib.ListN.{length, take, drop, length-append, length-take, length-drop, take
 use lib.Seq.{take-append-seam, take-add, drop-append-le, drop-drop}
 use borrow.Author.Tests.{le-leb}
 use Rattle.text.proofs.Lists.{drop-take, take-over}
-use Rattle.listing.specs.Kept.{inOrder, keptBytes}
+use Rattle.listing.specs.Kept.{inOrder, keptBytes, keptAnswer}
 use Rattle.listing.specs.Demands.{Holds, KeepsWindow, Grows}
 
 module _ {s : List ℕ} {base : ℕ} {w : List ℕ} {last : Bool} (h : Holds s base w last) where
@@ -38,7 +38,7 @@ module _ {s : List ℕ} {base : ℕ} {w : List ℕ} {last : Bool} (h : Holds s b
       }
 
 kept-bytes : (at end : ℕ) (l : List ℕ) → at ≤ end → end ≤ length l → take (end - at) (keptBytes at end l) ≡ drop at (take end l)
-unfolding keptBytes inOrder
+unfolding keptBytes keptAnswer inOrder
 kept-bytes at end l a b =
     rw (le-leb at end a, le-leb end (length l) b)
     (take-over (take (end - at) (drop at l)) l (end - at) (simp (length-take, length-drop) (omega arith)) ∙ sym (drop-take l at end a b))

@@ -5,7 +5,7 @@ use mathlib.Core.List.{List, [], _∷_}
 use lib.ListN.{length, take, drop}
 use Rattle.text.specs.Pick.{pick, within}
 use Rattle.text.specs.Answer.{Answer, says}
-use Rattle.text.specs.Over.{over}
+use Rattle.text.specs.Over.{laid}
 
 -- the two places are in order, and in the buffer
 unfoldable pub inOrder : ℕ → ℕ → List ℕ → Bool
@@ -17,4 +17,4 @@ keptAnswer from end l = pick (inOrder from end l) (says 0 ((end - from) ∷ []))
 
 -- the bytes from one place up to the other over the first ones; nothing changes on a refusal
 unfoldable pub keptBytes : ℕ → ℕ → List ℕ → List ℕ
-keptBytes from end l = pick (inOrder from end l) (over (take (end - from) (drop from l)) l) l
+keptBytes from end l = laid (keptAnswer from end l) (take (end - from) (drop from l)) l

@@ -7,7 +7,7 @@ use lib.ListN.{drop}
 use lib.Dec.{eqb}
 use Rattle.text.specs.Pick.{pick}
 use Rattle.text.specs.Answer.{Answer, says, numberOf}
-use Rattle.text.specs.Over.{roomAnswer, laid, laidAt, placed}
+use Rattle.text.specs.Over.{roomAnswer, laid, laidAt, placed, roomLeft}
 use Rattle.pieces.specs.Pieces.{joined}
 use Rattle.pieces.specs.Entries.{entryList, ordered}
 use Rattle.lists.specs.Kind.{separatorOf}
@@ -45,9 +45,12 @@ writeAnswer kind t ends out at = placed at out (listAnswer kind t ends (drop at 
 
 -- ---- the output: only an answer that is done changes it
 
+abbrev pub listLeft : Kind → List ℕ → List ℕ → List ℕ → ℕ → List ℕ
+listLeft kind t ends out at = laidAt (writeAnswer kind t ends out at) at (listText kind (entryList t ends)) out
+
 pub record PutsList (kind : Kind) (es : List (List ℕ)) (l : List ℕ) (r : Write) (l′ : List ℕ) : Type 0 where
   pub answer : writePaper kind r ≡ roomAnswer (listText kind es) l
-  pub bytes : l′ ≡ laid (roomAnswer (listText kind es) l) (listText kind es) l
+  pub bytes : l′ ≡ roomLeft (listText kind es) l
 
 pub record WritesList (kind : Kind) (t ends l : List ℕ) (r : Write) (l′ : List ℕ) : Type 0 where
   pub answer : writePaper kind r ≡ listAnswer kind t ends l
@@ -55,4 +58,4 @@ pub record WritesList (kind : Kind) (t ends l : List ℕ) (r : Write) (l′ : Li
 
 pub record WritesListAt (kind : Kind) (t ends out : List ℕ) (at : ℕ) (r : Write) (out′ : List ℕ) : Type 0 where
   pub answer : writePaper kind r ≡ writeAnswer kind t ends out at
-  pub bytes : out′ ≡ laidAt (writeAnswer kind t ends out at) at (listText kind (entryList t ends)) out
+  pub bytes : out′ ≡ listLeft kind t ends out at

@@ -1,6 +1,6 @@
 -- The first key that is equal: the step's piece is the first of the keys that are left, so each turn passes one. Assumes nothing.
 use Prim.Native.Nat.{ℕ, _+_, _-_, _^_, _<_, _≤_, zero-le}
-use mathlib.Core.Path.{_≡_, refl, sym, _∙_}
+use mathlib.Core.Path.{_≡_, sym, _∙_}
 use mathlib.Core.Bool.{Bool, true, false}
 use mathlib.Core.List.{List, [], _∷_}
 use native.Mathlib.Omega.{arith}
@@ -14,6 +14,7 @@ use Rattle.text.specs.Range.{cut}
 use Rattle.text.specs.Same.{same}
 use Rattle.text.specs.declared.range.Range.{Range}
 use Rattle.text.proofs.Lists.{cut-is}
+use Rattle.text.proofs.FirstLaws.{where-none, where-here, where-later}
 use Rattle.pieces.specs.Pieces.{split, stepAnswer}
 use Rattle.pieces.specs.Paper.{stepPaper}
 use Rattle.pieces.specs.declared.step.Step.{Step}
@@ -21,23 +22,23 @@ use Rattle.pieces.specs.declared.step.Step.the-variants as S
 use Rattle.pieces.proofs.step.Step.{the-type}
 use Rattle.pieces.proofs.PieceLaws.{pieces-none, pieces-some}
 use Rattle.pieces.proofs.StepLaws.{Further, Final, further-fits, final-fits, step-tells, rest-tells}
-use Rattle.samples.specs.Keys.{keysOf, indexIn, keyAnswer}
+use Rattle.samples.specs.Keys.{keysOf, indexIn, keyAnswer, indexAnswer}
 use Rattle.samples.specs.Paper.{keyPaper}
 use Rattle.samples.specs.declared.keys.Key.the-variants as K
 
 -- ---- the keys one by one
 
 pub index-none : (i : ℕ) (key : List ℕ) → indexIn i [] key ≡ says 10 []
-unfolding indexIn
-index-none i key = refl
+unfolding indexIn indexAnswer
+index-none i key = rw (where-none (λ (k : List ℕ). same k key) i)
 
 pub index-here : (i : ℕ) (k : List ℕ) (ks : List (List ℕ)) (key : List ℕ) → same k key ≡ true → indexIn i (k ∷ ks) key ≡ says 0 (i ∷ [])
-unfolding indexIn
-index-here i k ks key e = rw e
+unfolding indexIn indexAnswer
+index-here i k ks key e = rw (where-here (λ (k : List ℕ). same k key) i k ks e)
 
 pub index-later : (i : ℕ) (k : List ℕ) (ks : List (List ℕ)) (key : List ℕ) → same k key ≡ false → indexIn i (k ∷ ks) key ≡ indexIn (i + 1) ks key
-unfolding indexIn
-index-later i k ks key e = rw e
+unfolding indexIn indexAnswer
+index-later i k ks key e = rw (where-later (λ (k : List ℕ). same k key) i k ks e)
 
 key-none : (format key : List ℕ) → length format ≡ 0 → keyAnswer format key ≡ says 10 []
 unfolding keyAnswer keysOf

@@ -1,18 +1,24 @@
 -- The keys of FORMAT (docs/RULES.md, "Samples"). Assumes nothing.
-use Prim.Native.Nat.{ℕ, _+_}
+use Prim.Native.Nat.{ℕ}
 use mathlib.Core.List.{List, [], _∷_}
-use Rattle.text.specs.Pick.{pick}
+use mathlib.Core.Option.{Option, some, none}
 use Rattle.text.specs.Answer.{Answer, says}
 use Rattle.text.specs.Same.{same}
+use Rattle.text.specs.First.{firstWhere}
 use Rattle.pieces.specs.Pieces.{pieces}
 
 unfoldable pub keysOf : List ℕ → List (List ℕ)
 keysOf format = pieces 58 format
 
--- the index of the first of these keys that is equal, counted from i, or 10
+-- 0 and the index, or 10
+unfoldable pub indexAnswer : Option ℕ → Answer
+indexAnswer (some i) = says 0 (i ∷ [])
+indexAnswer none = says 10 []
+
+-- the first of these keys that is equal, the first of them having index i
 unfoldable pub indexIn : ℕ → List (List ℕ) → List ℕ → Answer
-indexIn i [] key = says 10 []
-indexIn i (k ∷ ks) key = pick (same k key) (says 0 (i ∷ [])) (indexIn (i + 1) ks key)
+unfolding indexAnswer
+indexIn i ks key = indexAnswer (firstWhere (λ (k : List ℕ). same k key) i ks)
 
 unfoldable pub keyAnswer : List ℕ → List ℕ → Answer
 keyAnswer format key = indexIn 0 (keysOf format) key

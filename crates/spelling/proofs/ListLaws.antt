@@ -10,13 +10,13 @@ use borrow.Author.Tests.{le-leb, lt-leb}
 use borrow.Rule.Slice.PartMut.{putMid}
 use Rattle.text.specs.Pick.{pick}
 use Rattle.text.specs.Answer.{numberOf}
-use Rattle.text.specs.Over.{over, overAt, laidAt}
+use Rattle.text.specs.Over.{over, overAt}
 use Rattle.text.proofs.Lists.{rest-all, rest-put, rest-back}
 use Rattle.genotype.specs.declared.allele.Allele.{Allele}
 use Rattle.spelling.specs.Spelling.{from44, spell}
 use Rattle.spelling.specs.Put.{fitsAt}
 use Rattle.spelling.specs.Paper.{writePaper}
-use Rattle.spelling.specs.Write.{spelledAnswer, textOf, WritesList, listAnswer}
+use Rattle.spelling.specs.Write.{spelledAnswer, textOf, WritesList, listAnswer, listLeft}
 use Rattle.spelling.specs.Demands.{writer}
 use Rattle.spelling.specs.declared.write.Write.{Write}
 use Rattle.spelling.specs.declared.write.Write.the-variants as W
@@ -27,7 +27,7 @@ fits-at vs at l h = le-leb _ _ h
 
 pub record ListOutcome (as′ : List Allele) (late : Bool) (out : List ℕ) (at : ℕ) (r : Write) (out′ : List ℕ) : Type 0 where
   pub answer : writePaper r ≡ listAnswer as′ late out at
-  pub bytes : out′ ≡ laidAt (listAnswer as′ late out at) at (textOf (spell late as′)) out
+  pub bytes : out′ ≡ listLeft as′ late out at
 
 module _ (as′ : List Allele) (late : Bool) (out : List ℕ) (at : ℕ) where
   pub list-beyond : length out < at → ListOutcome as′ late out at W.Beyond out
@@ -58,6 +58,6 @@ module _ (major minor : ℕ) (as′ : List Allele) (out : List ℕ) (at : ℕ) w
   writer-answer = refl
 
   pub writer-output : writer major minor as′ out at .output
-      ≡ laidAt (listAnswer as′ (from44 major minor) out at) at (textOf (spell (from44 major minor) as′)) out
+      ≡ listLeft as′ (from44 major minor) out at
   unfolding writer
   writer-output = refl

@@ -9,6 +9,7 @@ use native.Mathlib.Numerals.{add-one}
 use lib.ListN.{length, length-append}
 use lib.Dec.{leb, eqb}
 use borrow.Author.Tests.{lt-ltb, le-ltb, eq-eqb, ne-eqb}
+use Rattle.text.proofs.FirstLaws.{where-none, where-here, where-later}
 use Rattle.decimal.specs.Shortest.{shortest}
 use Rattle.decimal.proofs.Shortest.{length-20}
 use Rattle.genotype.specs.Means.{markByte, allPhased}
@@ -87,16 +88,16 @@ marked-longer a as′ =
 
 pub unsound-none : (k : ℕ) → firstUnsound k [] ≡ none
 unfolding firstUnsound
-unsound-none k = refl
+unsound-none k = where-none _ k
 
 module _ (k : ℕ) (a : Allele) (as′ : List Allele) where
   pub unsound-more : isSound a ≡ true → firstUnsound k (a ∷ as′) ≡ firstUnsound (k + 1) as′
   unfolding firstUnsound
-  unsound-more h = rw h
+  unsound-more h = where-later _ k a as′ (rw h)
 
   pub unsound-here : isSound a ≡ false → firstUnsound k (a ∷ as′) ≡ some k
   unfolding firstUnsound
-  unsound-here h = rw h
+  unsound-here h = where-here _ k a as′ (rw h)
 
   -- in a list without an unsound allele the first is sound, and the others are such a list
   pub sound-parts : firstUnsound k (a ∷ as′) ≡ none → (isSound a ≡ true) × (firstUnsound (k + 1) as′ ≡ none)

@@ -7,12 +7,12 @@ use mathlib.Core.Logic.{_↔_}
 use mathlib.Core.List.{List, [], _∷_}
 use lib.ListN.{length, getD, take, drop}
 use Rattle.text.specs.Answer.{Answer, says, numberOf}
-use Rattle.text.specs.Over.{overAt, laidAt}
+use Rattle.text.specs.Over.{overAt}
 use Rattle.genotype.specs.Means.{Means}
 use Rattle.genotype.specs.declared.allele.Allele.{Allele}
-use Rattle.spelling.specs.Spelling.{from44, spell}
+use Rattle.spelling.specs.Spelling.{from44}
 use Rattle.spelling.specs.Permitted.{Permitted, TheShortest}
-use Rattle.spelling.specs.Write.{listAnswer, textOf}
+use Rattle.spelling.specs.Write.{listAnswer, listLeft}
 
 -- a writer is given a file format, a list, an output and a place in it, and answers on paper and leaves an output
 pub record Outcome : Type 0 where
@@ -27,7 +27,7 @@ unfoldable pub writer : Writer
 writer major minor as′ out at =
     record {
       answer = listAnswer as′ (from44 major minor) out at;
-      output = laidAt (listAnswer as′ (from44 major minor) out at) at (textOf (spell (from44 major minor) as′)) out;
+      output = listLeft as′ (from44 major minor) out at;
     }
 
 -- the one shortest of the spellings that a file format permits

@@ -5,6 +5,7 @@ use mathlib.Core.List.{List, [], _∷_, _++_}
 use mathlib.Core.Option.{Option, some, none}
 use lib.Dec.{leb, ltb, eqb}
 use Rattle.text.specs.Pick.{pick}
+use Rattle.text.specs.First.{firstWhere}
 use Rattle.decimal.specs.Shortest.{shortest}
 use Rattle.genotype.specs.Means.{markByte, allPhased}
 use Rattle.genotype.specs.declared.allele.Allele.{Allele}
@@ -33,8 +34,7 @@ isSound a = not (a .missing) || eqb (a .number) 0
 
 -- the index of the first that is not, the first of these having index k
 unfoldable pub firstUnsound : ℕ → List Allele → Option ℕ
-firstUnsound k [] = none
-firstUnsound k (a ∷ as′) = pick (isSound a) (firstUnsound (k + 1) as′) (some k)
+firstUnsound k as′ = firstWhere (λ (a : Allele). not (isSound a)) k as′
 
 -- a file format of 4.4 or later: major compared first, then minor
 unfoldable pub from44 : ℕ → ℕ → Bool

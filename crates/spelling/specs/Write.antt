@@ -39,13 +39,19 @@ pub record WritesList (as′ : List Allele) (late : Bool) (l : List ℕ) (r : Wr
 unfoldable pub listAnswer : List Allele → Bool → List ℕ → ℕ → Answer
 listAnswer as′ late out at = placed at out (spelledAnswer (spell late as′) (drop at out))
 
+abbrev pub listLeft : List Allele → Bool → List ℕ → ℕ → List ℕ
+listLeft as′ late out at = laidAt (listAnswer as′ late out at) at (textOf (spell late as′)) out
+
 -- 6 first, then 16 where the slices' lengths differ
 unfoldable pub rowAnswer : List ℕ → List ℕ → List ℕ → Bool → List ℕ → ℕ → Answer
 rowAnswer n m p late out at = placed at out (G.rowAnswer n m p (spelledAnswer (spell late (rowOf n m p)) (drop at out)))
 
+abbrev pub rowLeft : List ℕ → List ℕ → List ℕ → Bool → List ℕ → ℕ → List ℕ
+rowLeft n m p late out at = laidAt (rowAnswer n m p late out at) at (textOf (spell late (rowOf n m p))) out
+
 pub record WritesRow (n m p : List ℕ) (major minor : ℕ) (out : List ℕ) (at : ℕ) (r : Write) (out′ : List ℕ) : Type 0 where
   pub answer : writePaper r ≡ rowAnswer n m p (from44 major minor) out at
-  pub bytes : out′ ≡ laidAt (rowAnswer n m p (from44 major minor) out at) at (textOf (spell (from44 major minor) (rowOf n m p))) out
+  pub bytes : out′ ≡ rowLeft n m p (from44 major minor) out at
 
 -- the numbers of a list that is written have at most 64 bits: so what is written reads back with nothing asked of the caller
 pub record SmallWhereDone (n : List ℕ) (r : Write) : Type 0 where

@@ -2,6 +2,7 @@ pub mod Pick
 pub mod Answer
 pub mod Range
 pub mod Same
+pub mod First
 pub mod Bytes
 pub mod Paper
 pub mod Over

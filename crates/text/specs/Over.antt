@@ -30,9 +30,16 @@ laidAt a at vs l = pick (eqb (numberOf a) 0) (overAt at vs l) l
 
 -- ---- the answer
 
--- 0 and the number of bytes where vs fits in l, else 17
+-- 0 and n where there is room for n, else 17
+abbrev pub roomFor : ℕ → ℕ → Answer
+roomFor n room = pick (leb n room) (says 0 (n ∷ [])) (says 17 [])
+
 unfoldable pub roomAnswer : List ℕ → List ℕ → Answer
-roomAnswer vs l = pick (leb (length vs) (length l)) (says 0 (length vs ∷ [])) (says 17 [])
+roomAnswer vs l = roomFor (length vs) (length l)
+
+-- what is left in l where vs is written if it fits
+abbrev pub roomLeft : List ℕ → List ℕ → List ℕ
+roomLeft vs l = laid (roomAnswer vs l) vs l
 
 -- 6 before the answer a, for a place beyond the bytes l
 abbrev pub placed : ℕ → List ℕ → Answer → Answer
@@ -41,4 +48,4 @@ placed at l a = pick (leb at (length l)) a (says 6 [])
 -- a writer of the bytes vs answers r, and leaves l′ in a slice that held l
 pub record Writes (vs l : List ℕ) (r : Written) (l′ : List ℕ) : Type 0 where
   pub answer : writtenPaper r ≡ roomAnswer vs l
-  pub bytes : l′ ≡ laid (roomAnswer vs l) vs l
+  pub bytes : l′ ≡ roomLeft vs l
