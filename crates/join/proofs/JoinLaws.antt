@@ -27,7 +27,7 @@ use Rattle.text.proofs.CopyLaws.{room-fits, room-lacks}
 use Rattle.text.proofs.Lists.{rest-all, length-rest, rest-put, overAt-nil, overAt-append, overAt-before, length-overAt}
 use mathlib.Core.Logic.{inl, inr, ⊎-elim}
 use Rattle.line.proofs.ColumnLaws.{required-count, count-required}
-use Rattle.line.specs.Line.{required}
+use Rattle.line.specs.Line.{required, Verdict, fine, refused}
 use Rattle.pieces.specs.Pieces.{countOf, lacks, joined}
 use Rattle.pieces.specs.Entries.{rising, entryList, endsAnswer, startOf}
 use Rattle.pieces.specs.Joined.{JoinsList}
@@ -39,7 +39,7 @@ use Rattle.pieces.proofs.CountLaws.{lacks-yes, lacks-no}
 use Rattle.pieces.proofs.EntryLaws.{start-later, entries-length, entry-here, entry-past, ends-tell}
 use Rattle.pieces.proofs.PlaceLaws as place
 use Rattle.pieces.proofs.JoinedLaws.{list-length, joined-fits}
-use Rattle.join.specs.Join.{isBad, Judged, fine, refused, columnJudged, columnsJudged, lineText, fitted, listAnswer, joinAnswer, JoinsAt}
+use Rattle.join.specs.Join.{isBad, columnJudged, columnsJudged, lineText, fitted, listAnswer, joinAnswer, JoinsAt}
 use Rattle.join.specs.Paper.{joinedPaper}
 use Rattle.join.specs.declared.columns.Joined.{Joined}
 use Rattle.join.specs.declared.columns.Joined.the-variants as J
@@ -252,10 +252,10 @@ record Ready (t ends l : List ℕ) : Type 0 where
 
 module _ (vs l : List ℕ) where
   -- what is done is fine
-  Told : Judged → Type 0
+  Told : Verdict → Type 0
   Told j = eqb (numberOf (fitted j vs l)) 0 ≡ true → j ≡ fine
 
-  judged-told : (i : ℕ) (b : Bool) (c : List ℕ) (next : Judged) → Told next → Told (columnJudged i b c next)
+  judged-told : (i : ℕ) (b : Bool) (c : List ℕ) (next : Verdict) → Told next → Told (columnJudged i b c next)
   unfolding Told columnJudged fitted
   judged-told i b c next f = by b (isUtf8 c)
     where

@@ -4,9 +4,9 @@ use mathlib.Core.Path.{_≡_}
 use mathlib.Core.List.{List, _++_}
 use lib.ListN.{length}
 use mathlib.Core.Bool.{false}
-use Rattle.line.specs.Line.{feed, required}
+use Rattle.line.specs.Line.{feed, fine, required}
 use Rattle.line.specs.Demands.{Begins}
-use Rattle.join.specs.Join.{fine, columnsJudged}
+use Rattle.join.specs.Join.{columnsJudged}
 
 -- columns that the joiner takes: eight, or at least ten, and none refused
 pub record Taken (cs : List (List ℕ)) : Type 0 where

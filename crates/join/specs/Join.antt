@@ -9,7 +9,7 @@ use Rattle.text.specs.Answer.{Answer, says}
 use Rattle.text.specs.Over.{roomAnswer, laidAt, placed}
 use Rattle.text.specs.Bytes.{isEmpty, endsIn}
 use Rattle.text.specs.Utf8.{isUtf8}
-use Rattle.line.specs.Line.{required}
+use Rattle.line.specs.Line.{Verdict, fine, refused, required}
 use Rattle.pieces.specs.Pieces.{joined, lacks}
 use Rattle.pieces.specs.Entries.{entryList, ordered}
 use Rattle.join.specs.Paper.{joinedPaper}
@@ -21,15 +21,11 @@ use Rattle.join.specs.declared.columns.Joined.{Joined}
 unfoldable pub isBad : List ℕ → Bool
 isBad c = isEmpty c || (not (lacks 9 c) || not (lacks 10 c))
 
--- what is found of the columns, the first of which has index i: each by 18, then 5; the last may not end in CR
-pub data Judged : Type 0 where
-  fine : Judged
-  refused : ℕ → ℕ → Judged
-
-unfoldable pub columnJudged : ℕ → Bool → List ℕ → Judged → Judged
+-- what is found of the columns, the first of which has index i: each by 18, then 5, with its index; the last may not end in CR
+unfoldable pub columnJudged : ℕ → Bool → List ℕ → Verdict → Verdict
 columnJudged i bad c next = pick bad (refused 18 i) (pick (isUtf8 c) next (refused 5 i))
 
-unfoldable pub columnsJudged : ℕ → List (List ℕ) → Judged
+unfoldable pub columnsJudged : ℕ → List (List ℕ) → Verdict
 columnsJudged i [] = fine
 columnsJudged i (c ∷ []) = columnJudged i (isBad c || endsIn 13 c) c fine
 columnsJudged i (c ∷ d ∷ cs) = columnJudged i (isBad c) c (columnsJudged (i + 1) (d ∷ cs))
@@ -41,7 +37,7 @@ unfoldable pub lineText : List (List ℕ) → List ℕ
 lineText cs = joined 9 cs ++ 10 ∷ []
 
 -- room is judged last
-unfoldable pub fitted : Judged → List ℕ → List ℕ → Answer
+unfoldable pub fitted : Verdict → List ℕ → List ℕ → Answer
 fitted fine vs l = roomAnswer vs l
 fitted (refused n i) vs l = says n (i ∷ [])
 

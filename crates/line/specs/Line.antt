@@ -43,7 +43,7 @@ lineOf s = lineIn (split 10 s)
 
 -- ---- the columns, judged from the left
 
--- the columns are in order, or the first that is not has a number, and the place past its terminator
+-- the columns are in order; or the first that is not has a number, and where it is
 pub data Verdict : Type 0 where
   fine : Verdict
   refused : ℕ → ℕ → Verdict
@@ -58,7 +58,7 @@ lastVerdict k c nothing past = pick (required k || isEmpty c) (refused 4 past) f
 lastVerdict k c feed past = pick (required k) (refused 3 past) (pick (isEmpty c) (refused 2 past) fine)
 lastVerdict k c return-feed past = pick (required k) (refused 3 past) (pick (isEmpty c) (refused 2 past) fine)
 
--- the columns from number k on, the first of which starts at the place `from`
+-- the columns from number k on, the first of which starts at the place `from`: a refusal has the place past the column's terminator
 unfoldable pub verdict : ℕ → ℕ → List (List ℕ) → Ending → ℕ → Verdict
 verdict k from [] e past = fine
 verdict k from (c ∷ []) e past = lastVerdict k c e past
