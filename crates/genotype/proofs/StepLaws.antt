@@ -9,7 +9,7 @@ use types.Run.{OneOf, miss}
 use denote.Enum.Declared.{tagOf}
 use lib.ListN.{length, getD, take, drop, drop-of-length-le, length-drop}
 use lib.Dec.{ltb}
-use borrow.Author.Tests.{lt-ltb, le-ltb, ltb-true, ltb-false}
+use borrow.Author.Tests.{ltb-true, ltb-false, le-leb, lt-leb}
 use Rattle.text.specs.Same.{same}
 use Rattle.text.specs.declared.range.Range.{Range}
 use Rattle.text.proofs.Lists.{here}
@@ -115,11 +115,11 @@ pastAt t at = at + 1 + length (headOf (drop (at + 1) t))
 
 inside : (t : List ℕ) (at : ℕ) → at ≤ length t → stepAnswer t at ≡ firstAnswer at (drop at t)
 unfolding stepAnswer
-inside t at h = rw (le-ltb _ _ h)
+inside t at h = rw (le-leb _ _ h)
 
 pub step-beyond : (t : List ℕ) (at : ℕ) → length t < at → stepPaper S.Beyond ≡ stepAnswer t at
 unfolding stepPaper stepAnswer
-step-beyond t at h = rw (lt-ltb _ _ h)
+step-beyond t at h = rw (lt-leb _ _ h)
 
 pub step-nothing : (t : List ℕ) (at : ℕ) → at ≡ length t → stepPaper S.Nothing ≡ stepAnswer t at
 unfolding stepPaper firstAnswer

@@ -5,10 +5,11 @@ use mathlib.Core.Bool.{Bool, true, false, _||_}
 use mathlib.Core.List.{List, [], _∷_, map}
 use mathlib.Core.Option.{Option, some, none}
 use lib.ListN.{length, drop}
-use lib.Dec.{ltb, eqb}
+use lib.Dec.{eqb}
 use Rattle.text.specs.Pick.{pick, oneIf}
 use Rattle.text.specs.Answer.{Answer, says}
 use Rattle.text.specs.Same.{same}
+use Rattle.text.specs.Place.{placed}
 use Rattle.pieces.specs.Block.{beforeEither}
 use Rattle.decimal.specs.Decimal.{valueOf}
 use Rattle.pieces.specs.Pieces.{lacks}
@@ -127,4 +128,4 @@ firstAnswer at (b ∷ s) = alleleAnswer (pastFirst at (b ∷ s)) (firstOf (b ∷
 
 -- 6 beyond the text, 10 at its end
 unfoldable pub stepAnswer : List ℕ → ℕ → Answer
-stepAnswer t at = pick (ltb (length t) at) (says 6 []) (firstAnswer at (drop at t))
+stepAnswer t at = placed at t (firstAnswer at (drop at t))

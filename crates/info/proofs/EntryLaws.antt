@@ -8,11 +8,12 @@ use native.Mathlib.Nat.{add-assoc}
 use lib.ListN.{length, take, drop, length-append, length-drop}
 use lib.Seq.{take-append-seam, drop-append-add, drop-drop}
 use lib.Dec.{ltb, eqb}
-use borrow.Author.Tests.{lt-ltb, le-ltb, ltb-true, ltb-false, eq-eqb, ne-eqb, eqb-true, eqb-false}
+use borrow.Author.Tests.{ltb-true, ltb-false, eqb-true, eqb-false}
 use Rattle.text.specs.Pick.{pick}
 use Rattle.text.specs.Answer.{Answer, says}
 use Rattle.text.proofs.ByteLaws.{none-empty, some-empty}
 use Rattle.text.specs.Bytes.{isEmpty}
+use Rattle.text.proofs.PlaceLaws.{place-beyond, place-end, place-inside}
 use Rattle.pieces.specs.Pieces.{split, joined}
 use Rattle.pieces.specs.Demands.{Free}
 use Rattle.pieces.proofs.PieceLaws.{free-nil, free-cons, free-tail, free-append, free-left, free-right, first-free, split-nil, split-joined, split-whole, split-append, one-text, more-text}
@@ -112,15 +113,15 @@ after-entry t at p s e = rw (add-assoc, ← drop-drop (length (spelled p) + 1) a
 module _ (t : List ℕ) (at : ℕ) where
   pub step-beyond : length t < at → stepAnswer t at ≡ says 6 (at ∷ [])
   unfolding stepAnswer
-  step-beyond h = rw (lt-ltb _ _ h)
+  step-beyond h = place-beyond at t 10 (firstAnswer at (split 59 (drop at t))) h
 
   pub step-end : at ≡ length t → stepAnswer t at ≡ says 10 (at ∷ [])
   unfolding stepAnswer
-  step-end e = rw (le-ltb (length t) at (omega arith), eq-eqb _ _ e)
+  step-end e = place-end at t 10 (firstAnswer at (split 59 (drop at t))) e
 
   pub step-inside : at < length t → stepAnswer t at ≡ firstAnswer at (split 59 (drop at t))
   unfolding stepAnswer
-  step-inside h = rw (le-ltb (length t) at (omega arith), ne-eqb at (length t) (λ e. omega arith))
+  step-inside h = place-inside at t 10 (firstAnswer at (split 59 (drop at t))) h
 
 pub first-last : (at : ℕ) (e : List ℕ) → firstAnswer at (e ∷ []) ≡ entryAnswer at (pairOf e) (at + length e)
 unfolding firstAnswer

@@ -2,10 +2,10 @@
 use Prim.Native.Nat.{ℕ, _+_}
 use mathlib.Core.List.{List, [], _∷_}
 use lib.ListN.{length, drop}
-use lib.Dec.{ltb, eqb}
 use Rattle.text.specs.Pick.{pick}
 use Rattle.text.specs.Answer.{Answer, says}
 use Rattle.text.specs.Bytes.{isEmpty}
+use Rattle.text.specs.Place.{fromPlace}
 use Rattle.pieces.specs.Pieces.{split, joined, countOf}
 
 -- ---- an entry
@@ -60,7 +60,7 @@ firstAnswer at (e ∷ f ∷ fs) = endedAnswer at (pairOf e) (at + length e + 1) 
 
 -- 6 beyond the column, 10 at its end, else the entry at the place
 unfoldable pub stepAnswer : List ℕ → ℕ → Answer
-stepAnswer t at = pick (ltb (length t) at) (says 6 (at ∷ [])) (pick (eqb at (length t)) (says 10 (at ∷ [])) (firstAnswer at (split 59 (drop at t))))
+stepAnswer t at = fromPlace at t 10 (firstAnswer at (split 59 (drop at t)))
 
 -- ---- the count
 

@@ -6,9 +6,10 @@ use mathlib.Core.List.{List, [], _∷_, _++_}
 use lib.ListN.{length, drop}
 use Rattle.text.specs.Pick.{pick}
 use Rattle.text.specs.Answer.{Answer, says}
-use Rattle.text.specs.Over.{roomAnswer, laidAt, placed}
+use Rattle.text.specs.Over.{roomAnswer, laidAt}
 use Rattle.text.specs.Bytes.{isEmpty, endsIn}
 use Rattle.text.specs.Utf8.{isUtf8}
+use Rattle.text.specs.Place.{placed}
 use Rattle.line.specs.Line.{Verdict, fine, refused, required}
 use Rattle.pieces.specs.Pieces.{joined, lacks}
 use Rattle.pieces.specs.Entries.{entryList, ordered}

@@ -5,11 +5,11 @@ use mathlib.Core.Bool.{Bool, true, false}
 use mathlib.Core.List.{List, [], _∷_, _++_, dropLast}
 use native.Mathlib.Omega.{arith}
 use lib.ListN.{length, getD, drop}
-use borrow.Author.Tests.{lt-ltb, le-ltb, eq-eqb, ne-eqb}
 use Rattle.text.specs.Pick.{pick}
 use Rattle.text.specs.Answer.{says}
 use Rattle.text.specs.Bytes.{endsIn}
 use Rattle.text.proofs.ByteLaws.{ends-is}
+use Rattle.text.proofs.PlaceLaws.{place-beyond, place-end, place-inside}
 use Rattle.pieces.specs.Pieces.{split, joined}
 use Rattle.pieces.specs.Demands.{Free}
 use Rattle.pieces.proofs.PieceLaws.{split-nil, split-free, one-text, more-text}
@@ -20,15 +20,15 @@ use Rattle.line.specs.Line.{Line, line, feed, return-feed, fed, lineOf, 
 module _ (s : List ℕ) (at : ℕ) where
   pub read-beyond : length s < at → readAnswer s at ≡ says 6 (at ∷ [])
   unfolding readAnswer
-  read-beyond h = rw (lt-ltb _ _ h)
+  read-beyond h = place-beyond at s 1 (lineAnswer at (lineOf (drop at s))) h
 
   pub read-end : at ≡ length s → readAnswer s at ≡ says 1 (at ∷ [])
   unfolding readAnswer
-  read-end e = rw (le-ltb (length s) at (omega arith), eq-eqb _ _ e)
+  read-end e = place-end at s 1 (lineAnswer at (lineOf (drop at s))) e
 
   pub read-line : at < length s → readAnswer s at ≡ lineAnswer at (lineOf (drop at s))
   unfolding readAnswer
-  read-line h = rw (le-ltb (length s) at (omega arith), ne-eqb at (length s) (λ e. omega arith))
+  read-line h = place-inside at s 1 (lineAnswer at (lineOf (drop at s))) h
 
 -- ---- an input, cut at its first LF
 

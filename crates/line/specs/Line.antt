@@ -4,11 +4,12 @@ use Prim.Native.Nat.{ℕ, zero, suc, _+_}
 use mathlib.Core.Bool.{Bool, true, _&&_, _||_}
 use mathlib.Core.List.{List, [], _∷_, _++_, dropLast}
 use lib.ListN.{length, drop}
-use lib.Dec.{leb, ltb, eqb}
+use lib.Dec.{leb, eqb}
 use Rattle.text.specs.Pick.{pick}
 use Rattle.text.specs.Answer.{Answer, says}
 use Rattle.text.specs.Bytes.{isEmpty, endsIn}
 use Rattle.text.specs.Utf8.{isUtf8}
+use Rattle.text.specs.Place.{fromPlace}
 use Rattle.pieces.specs.Pieces.{split, joined}
 
 -- ---- the line that an input begins with
@@ -100,4 +101,4 @@ lineAnswer from (line t e rest) =
 
 -- 6 beyond the input, 1 at its end, else the line from the place on
 unfoldable pub readAnswer : List ℕ → ℕ → Answer
-readAnswer s at = pick (ltb (length s) at) (says 6 (at ∷ [])) (pick (eqb at (length s)) (says 1 (at ∷ [])) (lineAnswer at (lineOf (drop at s))))
+readAnswer s at = fromPlace at s 1 (lineAnswer at (lineOf (drop at s)))

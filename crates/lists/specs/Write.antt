@@ -7,7 +7,8 @@ use lib.ListN.{drop}
 use lib.Dec.{eqb}
 use Rattle.text.specs.Pick.{pick}
 use Rattle.text.specs.Answer.{Answer, says, numberOf}
-use Rattle.text.specs.Over.{roomAnswer, laid, laidAt, placed, roomLeft}
+use Rattle.text.specs.Over.{roomAnswer, laid, laidAt, roomLeft}
+use Rattle.text.specs.Place.{placed}
 use Rattle.pieces.specs.Pieces.{joined}
 use Rattle.pieces.specs.Entries.{entryList, ordered}
 use Rattle.lists.specs.Kind.{separatorOf}

@@ -6,7 +6,7 @@ use lib.ListN.{length, drop}
 use lib.Dec.{eqb}
 use Rattle.text.specs.Pick.{pick, oneIf}
 use Rattle.text.specs.Answer.{Answer, says}
-use Rattle.text.specs.Over.{placed}
+use Rattle.text.specs.Place.{placed}
 
 -- ---- a list of pieces
 

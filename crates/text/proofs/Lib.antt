@@ -4,6 +4,7 @@ pub mod WrittenLaws
 pub mod Utf8Laws
 pub mod CharLaws
 pub mod RunLaws
+pub mod PlaceLaws
 pub mod SameLaws
 pub mod FirstLaws
 pub mod ByteLaws

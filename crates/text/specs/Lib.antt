@@ -1,5 +1,6 @@
 pub mod Pick
 pub mod Answer
+pub mod Place
 pub mod Range
 pub mod Same
 pub mod First

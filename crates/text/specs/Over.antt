@@ -41,10 +41,6 @@ roomAnswer vs l = roomFor (length vs) (length l)
 abbrev pub roomLeft : List ℕ → List ℕ → List ℕ
 roomLeft vs l = laid (roomAnswer vs l) vs l
 
--- 6 before the answer a, for a place beyond the bytes l
-abbrev pub placed : ℕ → List ℕ → Answer → Answer
-placed at l a = pick (leb at (length l)) a (says 6 [])
-
 -- a writer of the bytes vs answers r, and leaves l′ in a slice that held l
 pub record Writes (vs l : List ℕ) (r : Written) (l′ : List ℕ) : Type 0 where
   pub answer : writtenPaper r ≡ roomAnswer vs l
