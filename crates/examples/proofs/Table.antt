@@ -33,7 +33,7 @@ unfolding
     L.posAnswer L.positive
     J.entryAnswer J.charsAnswer J.fine J.altFine J.filterFine J.symbolFine J.insideFine F.entriesAnswer
     R.readingOf R.listOf R.partsOf R.impliedOf R.impliedBy R.piecesOf R.isMark R.headOf K.beforeEither R.markedPieces R.numbered R.bodied
-    R.alleleIn R.with R.gathered A.readAnswer A.fitAnswer allPhased
+    R.alleleIn R.with R.gathered A.readAnswer allPhased
     S.spell S.from44 S.judged S.shaped S.firstUnsound S.isSound S.listText S.alleleText S.bodyText W.spelledAnswer W.textOf
     I.stepAnswer I.firstAnswer I.pairOf I.pairIn
 holds = refl

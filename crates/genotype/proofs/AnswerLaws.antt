@@ -10,7 +10,7 @@ use borrow.Author.Tests.{eq-eqb, ne-eqb, lt-leb, le-leb}
 use Rattle.text.specs.Answer.{Answer, says, numberOf}
 use Rattle.text.specs.Over.{over}
 use Rattle.genotype.specs.Reading.{list, bad, empty, readingOf, listOf, numbersOf, missingOf, phasedOf}
-use Rattle.genotype.specs.Answers.{wholeAnswer, fitAnswer, readAnswer, rowAnswer, ReadsText}
+use Rattle.genotype.specs.Answers.{readAnswer, rowAnswer, ReadsText}
 use Rattle.genotype.specs.Paper.{readPaper}
 use Rattle.genotype.specs.declared.allele.Allele.{Allele}
 use Rattle.genotype.specs.declared.read.Read.{Read}
@@ -19,19 +19,19 @@ use Rattle.genotype.specs.declared.read.Read.{Read}
 
 module _ (room : ℕ) where
   pub answer-list : (as′ : List Allele) → length as′ ≤ room → readAnswer (list as′) room ≡ says 0 (length as′ ∷ [])
-  unfolding readAnswer fitAnswer wholeAnswer
+  unfolding readAnswer
   answer-list as′ h = rw (le-leb _ _ h)
 
   pub answer-short : (as′ : List Allele) → room < length as′ → readAnswer (list as′) room ≡ says 17 []
-  unfolding readAnswer fitAnswer wholeAnswer
+  unfolding readAnswer
   answer-short as′ h = rw (lt-leb _ _ h)
 
   pub answer-bad : (k : ℕ) → readAnswer (bad k) room ≡ says 12 (k ∷ [])
-  unfolding readAnswer fitAnswer wholeAnswer
+  unfolding readAnswer
   answer-bad k = refl
 
   pub answer-empty : readAnswer empty room ≡ says 11 []
-  unfolding readAnswer fitAnswer wholeAnswer
+  unfolding readAnswer
   answer-empty = refl
 
 -- ---- by the row

@@ -9,13 +9,14 @@ use lib.ListN.{length, drop}
 use borrow.Author.Tests.{lt-leb, le-leb}
 use Rattle.text.specs.Answer.{Answer, says, numberOf}
 use Rattle.genotype.specs.Reading.{Reading, list, bad, empty, with, gathered, readingOf, listOf, partsOf, stepAnswer}
-use Rattle.genotype.specs.Answers.{wholeAnswer, fitAnswer, readAnswer}
+use Rattle.genotype.specs.Answers.{readAnswer}
 use Rattle.genotype.specs.Paper.{stepPaper, readPaper}
 use Rattle.genotype.specs.declared.allele.Allele.{Allele}
 use Rattle.genotype.specs.declared.step.Step.{Step}
 use Rattle.genotype.specs.declared.step.Step.the-variants as S
 use Rattle.genotype.specs.declared.read.Read.{Read}
 use Rattle.genotype.specs.declared.read.Read.the-variants as R
+use Rattle.genotype.specs.Inner.{wholeAnswer, fitAnswer}
 use Rattle.genotype.proofs.step.Step as T
 use Rattle.genotype.proofs.read.Read as D
 use Rattle.genotype.proofs.PieceLaws.{parts-end}
@@ -134,9 +135,14 @@ fit-other R.Lengths room h = refl
 fit-other R.Short room h = refl
 fit-other (R.Above k) room h = refl
 
+fit-whole : (r : Reading) (room : ℕ) → fitAnswer (wholeAnswer r) room ≡ readAnswer r room
+unfolding fitAnswer wholeAnswer readAnswer
+fit-whole (list as′) room = refl
+fit-whole (bad k) room = refl
+fit-whole empty room = refl
+
 pub judge-fits : (t : List ℕ) (room : ℕ) (x y : Read) → readPaper x ≡ wholeAnswer (readingOf t) → readPaper y ≡ fitAnswer (readPaper x) room
     → readPaper y ≡ readAnswer (readingOf t) room
-unfolding readAnswer
-judge-fits t room x y e f = rw (← e) f
+judge-fits t room x y e f = f ∙ (rw e (fit-whole (readingOf t) room))
 
 pub ruleset laws = (judge-empty, judge-first, judge-turn, found-less, judge-bad, judge-past, fit-short, fit-done, fit-other, judge-fits)

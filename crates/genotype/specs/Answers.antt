@@ -1,5 +1,5 @@
 -- What the readers answer, and what they leave in the lent row (docs/RULES.md, "Genotypes"). Assumes nothing.
-use Prim.Native.Nat.{ℕ, _≤_, zero, suc}
+use Prim.Native.Nat.{ℕ}
 use mathlib.Core.Path.{_≡_}
 use mathlib.Core.Bool.{_&&_}
 use mathlib.Core.List.{List, [], _∷_}
@@ -16,25 +16,13 @@ use Rattle.genotype.specs.Paper.{readPaper}
 use Rattle.genotype.specs.declared.allele.Allele.{Allele}
 use Rattle.genotype.specs.declared.read.Read.{Read}
 
--- ---- judged whole
+-- ---- judged whole, and room last
 
--- so many alleles, 11, or 12 with the index of the first piece that is none
-unfoldable pub wholeAnswer : Reading → Answer
-wholeAnswer (list as′) = says 0 (length as′ ∷ [])
-wholeAnswer (bad k) = says 12 (k ∷ [])
-wholeAnswer empty = says 11 []
-
--- ---- room last
-
--- of a text that reads as so many alleles
-unfoldable pub fitAnswer : Answer → ℕ → Answer
-fitAnswer (says zero []) room = says 0 []
-fitAnswer (says zero (count ∷ vs)) room = roomFor count room
-fitAnswer (says (suc n) vs) room = says (suc n) vs
-
+-- so many alleles where the row holds them, else 17; 12 with the index of the first piece that is none; or 11
 unfoldable pub readAnswer : Reading → ℕ → Answer
-unfolding wholeAnswer
-readAnswer r room = fitAnswer (wholeAnswer r) room
+readAnswer (list as′) room = roomFor (length as′) room
+readAnswer (bad k) room = says 12 (k ∷ [])
+readAnswer empty room = says 11 []
 
 -- ---- checked against ALT
 
@@ -63,12 +51,6 @@ textAnswer t n m p = rowAnswer n m p (readAnswer (readingOf t) (length n))
 
 abbrev pub checkedText : List ℕ → List ℕ → List ℕ → List ℕ → List ℕ → Answer
 checkedText t alt n m p = rowAnswer n m p (checkedAnswer (altCount alt) (readingOf t) (length n))
-
--- so many entries fit each
-pub record Room (k : ℕ) (n m p : List ℕ) : Type 0 where
-  pub numbers : k ≤ length n
-  pub missing : k ≤ length m
-  pub phased : k ≤ length p
 
 -- r is the answer a, and slices that held n, m and p are left with the list laid over them where it is done
 pub record Reads (a : Answer) (as′ : List Allele) (n m p : List ℕ) (r : Read) (n′ m′ p′ : List ℕ) : Type 0 where

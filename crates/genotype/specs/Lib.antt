@@ -1,5 +1,6 @@
 pub mod Reading
 pub mod Paper
 pub mod Answers
+pub mod Inner
 pub mod Means
 pub mod Demands

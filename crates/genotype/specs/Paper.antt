@@ -1,15 +1,11 @@
 -- The number on paper, and the values, of each answer of this crate (docs/RULES.md, "Numbers answered"). Assumes nothing.
-use Prim.Native.Nat.{ℕ}
 use mathlib.Core.List.{[], _∷_}
-use mathlib.Core.Option.{Option, some, none}
 use Rattle.text.specs.Answer.{Answer, says}
 use Rattle.text.specs.Pick.{oneIf}
 use Rattle.genotype.specs.declared.step.Step.{Step}
 use Rattle.genotype.specs.declared.step.Step.the-variants as S
 use Rattle.genotype.specs.declared.read.Read.{Read}
 use Rattle.genotype.specs.declared.read.Read.the-variants as R
-use Rattle.genotype.specs.declared.read.Above.{Above}
-use Rattle.genotype.specs.declared.read.Above.the-variants as O
 
 -- the next place, and the allele
 unfoldable pub stepPaper : Step → Answer
@@ -25,8 +21,3 @@ readPaper (R.Bad k) = says 12 (k ∷ [])
 readPaper R.Lengths = says 16 []
 readPaper R.Short = says 17 []
 readPaper (R.Above k) = says 20 (k ∷ [])
-
--- a private answer: an index, or none
-unfoldable pub abovePaper : Above → Option ℕ
-abovePaper (O.At k) = some k
-abovePaper O.Nothing = none

@@ -9,8 +9,9 @@ ghost use Rattle.text.specs.Over.{over};
 ghost use Rattle.text.specs.Pick.{oneIf};
 ghost use Rattle.lists.specs.AlternateBases.{altCount};
 ghost use Rattle.genotype.specs.Reading.{readingOf, ListMeant, listOf, numbersOf, missingOf, phasedOf};
-ghost use Rattle.genotype.specs.Answers.{wholeAnswer, readAnswer, checkedAnswer, fitAnswer, firstAbove, Room, ReadsText, ReadsChecked};
-ghost use Rattle.genotype.specs.Paper.{readPaper, abovePaper};
+ghost use Rattle.genotype.specs.Answers.{readAnswer, checkedAnswer, firstAbove, ReadsText, ReadsChecked};
+ghost use Rattle.genotype.specs.Paper.{readPaper};
+ghost use Rattle.genotype.specs.Inner.{wholeAnswer, fitAnswer, Room, abovePaper};
 
 // The answer of a reader.
 pub enum Read {

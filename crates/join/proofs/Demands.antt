@@ -12,10 +12,11 @@ use Rattle.text.specs.Answer.{numberOf}
 use Rattle.text.specs.Bytes.{isEmpty, endsIn}
 use Rattle.text.specs.Utf8.{isUtf8}
 use Rattle.text.proofs.ByteLaws.{empty-some, some-empty}
+use Rattle.text.specs.Verdict.{fine, refused}
 use Rattle.pieces.specs.Pieces.{joined, lacks}
 use Rattle.pieces.proofs.CountLaws.{lacks-free, free-lacks}
 use Rattle.pieces.proofs.PieceLaws.{joined-one, joined-more}
-use Rattle.line.specs.Line.{feed, endingBytes, readAnswer, fine, refused}
+use Rattle.line.specs.Line.{feed, endingBytes, readAnswer}
 use Rattle.line.specs.Demands.{Column, Ended, by-feed, Stands}
 use Rattle.line.proofs.ColumnLaws.{return-tab, feed-bytes, or-none, required-count, count-required}
 use Rattle.line.proofs.Exact.{begins-read}

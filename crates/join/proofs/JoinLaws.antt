@@ -25,9 +25,10 @@ use Rattle.text.proofs.ByteLaws.{none-empty, some-empty, ends-none, ends-at}
 use Rattle.text.proofs.CharLaws.{told-text, told-broken}
 use Rattle.text.proofs.CopyLaws.{room-fits, room-lacks}
 use Rattle.text.proofs.Lists.{rest-all, length-rest, rest-put, overAt-nil, overAt-append, overAt-before, length-overAt}
+use Rattle.text.specs.Verdict.{Verdict, fine, refused, fitted}
 use mathlib.Core.Logic.{inl, inr, ⊎-elim}
 use Rattle.line.proofs.ColumnLaws.{required-count, count-required}
-use Rattle.line.specs.Line.{required, Verdict, fine, refused}
+use Rattle.line.specs.Line.{required}
 use Rattle.pieces.specs.Pieces.{countOf, lacks, joined}
 use Rattle.pieces.specs.Entries.{rising, entryList, endsAnswer, startOf}
 use Rattle.pieces.specs.Joined.{JoinsList}
@@ -39,7 +40,7 @@ use Rattle.pieces.proofs.CountLaws.{lacks-yes, lacks-no}
 use Rattle.pieces.proofs.EntryLaws.{start-later, entries-length, entry-here, entry-past, ends-tell}
 use Rattle.pieces.proofs.PlaceLaws as place
 use Rattle.pieces.proofs.JoinedLaws.{list-length, joined-fits}
-use Rattle.join.specs.Join.{isBad, columnJudged, columnsJudged, lineText, fitted, listAnswer, joinAnswer, JoinsAt}
+use Rattle.join.specs.Join.{isBad, columnJudged, columnsJudged, lineText, listAnswer, joinAnswer, JoinsAt}
 use Rattle.join.specs.Paper.{joinedPaper}
 use Rattle.join.specs.declared.columns.Joined.{Joined}
 use Rattle.join.specs.declared.columns.Joined.the-variants as J
@@ -160,12 +161,12 @@ module _ {t ends : List ℕ} {i : ℕ} {c : List ℕ} {x : Bool} (g : Judging t 
       ∙ (rw (entry-here t ends i h) at (g .same)))
 
   pub judge-bad : (l : List ℕ) → x ≡ true → joinedPaper (J.Bad i) ≡ columnsAnswer t ends l
-  unfolding joinedPaper fitted columnJudged
+  unfolding joinedPaper columnJudged
   judge-bad l y = rw (← judge-here, y)
 
   module _ {u : Bool} (n : x ≡ false) (v : u ≡ isUtf8 c) where
     pub judge-broken : (l : List ℕ) → not u ≡ true → joinedPaper (J.NotUtf8 i) ≡ columnsAnswer t ends l
-    unfolding joinedPaper fitted columnJudged
+    unfolding joinedPaper columnJudged
     judge-broken l w = rw (← judge-here, n, ← v, not-true u w)
 
     pub judge-turn : not u ≡ false → Judging t ends (i + 1)
@@ -202,7 +203,7 @@ module _ {t ends : List ℕ} {i : ℕ} (l : List ℕ) {end : ℕ} (g : Judging t
   line-sum = let n = line-length t ends r s in let w = g .within in omega arith
 
   judge-short : length l < end + i → joinedPaper J.Short ≡ columnsAnswer t ends l
-  unfolding joinedPaper fitted
+  unfolding joinedPaper
   judge-short o = let n = line-sum in rw all-fine (sym (room-lacks (lineText (entryList t ends)) l (omega arith)))
 
   pub judge-no-end : length l < end → joinedPaper J.Short ≡ columnsAnswer t ends l
@@ -217,7 +218,7 @@ module _ {t ends : List ℕ} {i : ℕ} (l : List ℕ) {end : ℕ} (g : Judging t
       judge-sum z = record { fits = omega arith }
 
       pub judge-done : joinedPaper (J.Done (end + i)) ≡ columnsAnswer t ends l
-      unfolding joinedPaper fitted
+      unfolding joinedPaper
       judge-done =
           let n = line-sum in
           rw (all-fine, room-fits (lineText (entryList t ends)) l (omega arith), n)
@@ -256,7 +257,7 @@ module _ (vs l : List ℕ) where
   Told j = eqb (numberOf (fitted j vs l)) 0 ≡ true → j ≡ fine
 
   judged-told : (i : ℕ) (b : Bool) (c : List ℕ) (next : Verdict) → Told next → Told (columnJudged i b c next)
-  unfolding Told columnJudged fitted
+  unfolding Told columnJudged
   judged-told i b c next f = by b (isUtf8 c)
     where
       by : (b u : Bool) → Told (pick b (refused 18 i) (pick u next (refused 5 i)))
@@ -277,7 +278,7 @@ module _ (vs l : List ℕ) where
       by (no h) = absurd (false≢true (rw (room-lacks vs l (omega arith)) at e))
 
 ready : (t ends l : List ℕ) → eqb (numberOf (listAnswer t ends l)) 0 ≡ true → Ready t ends l
-unfolding listAnswer fitted Told
+unfolding listAnswer Told
 ready t ends l e = by (rising 0 ends (length t)) (required (length ends)) refl refl e
   where
     line : List ℕ

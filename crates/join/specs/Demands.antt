@@ -4,7 +4,8 @@ use mathlib.Core.Path.{_≡_}
 use mathlib.Core.List.{List, _++_}
 use lib.ListN.{length}
 use mathlib.Core.Bool.{false}
-use Rattle.line.specs.Line.{feed, fine, required}
+use Rattle.text.specs.Verdict.{fine}
+use Rattle.line.specs.Line.{feed, required}
 use Rattle.line.specs.Demands.{Begins}
 use Rattle.join.specs.Join.{columnsJudged}
 

@@ -6,11 +6,12 @@ use mathlib.Core.List.{List, [], _∷_, _++_}
 use lib.ListN.{length, drop}
 use Rattle.text.specs.Pick.{pick}
 use Rattle.text.specs.Answer.{Answer, says}
-use Rattle.text.specs.Over.{roomAnswer, laidAt}
+use Rattle.text.specs.Over.{laidAt}
 use Rattle.text.specs.Bytes.{isEmpty, endsIn}
 use Rattle.text.specs.Utf8.{isUtf8}
 use Rattle.text.specs.Place.{placed}
-use Rattle.line.specs.Line.{Verdict, fine, refused, required}
+use Rattle.text.specs.Verdict.{Verdict, fine, refused, fitted}
+use Rattle.line.specs.Line.{required}
 use Rattle.pieces.specs.Pieces.{joined, lacks}
 use Rattle.pieces.specs.Entries.{entryList, ordered}
 use Rattle.join.specs.Paper.{joinedPaper}
@@ -36,11 +37,6 @@ columnsJudged i (c ∷ d ∷ cs) = columnJudged i (isBad c) c (columnsJudged (i 
 -- the columns joined by tabs, and an LF
 unfoldable pub lineText : List (List ℕ) → List ℕ
 lineText cs = joined 9 cs ++ 10 ∷ []
-
--- room is judged last
-unfoldable pub fitted : Verdict → List ℕ → List ℕ → Answer
-fitted fine vs l = roomAnswer vs l
-fitted (refused n i) vs l = says n (i ∷ [])
 
 -- 16, then 19 where the last column must be ended by a tab: fewer than eight, or nine; then the columns, then room from the place on
 unfoldable pub listAnswer : List ℕ → List ℕ → List ℕ → Answer

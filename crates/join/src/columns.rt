@@ -14,10 +14,11 @@ ghost use Prim.Native.Nat.{_<_};
 ghost use lib.ListN.{length, getD};
 ghost use Rattle.text.specs.Bytes.{endsIn};
 ghost use Rattle.text.specs.Utf8.{isUtf8};
+ghost use Rattle.text.specs.Verdict.{fitted};
 ghost use Rattle.line.specs.Line.{required};
 ghost use Rattle.pieces.specs.Pieces.{lacks};
 ghost use Rattle.pieces.specs.Entries.{rising, entryList, startOf};
-ghost use Rattle.join.specs.Join.{JoinsAt, isBad, columnsJudged, lineText, fitted, listAnswer};
+ghost use Rattle.join.specs.Join.{JoinsAt, isBad, columnsJudged, lineText, listAnswer};
 ghost use Rattle.join.specs.Paper.{joinedPaper};
 
 // The answer of the joiner.

@@ -14,9 +14,10 @@ use Rattle.text.specs.declared.utf8.Utf8.{Utf8}
 use Rattle.text.specs.declared.utf8.Utf8.the-variants as U
 use Rattle.text.proofs.CharLaws.{told-text, told-broken}
 use Rattle.text.proofs.Lists.{drop-take}
+use Rattle.text.specs.Verdict.{Verdict, fine, refused}
 use Rattle.pieces.specs.Pieces.{split}
 use Rattle.pieces.proofs.PieceLaws.{split-some}
-use Rattle.line.specs.Line.{Ending, endingBytes, Line, line, lineOf, Verdict, fine, refused, verdict, fieldPlaces, allUtf8, judgedAnswer, lineAnswer, readAnswer}
+use Rattle.line.specs.Line.{Ending, endingBytes, Line, line, lineOf, verdict, fieldPlaces, allUtf8, judgedAnswer, lineAnswer, readAnswer}
 use Rattle.line.specs.Paper.{recordPlaces, readPaper}
 use Rattle.line.specs.Demands.{ByColumns}
 use Rattle.line.specs.Inner.{accepted, denied, judgement, judgementOf, judgedPaper, InOrder, Unset, Marks, Told}

@@ -14,10 +14,11 @@ use Rattle.text.specs.Bytes.{isEmpty, endsIn}
 use Rattle.text.specs.Utf8.{isUtf8}
 use Rattle.text.proofs.ByteLaws.{empty-some, some-empty, last-back, ends-behind, ends-last, ends-is}
 use Rattle.text.proofs.Demands.{parted}
+use Rattle.text.specs.Verdict.{Verdict, fine, refused}
 use Rattle.pieces.specs.Pieces.{split, joined}
 use Rattle.pieces.specs.Demands.{Free}
 use Rattle.pieces.proofs.PieceLaws.{first-free, joined-none, joined-one, joined-more, free-nil, free-cons, free-tail, free-append, free-left, free-right, split-some, split-nil, split-joined, split-whole, split-append, one-text, more-text}
-use Rattle.line.specs.Line.{Ending, nothing, feed, return-feed, endingBytes, line, fed, lineIn, lineOf, Verdict, fine, refused, required, lastVerdict, verdict, allUtf8}
+use Rattle.line.specs.Line.{Ending, nothing, feed, return-feed, endingBytes, line, fed, lineIn, lineOf, required, lastVerdict, verdict, allUtf8}
 use Rattle.line.specs.Demands.{Ended, by-nothing, by-feed, by-return-feed, ByColumns}
 
 -- ---- pieces joined

@@ -9,9 +9,10 @@ use lib.ListN.{length, getD, drop}
 use Rattle.text.specs.Pick.{pick}
 use Rattle.text.specs.Bytes.{isEmpty}
 use Rattle.text.specs.Answer.{says, numberOf}
+use Rattle.text.specs.Verdict.{Verdict, fine, refused}
 use Rattle.pieces.specs.Pieces.{split, joined}
 use Rattle.pieces.proofs.PieceLaws.{split-some, split-free, split-joined, split-back}
-use Rattle.line.specs.Line.{Ending, nothing, feed, return-feed, endingBytes, Line, line, lineOf, Verdict, fine, refused, required, lastVerdict, verdict, fieldPlaces, allUtf8, judgedAnswer, lineAnswer, readAnswer}
+use Rattle.line.specs.Line.{Ending, nothing, feed, return-feed, endingBytes, Line, line, lineOf, required, lastVerdict, verdict, fieldPlaces, allUtf8, judgedAnswer, lineAnswer, readAnswer}
 use Rattle.line.specs.Demands.{Begins, Refuses, Exact}
 use Rattle.line.proofs.LineLaws.{read-line}
 use Rattle.line.proofs.ColumnLaws.{free-joined, free-each, LineCut, line-only, line-whole, utf8-each, utf8-all, fine-count, fine-full, count-fine}

@@ -14,30 +14,11 @@ use Rattle.text.specs.Pick.{pick}
 use Rattle.text.specs.Answer.{says, numberOf}
 use Rattle.text.specs.Bytes.{isEmpty}
 use Rattle.text.proofs.ByteLaws.{none-empty, some-empty}
+use Rattle.text.specs.Verdict.{Verdict, fine, refused}
 use Rattle.pieces.specs.Pieces.{split, joined}
 use Rattle.pieces.specs.Demands.{Free}
 use Rattle.pieces.proofs.PieceLaws.{first-free, split-nil, one-text, more-text, more-rest}
-use Rattle.line.specs.Line.{
-  Ending,
-  nothing,
-  feed,
-  return-feed,
-  endingBytes,
-  Line,
-  line,
-  Verdict,
-  fine,
-  refused,
-  required,
-  lastVerdict,
-  verdict,
-  fieldPlaces,
-  allUtf8,
-  judgedAnswer,
-  lineOf,
-  lineAnswer,
-  readAnswer,
-}
+use Rattle.line.specs.Line.{Ending, nothing, feed, return-feed, endingBytes, Line, line, required, lastVerdict, verdict, fieldPlaces, allUtf8, judgedAnswer, lineOf, lineAnswer, readAnswer}
 use Rattle.line.specs.Demands.{
   FirstFeed,
   NoFeed,

@@ -15,12 +15,13 @@ use Rattle.text.specs.Pick.{pick}
 use Rattle.text.specs.Bytes.{isEmpty, endsIn}
 use Rattle.text.proofs.Lists.{here, rest-all}
 use Rattle.text.proofs.ByteLaws.{none-empty, some-empty, ends-none, ends-some, ends-at}
+use Rattle.text.specs.Verdict.{Verdict, fine, refused}
 use Rattle.pieces.specs.Block.{pastQuiet}
 use Rattle.pieces.specs.Pieces.{split}
 use Rattle.pieces.specs.Demands.{Free}
 use Rattle.pieces.proofs.BlockLaws.{past-quiet}
 use Rattle.pieces.proofs.PieceLaws.{free-nil, free-cons, free-head, free-tail, split-whole, split-append, split-nil}
-use Rattle.line.specs.Line.{Ending, feed, return-feed, endingBytes, Line, line, fed, lineOf, Verdict, fine, refused, required, lastVerdict, verdict}
+use Rattle.line.specs.Line.{Ending, feed, return-feed, endingBytes, Line, line, fed, lineOf, required, lastVerdict, verdict}
 use Rattle.line.specs.Inner.{Clear, Stopped, StopsAt, TextEnd, input, none, bare, return, accepted, denied, judgement, judgementOf, judgedPaper}
 use Rattle.line.specs.declared.read.Stop.{Stop}
 use Rattle.line.specs.declared.read.Stop.the-variants as S

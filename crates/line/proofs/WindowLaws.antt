@@ -8,27 +8,9 @@ use lib.ListN.{length}
 use Rattle.text.specs.Pick.{pick}
 use Rattle.text.specs.Bytes.{endsIn}
 use Rattle.text.proofs.ByteLaws.{none-empty, some-empty}
+use Rattle.text.specs.Verdict.{Verdict, fine, refused}
 use Rattle.pieces.specs.Pieces.{split}
-use Rattle.line.specs.Line.{
-  Ending,
-  nothing,
-  feed,
-  return-feed,
-  endingBytes,
-  Line,
-  line,
-  fed,
-  Verdict,
-  fine,
-  refused,
-  lastVerdict,
-  verdict,
-  columnPlaces,
-  leadingPlaces,
-  fieldPlaces,
-  judgedAnswer,
-  lineAnswer,
-}
+use Rattle.line.specs.Line.{Ending, nothing, feed, return-feed, endingBytes, Line, line, fed, lastVerdict, verdict, columnPlaces, leadingPlaces, fieldPlaces, judgedAnswer, lineAnswer}
 use Rattle.line.specs.Demands.{movedPlaces, moved}
 
 -- a function of one of two

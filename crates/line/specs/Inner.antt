@@ -4,9 +4,10 @@ use mathlib.Core.Path.{_≡_}
 use mathlib.Core.List.{List, [], _∷_, _++_}
 use lib.ListN.{length, getD, take, drop}
 use Rattle.text.specs.declared.range.Range.{Range}
+use Rattle.text.specs.Verdict.{Verdict, fine, refused}
 use Rattle.pieces.specs.Block.{Quiet}
 use Rattle.pieces.specs.Pieces.{split}
-use Rattle.line.specs.Line.{endingBytes, Line, line, lineOf, Verdict, fine, refused, verdict}
+use Rattle.line.specs.Line.{endingBytes, Line, line, lineOf, verdict}
 use Rattle.line.specs.declared.read.Stop.{Stop}
 use Rattle.line.specs.declared.read.Stop.the-variants as S
 use Rattle.line.specs.declared.read.Judged.{Judged}

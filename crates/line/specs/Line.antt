@@ -10,6 +10,7 @@ use Rattle.text.specs.Answer.{Answer, says}
 use Rattle.text.specs.Bytes.{isEmpty, endsIn}
 use Rattle.text.specs.Utf8.{isUtf8}
 use Rattle.text.specs.Place.{fromPlace}
+use Rattle.text.specs.Verdict.{Verdict, fine, refused}
 use Rattle.pieces.specs.Pieces.{split, joined}
 
 -- ---- the line that an input begins with
@@ -43,11 +44,6 @@ unfoldable pub lineOf : List ℕ → Line
 lineOf s = lineIn (split 10 s)
 
 -- ---- the columns, judged from the left
-
--- the columns are in order; or the first that is not has a number, and where it is
-pub data Verdict : Type 0 where
-  fine : Verdict
-  refused : ℕ → ℕ → Verdict
 
 -- columns 1 to 7, and FORMAT, must be ended by a tab
 unfoldable pub required : ℕ → Bool

@@ -1,18 +1,19 @@
 -- The writers: each way through each function is a law of the definitions; the entries still to judge stand for all of them. Assumes nothing.
 use Prim.Native.Nat.{ℕ, _+_, _-_, _<_, _≤_, zero-le}
-use mathlib.Core.Path.{_≡_, refl, _∙_}
-use mathlib.Core.Bool.{Bool, true, false}
+use mathlib.Core.Path.{_≡_, refl, sym, ap, _∙_}
+use mathlib.Core.Bool.{Bool, true, false, false≢true}
 use mathlib.Core.List.{List, [], _∷_}
 use native.Mathlib.Omega.{arith}
 use types.Run.{OneOf, miss}
 use denote.Enum.Declared.{tagOf}
 use lib.ListN.{length, getD, take, drop}
 use lib.Dec.{eqb}
-use borrow.Author.Tests.{le-leb, lt-leb}
+use borrow.Author.Tests.{le-leb, lt-leb, eqb-false}
 use borrow.Rule.Slice.PartMut.{putMid}
 use Rattle.text.specs.Pick.{pick}
-use Rattle.text.specs.Answer.{says, numberOf}
+use Rattle.text.specs.Answer.{numberOf}
 use Rattle.text.specs.Over.{over, overAt, Writes}
+use Rattle.text.specs.Verdict.{Verdict as Found, fine, refused, fitted}
 use Rattle.text.specs.declared.range.Range.{Range}
 use Rattle.text.specs.declared.copy.Written.{Written}
 use Rattle.text.specs.declared.copy.Written.the-variants as C
@@ -35,7 +36,7 @@ use Rattle.pieces.proofs.JoinedLaws.{joined-tells}
 use Rattle.lists.specs.Kind.{separatorOf, invalidOf}
 use Rattle.lists.specs.Judge.{entryAnswer}
 use Rattle.lists.specs.Paper.{verdictPaper, writePaper}
-use Rattle.lists.specs.Write.{listText, judgedAnswer, entriesAnswer, listAnswer, writeAnswer, PutsList, WritesList, WritesListAt}
+use Rattle.lists.specs.Write.{listText, entriesJudged, entriesAnswer, listAnswer, writeAnswer, PutsList, WritesList, WritesListAt}
 use Rattle.lists.specs.declared.write.Kind.{Kind}
 use Rattle.lists.specs.declared.write.Kind.the-variants as K
 use Rattle.lists.specs.declared.write.Verdict.{Verdict}
@@ -61,7 +62,7 @@ at-place kind t ends i v e q f = rw (place.place-is t ends i e q) at f
 -- the entries from i on are judged as all are from 0 on
 pub record Judging (kind : Kind) (t ends : List ℕ) (i : ℕ) : Type 0 where
   pub within : i ≤ length ends
-  pub same : judgedAnswer kind i (drop i (entryList t ends)) ≡ judgedAnswer kind 0 (entryList t ends)
+  pub same : entriesJudged kind i (drop i (entryList t ends)) ≡ entriesJudged kind 0 (entryList t ends)
 
 pub judge-first : {kind : Kind} {t ends : List ℕ} → Judging kind t ends 0
 judge-first = record { within = zero-le; same = refl }
@@ -72,26 +73,26 @@ invalid-not K.Alts = refl
 
 module _ {kind : Kind} {t ends : List ℕ} {i : ℕ} (g : Judging kind t ends i) where
   module _ (x : Verdict) (h : i < length ends) (e : verdictPaper kind x ≡ entryAnswer kind (getD (entryList t ends) i [])) where
-    judge-here : pick (eqb (numberOf (verdictPaper kind x)) 0) (judgedAnswer kind (i + 1) (drop (i + 1) (entryList t ends))) (says (numberOf (verdictPaper kind x)) (i ∷ []))
-        ≡ judgedAnswer kind 0 (entryList t ends)
-    unfolding judgedAnswer
+    judge-here : pick (eqb (numberOf (verdictPaper kind x)) 0) (entriesJudged kind (i + 1) (drop (i + 1) (entryList t ends))) (refused (numberOf (verdictPaper kind x)) i)
+        ≡ entriesJudged kind 0 (entryList t ends)
+    unfolding entriesJudged
     judge-here = rw e (rw (entry-here t ends i h) at (g .same))
 
     pub judge-turn : x ≡ J.Fine → Judging kind t ends (i + 1)
     unfolding verdictPaper
     judge-turn q = record { within = omega arith; same = rw q at judge-here }
 
-    pub judge-broken : x ≡ J.NotUtf8 → writePaper kind (W.NotUtf8 i) ≡ judgedAnswer kind 0 (entryList t ends)
+    pub judge-broken : x ≡ J.NotUtf8 → writePaper kind (W.NotUtf8 i) ≡ fitted (entriesJudged kind 0 (entryList t ends)) [] []
     unfolding verdictPaper writePaper
-    judge-broken q = rw q at judge-here
+    judge-broken q = let e = rw q at judge-here in rw (← e)
 
-    pub judge-invalid : x ≡ J.Invalid → writePaper kind (W.Invalid i) ≡ judgedAnswer kind 0 (entryList t ends)
+    pub judge-invalid : x ≡ J.Invalid → writePaper kind (W.Invalid i) ≡ fitted (entriesJudged kind 0 (entryList t ends)) [] []
     unfolding verdictPaper writePaper
-    judge-invalid q = rw (q, invalid-not) at judge-here
+    judge-invalid q = let e = rw (q, invalid-not) at judge-here in rw (← e)
 
-  pub judge-past : length ends ≤ i → writePaper kind (W.Done 0) ≡ judgedAnswer kind 0 (entryList t ends)
-  unfolding writePaper judgedAnswer
-  judge-past h = rw (entry-past t ends i h) at (g .same)
+  pub judge-past : length ends ≤ i → writePaper kind (W.Done 0) ≡ fitted (entriesJudged kind 0 (entryList t ends)) [] []
+  unfolding writePaper entriesJudged
+  judge-past h = let e = rw (entry-past t ends i h) at (g .same) in rw (← e) (sym (room-fits [] [] (omega arith)))
 
 -- ---- writing a list that may be written
 
@@ -160,14 +161,36 @@ refusal kind (W.Invalid i) h = invalid-not kind
 refusal kind W.Wrong h = refl
 refusal kind W.Short h = refl
 
-module _ {kind : Kind} {t ends : List ℕ} (l : List ℕ) (judged : Write) (r : rising 0 ends (length t) ≡ true) (e : writePaper kind judged ≡ judgedAnswer kind 0 (entryList t ends)) where
+-- entries that are judged to be done are fine, and a refusal does not depend on what is to be written
+judged-fine : (kind : Kind) (i : ℕ) (es : List (List ℕ)) → numberOf (fitted (entriesJudged kind i es) [] []) ≡ 0 → entriesJudged kind i es ≡ fine
+unfolding entriesJudged
+judged-fine kind i [] z = refl
+judged-fine kind i (e ∷ es) z = by (eqb (numberOf (entryAnswer kind e)) 0) refl z (judged-fine kind (i + 1) es)
+  where
+    by : (b : Bool) → eqb (numberOf (entryAnswer kind e)) 0 ≡ b
+        → numberOf (fitted (pick b (entriesJudged kind (i + 1) es) (refused (numberOf (entryAnswer kind e)) i)) [] []) ≡ 0
+        → (numberOf (fitted (entriesJudged kind (i + 1) es) [] []) ≡ 0 → entriesJudged kind (i + 1) es ≡ fine)
+        → pick b (entriesJudged kind (i + 1) es) (refused (numberOf (entryAnswer kind e)) i) ≡ fine
+    by true q z ih = ih z
+    by false q z ih = absurd (eqb-false _ _ q z)
+
+refused-fitted : (v : Found) (vs l : List ℕ) → eqb (numberOf (fitted v [] [])) 0 ≡ false → fitted v vs l ≡ fitted v [] []
+refused-fitted fine vs l n = absurd (false≢true (sym n ∙ rw (room-fits [] [] (omega arith))))
+refused-fitted (refused k i) vs l n = refl
+
+module _ {kind : Kind} {t ends : List ℕ} (l : List ℕ) (judged : Write) (r : rising 0 ends (length t) ≡ true) (e : writePaper kind judged ≡ fitted (entriesJudged kind 0 (entryList t ends)) [] []) where
   pub list-refused : OneOf (1 ∷ 2 ∷ 3 ∷ 4 ∷ 5 ∷ []) (tagOf the-type judged) → WritesList kind t ends l judged l
   unfolding listAnswer entriesAnswer
-  list-refused o = let n = refusal kind judged o in record { answer = rw (r, ← e, n); bytes = rw (r, ← e, n, n) }
+  list-refused o =
+      let n = refusal kind judged o in
+      let f = refused-fitted (entriesJudged kind 0 (entryList t ends)) (listText kind (entryList t ends)) l (rw e at n) in
+      record { answer = rw (r, f) e; bytes = rw (r, f, ← e, n) }
 
   pub list-put : {n : ℕ} {x : Write} {l′ : List ℕ} → judged ≡ W.Done n → PutsList kind (entryList t ends) l x l′ → WritesList kind t ends l x l′
   unfolding listAnswer entriesAnswer writePaper
-  list-put q p = record { answer = rw (r, ← e, q) (p .answer); bytes = rw (r, ← e, q) (p .bytes) }
+  list-put q p =
+      let f = judged-fine kind 0 (entryList t ends) (ap numberOf (sym (rw q at e))) in
+      record { answer = rw (r, f) (p .answer); bytes = rw (r, f) (p .bytes) }
 
 -- ---- from a place on
 

@@ -6,9 +6,10 @@ use mathlib.Core.List.{List, [], _∷_}
 use lib.ListN.{drop}
 use lib.Dec.{eqb}
 use Rattle.text.specs.Pick.{pick}
-use Rattle.text.specs.Answer.{Answer, says, numberOf}
+use Rattle.text.specs.Answer.{Answer, numberOf}
 use Rattle.text.specs.Over.{roomAnswer, laid, laidAt, roomLeft}
 use Rattle.text.specs.Place.{placed}
+use Rattle.text.specs.Verdict.{Verdict, fine, refused, fitted}
 use Rattle.pieces.specs.Pieces.{joined}
 use Rattle.pieces.specs.Entries.{entryList, ordered}
 use Rattle.lists.specs.Kind.{separatorOf}
@@ -26,15 +27,15 @@ listText kind (e ∷ es) = joined (separatorOf kind) (e ∷ es)
 
 -- ---- the answer
 
--- the first of the entries, from index i on, that is refused, with its index; or 0
-unfoldable pub judgedAnswer : Kind → ℕ → List (List ℕ) → Answer
-judgedAnswer kind i [] = says 0 (0 ∷ [])
-judgedAnswer kind i (e ∷ es) = pick (eqb (numberOf (entryAnswer kind e)) 0) (judgedAnswer kind (i + 1) es) (says (numberOf (entryAnswer kind e)) (i ∷ []))
+-- what is found of the entries, the first of which has index i
+unfoldable pub entriesJudged : Kind → ℕ → List (List ℕ) → Verdict
+entriesJudged kind i [] = fine
+entriesJudged kind i (e ∷ es) = pick (eqb (numberOf (entryAnswer kind e)) 0) (entriesJudged kind (i + 1) es) (refused (numberOf (entryAnswer kind e)) i)
 
 -- room last
 unfoldable pub entriesAnswer : Kind → List (List ℕ) → List ℕ → Answer
-unfolding judgedAnswer
-entriesAnswer kind es l = pick (eqb (numberOf (judgedAnswer kind 0 es)) 0) (roomAnswer (listText kind es) l) (judgedAnswer kind 0 es)
+unfolding entriesJudged
+entriesAnswer kind es l = fitted (entriesJudged kind 0 es) (listText kind es) l
 
 -- 16 before
 unfoldable pub listAnswer : Kind → List ℕ → List ℕ → List ℕ → Answer

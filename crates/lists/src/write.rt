@@ -14,11 +14,12 @@ ghost use mathlib.Core.Bool.{true};
 ghost use mathlib.Core.List.{[]};
 ghost use Prim.Native.Nat.{_<_};
 ghost use lib.ListN.{length, getD};
+ghost use Rattle.text.specs.Verdict.{fitted};
 ghost use Rattle.pieces.specs.Entries.{rising, entryList};
 ghost use Rattle.lists.specs.Kind.{separatorOf};
 ghost use Rattle.lists.specs.Judge.{entryAnswer};
 ghost use Rattle.lists.specs.Paper.{verdictPaper, writePaper};
-ghost use Rattle.lists.specs.Write.{judgedAnswer, PutsList, WritesList, WritesListAt};
+ghost use Rattle.lists.specs.Write.{entriesJudged, PutsList, WritesList, WritesListAt};
 
 // Which list is written.
 pub enum Kind {
@@ -87,10 +88,10 @@ fn judge_at(kind: Kind, text: &[u8], ends: &[usize], i: usize) -> Verdict
     }
 }
 
-// Judges the entries in order: the first that may not be written, or none.
+// Judges the entries in order: the first that may not be written, or none. The answer is that for a text of no bytes.
 fn judge_list(kind: Kind, text: &[u8], ends: &[usize]) -> Write
     requires { ⌜ rising 0 (now ends) (length (now text)) ≡ true ⌝ }
-    ensures { λ r. ⌜ writePaper kind r ≡ judgedAnswer kind 0 (entryList (now (text .entry)) (now (ends .entry))) ⌝ }
+    ensures { λ r. ⌜ writePaper kind r ≡ fitted (entriesJudged kind 0 (entryList (now (text .entry)) (now (ends .entry)))) [] [] ⌝ }
 {
     let mut i = 0;
     while i < ends.len() {

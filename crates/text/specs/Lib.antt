@@ -7,6 +7,7 @@ pub mod First
 pub mod Bytes
 pub mod Paper
 pub mod Over
+pub mod Verdict
 pub mod Utf8
 pub mod Space
 pub mod Inner

@@ -1,0 +1,33 @@
+-- What the private functions of this crate promise each other. Assumes nothing.
+use Prim.Native.Nat.{ℕ, zero, suc, _≤_}
+use mathlib.Core.List.{List, [], _∷_}
+use mathlib.Core.Option.{Option, some, none}
+use lib.ListN.{length}
+use Rattle.text.specs.Answer.{Answer, says}
+use Rattle.text.specs.Over.{roomFor}
+use Rattle.genotype.specs.Reading.{Reading, list, bad, empty}
+use Rattle.genotype.specs.declared.read.Above.{Above}
+use Rattle.genotype.specs.declared.read.Above.the-variants as O
+
+-- a text judged whole, whatever the room: so many alleles, 11, or 12 with the index of the first piece that is none
+unfoldable pub wholeAnswer : Reading → Answer
+wholeAnswer (list as′) = says 0 (length as′ ∷ [])
+wholeAnswer (bad k) = says 12 (k ∷ [])
+wholeAnswer empty = says 11 []
+
+-- such an answer, with room for so many
+unfoldable pub fitAnswer : Answer → ℕ → Answer
+fitAnswer (says zero []) room = says 0 []
+fitAnswer (says zero (count ∷ vs)) room = roomFor count room
+fitAnswer (says (suc n) vs) room = says (suc n) vs
+
+-- an index, or none
+unfoldable pub abovePaper : Above → Option ℕ
+abovePaper (O.At k) = some k
+abovePaper O.Nothing = none
+
+-- so many entries fit each slice
+pub record Room (k : ℕ) (n m p : List ℕ) : Type 0 where
+  pub numbers : k ≤ length n
+  pub missing : k ≤ length m
+  pub phased : k ≤ length p
