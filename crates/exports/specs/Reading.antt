@@ -6,7 +6,7 @@ use mathlib.Core.List.{List}
 use Rattle.text.specs.Answer.{Answer}
 use Rattle.text.specs.Over.{laid}
 use Rattle.genotype.specs.Reading.{readingOf, listOf, numbersOf, missingOf, phasedOf}
-use Rattle.genotype.specs.Answers.{textAnswer, checkedText}
+use Rattle.genotype.specs.Answers.{slicesAnswer, checkedSlices}
 use Rattle.genotype.specs.declared.allele.Allele.{Allele}
 use Rattle.exports.specs.Told.{Tells, leftBy}
 
@@ -18,7 +18,7 @@ pub record TellsReading (k : ℕ) (a : Answer) (as′ : List Allele) (n m p l : 
   pub phased : p′ ≡ leftBy k l (laid a (phasedOf as′) p) p
 
 abbrev pub ReadsGenotype : List ℕ → List ℕ → List ℕ → List ℕ → List ℕ → ℕ → List ℕ → List ℕ → List ℕ → List ℕ → Type 0
-ReadsGenotype t n m p l r n′ m′ p′ l′ = TellsReading 1 (textAnswer t n m p) (listOf (readingOf t)) n m p l r n′ m′ p′ l′
+ReadsGenotype t n m p l r n′ m′ p′ l′ = TellsReading 1 (slicesAnswer t n m p) (listOf (readingOf t)) n m p l r n′ m′ p′ l′
 
 abbrev pub ReadsChecked : List ℕ → List ℕ → List ℕ → List ℕ → List ℕ → List ℕ → ℕ → List ℕ → List ℕ → List ℕ → List ℕ → Type 0
-ReadsChecked t alt n m p l r n′ m′ p′ l′ = TellsReading 1 (checkedText t alt n m p) (listOf (readingOf t)) n m p l r n′ m′ p′ l′
+ReadsChecked t alt n m p l r n′ m′ p′ l′ = TellsReading 1 (checkedSlices t alt n m p) (listOf (readingOf t)) n m p l r n′ m′ p′ l′

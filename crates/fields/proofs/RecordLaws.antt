@@ -5,7 +5,6 @@ use mathlib.Core.Bool.{Bool, true, false}
 use mathlib.Core.List.{List, [], _∷_}
 use native.Mathlib.Omega.{arith}
 use lib.ListN.{getD}
-use Rattle.text.specs.Pick.{pick}
 use Rattle.text.specs.Answer.{says}
 use Rattle.text.specs.declared.range.Range.{Range}
 use Rattle.text.specs.Same.{same}
@@ -16,16 +15,16 @@ use Rattle.line.specs.Place.{rangeOf}
 use Rattle.line.specs.declared.read.Record.{Record}
 use Rattle.line.specs.declared.place.Name.the-variants as N
 use Rattle.line.proofs.RecordLaws.{Recorded, Lies, info-lies}
-use Rattle.fields.specs.Fields.{fieldAnswer}
+use Rattle.fields.specs.Fields.{fieldAnswer, readText}
 use Rattle.fields.specs.Paper.{fieldPaper}
 use Rattle.fields.specs.declared.field.Text.{Text}
 use Rattle.fields.specs.declared.field.Text.the-variants as F
 use Rattle.fields.proofs.FieldLaws.{fits-within, info, dot-empty, field-stands}
 use Rattle.fields.proofs.Determined.{field-paper-injective}
 
--- the column, or the empty text where it is a `.`
+-- what the column reads as
 abbrev pub InfoTells : List ℕ → List ℕ → Text → Type 0
-InfoTells s c (F.At x) = Lies s x (pick (same c (46 ∷ [])) [] c)
+InfoTells s c (F.At x) = Lies s x (readText N.Info c)
 InfoTells s c F.Absent = ⊥
 InfoTells s c F.Beyond = ⊥
 
@@ -40,7 +39,7 @@ info-tells {s} {at} {r} g x e = by (same c (46 ∷ [])) refl
     i : Lies s (rangeOf r N.Info) c
     i = info-lies g
 
-    is : (y : Range) → fieldAnswer s r N.Info ≡ says 0 (y .start ∷ y .len ∷ []) → Lies s y (pick (same c (46 ∷ [])) [] c) → InfoTells s c x
+    is : (y : Range) → fieldAnswer s r N.Info ≡ says 0 (y .start ∷ y .len ∷ []) → Lies s y (readText N.Info c) → InfoTells s c x
     is y f l = rw (field-paper-injective x (F.At y) (e ∙ f)) l
 
     by : (t : Bool) → same c (46 ∷ []) ≡ t → InfoTells s c x

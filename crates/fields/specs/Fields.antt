@@ -22,18 +22,42 @@ fitsIn r s = leb (r .start) (length s) && leb (r .len) (length s - r .start)
 unfoldable pub placeAnswer : List ℕ → Range → Answer
 placeAnswer s r = pick (fitsIn r s) (says 0 (rangePlaces r)) (says 6 [])
 
--- what a `.` reads as: empty at its column's end, absent, or as it stands
+-- what a `.` reads as: empty, absent, or as it stands
+pub data Dot : Type 0 where
+  empty : Dot
+  absent : Dot
+  itself : Dot
+
+abbrev pub dotOf : Name → Dot
+dotOf N.Chrom = itself
+dotOf N.Pos = itself
+dotOf N.Id = empty
+dotOf N.Reference = itself
+dotOf N.Alt = empty
+dotOf N.Qual = absent
+dotOf N.Filter = empty
+dotOf N.Info = empty
+dotOf N.Format = itself
+dotOf N.Samples = itself
+
+-- as a place: what is empty lies at its column's end
+abbrev pub dotPlaces : Dot → Range → List ℕ
+dotPlaces empty r = (r .start + r .len) ∷ 0 ∷ []
+dotPlaces absent r = []
+dotPlaces itself r = rangePlaces r
+
+-- and as a text
+abbrev pub dotText : Dot → List ℕ
+dotText empty = []
+dotText absent = []
+dotText itself = 46 ∷ []
+
 unfoldable pub dotAnswer : Name → Range → Answer
-dotAnswer N.Chrom r = says 0 (rangePlaces r)
-dotAnswer N.Pos r = says 0 (rangePlaces r)
-dotAnswer N.Id r = says 0 ((r .start + r .len) ∷ 0 ∷ [])
-dotAnswer N.Reference r = says 0 (rangePlaces r)
-dotAnswer N.Alt r = says 0 ((r .start + r .len) ∷ 0 ∷ [])
-dotAnswer N.Qual r = says 0 []
-dotAnswer N.Filter r = says 0 ((r .start + r .len) ∷ 0 ∷ [])
-dotAnswer N.Info r = says 0 ((r .start + r .len) ∷ 0 ∷ [])
-dotAnswer N.Format r = says 0 (rangePlaces r)
-dotAnswer N.Samples r = says 0 (rangePlaces r)
+dotAnswer n r = says 0 (dotPlaces (dotOf n) r)
+
+-- the text that a column of a field reads as
+abbrev pub readText : Name → List ℕ → List ℕ
+readText n c = pick (same c (46 ∷ [])) (dotText (dotOf n)) c
 
 -- a range's text that is a `.` reads as its field says; any other stands as it is
 unfoldable pub textAnswer : List ℕ → Name → Range → Answer

@@ -41,16 +41,21 @@ checkedAnswer count r room = aboveAnswer (firstAbove count 0 (listOf r)) (readAn
 
 -- ---- the row
 
--- 16 first
+-- three slices of one length
+pub record Parallel (n m p : List ℕ) : Type 0 where
+  pub missing : length n ≡ length m
+  pub phased : length n ≡ length p
+
+-- 16 first, where they are not
 unfoldable pub rowAnswer : List ℕ → List ℕ → List ℕ → Answer → Answer
 rowAnswer n m p a = pick (eqb (length n) (length m) && eqb (length n) (length p)) a (says 16 [])
 
 -- for a text, and also with no allele above what an ALT column counts
-abbrev pub textAnswer : List ℕ → List ℕ → List ℕ → List ℕ → Answer
-textAnswer t n m p = rowAnswer n m p (readAnswer (readingOf t) (length n))
+abbrev pub slicesAnswer : List ℕ → List ℕ → List ℕ → List ℕ → Answer
+slicesAnswer t n m p = rowAnswer n m p (readAnswer (readingOf t) (length n))
 
-abbrev pub checkedText : List ℕ → List ℕ → List ℕ → List ℕ → List ℕ → Answer
-checkedText t alt n m p = rowAnswer n m p (checkedAnswer (altCount alt) (readingOf t) (length n))
+abbrev pub checkedSlices : List ℕ → List ℕ → List ℕ → List ℕ → List ℕ → Answer
+checkedSlices t alt n m p = rowAnswer n m p (checkedAnswer (altCount alt) (readingOf t) (length n))
 
 -- r is the answer a, and slices that held n, m and p are left with the list laid over them where it is done
 pub record Reads (a : Answer) (as′ : List Allele) (n m p : List ℕ) (r : Read) (n′ m′ p′ : List ℕ) : Type 0 where
@@ -60,10 +65,10 @@ pub record Reads (a : Answer) (as′ : List Allele) (n m p : List ℕ) (r : Read
   pub phased : p′ ≡ laid a (phasedOf as′) p
 
 abbrev pub ReadsText : List ℕ → List ℕ → List ℕ → List ℕ → Read → List ℕ → List ℕ → List ℕ → Type 0
-ReadsText t n m p r n′ m′ p′ = Reads (textAnswer t n m p) (listOf (readingOf t)) n m p r n′ m′ p′
+ReadsText t n m p r n′ m′ p′ = Reads (slicesAnswer t n m p) (listOf (readingOf t)) n m p r n′ m′ p′
 
 abbrev pub ReadsChecked : List ℕ → List ℕ → List ℕ → List ℕ → List ℕ → Read → List ℕ → List ℕ → List ℕ → Type 0
-ReadsChecked t alt n m p r n′ m′ p′ = Reads (checkedText t alt n m p) (listOf (readingOf t)) n m p r n′ m′ p′
+ReadsChecked t alt n m p r n′ m′ p′ = Reads (checkedSlices t alt n m p) (listOf (readingOf t)) n m p r n′ m′ p′
 
 -- a row of records, with the list laid over it where the answer is done
 abbrev pub rowRead : List ℕ → List Allele → List Allele

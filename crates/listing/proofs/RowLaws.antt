@@ -2,11 +2,9 @@
 use Prim.Native.Nat.{ℕ, _+_, _-_, _≤_}
 use mathlib.Core.Path.{_≡_, sym, ap, _∙_}
 use mathlib.Core.Logic.{⊎-elim}
-use mathlib.Core.List.{List, [], _∷_}
+use mathlib.Core.List.{List, []}
 use native.Mathlib.Omega.{arith}
 use lib.ListN.{length, getD, take, drop, length-drop}
-use Rattle.text.specs.Same.{same}
-use Rattle.text.specs.Pick.{pick}
 use Rattle.text.specs.Answer.{says, numberOf}
 use Rattle.text.specs.Range.{cut}
 use Rattle.text.specs.declared.range.Range.{Range}
@@ -22,7 +20,7 @@ use Rattle.line.specs.declared.place.Name.the-variants as N
 use Rattle.line.proofs.CaseLaws.{read-record, read-end, read-empty, read-fed, read-cut, read-broken, read-beyond}
 use Rattle.line.proofs.RecordLaws.{Recorded, recorded, Lies, samples-lie, samples-back, columns-within}
 use Rattle.line.proofs.MovesOn.{six-beyond}
-use Rattle.fields.specs.Fields.{fieldAnswer}
+use Rattle.fields.specs.Fields.{fieldAnswer, readText}
 use Rattle.fields.specs.Paper.{fieldPaper}
 use Rattle.fields.specs.declared.field.Text.{Text}
 use Rattle.fields.specs.declared.field.Text.the-variants as F
@@ -50,7 +48,7 @@ module _ {w : List ℕ} {at next : ℕ} {r : Record} (h : ReadAt w at next r) wh
   -- ---- INFO
 
   module _ {x : Text} (e : fieldPaper x ≡ fieldAnswer w r N.Info) where
-    info-is : (g : Recorded w at r) {range : Range} → x ≡ F.At range → Lies w range (pick (same (getD (split 9 (g .text)) 7 []) (46 ∷ [])) [] (getD (split 9 (g .text)) 7 []))
+    info-is : (g : Recorded w at r) {range : Range} → x ≡ F.At range → Lies w range (readText N.Info (getD (split 9 (g .text)) 7 []))
     info-is g {range} q = info-tells g (F.At range) (rw q at e)
 
     pub info-fits : {range : Range} → x ≡ F.At range → range .start + range .len ≤ length w

@@ -7,10 +7,11 @@ use mathlib.Core.List.{List, [], _∷_}
 use lib.ListN.{length, getD, drop}
 use lib.Dec.{ltb, eqb}
 use Rattle.text.specs.Pick.{pick}
-use Rattle.text.specs.Same.{same}
 use Rattle.text.specs.Answer.{Answer, says, numberOf, nextOf}
 use Rattle.pieces.specs.Pieces.{split}
 use Rattle.line.specs.Line.{Line, line, endingBytes, lineOf, readAnswer}
+use Rattle.line.specs.declared.place.Name.the-variants as N
+use Rattle.fields.specs.Fields.{readText}
 use Rattle.info.specs.Info.{infoCount}
 
 -- ---- a line
@@ -23,9 +24,9 @@ sizeOf (line t e rest) = length t + length (endingBytes e)
 unfoldable pub columnsOf : Line → List (List ℕ)
 columnsOf (line t e rest) = split 9 t
 
--- how many entries the INFO column claims; a `.` reads as empty
+-- how many entries the INFO column claims, by what it reads as
 unfoldable pub infosIn : List (List ℕ) → ℕ
-infosIn cs = infoCount (pick (same (getD cs 7 []) (46 ∷ [])) [] (getD cs 7 []))
+infosIn cs = infoCount (readText N.Info (getD cs 7 []))
 
 -- how many columns there are, the INFO count, and how many of the columns are samples
 unfoldable pub countsOf : List (List ℕ) → List ℕ

@@ -10,14 +10,14 @@ use Rattle.text.specs.Answer.{says, numberOf}
 use Rattle.text.specs.Over.{over}
 use Rattle.text.proofs.Lists.{take-over}
 use Rattle.genotype.specs.Reading.{list, readingOf, numbersOf, missingOf, phasedOf}
-use Rattle.genotype.specs.Answers.{ReadsText}
+use Rattle.genotype.specs.Answers.{ReadsText, Parallel}
 use Rattle.genotype.specs.declared.allele.Allele.{Allele}
 use Rattle.genotype.specs.declared.read.Read.{Read}
 use Rattle.genotype.proofs.MeansLaws.{reads-means}
 use Rattle.genotype.proofs.ColumnLaws.{numbersOf-length, missingOf-length, phasedOf-length}
 use Rattle.genotype.proofs.AnswerLaws.{Holds, reads-list}
 use Rattle.spelling.specs.Spelling.{from44}
-use Rattle.spelling.specs.Row.{Parallel, alleleOf, rowOf, Small}
+use Rattle.spelling.specs.Row.{alleleOf, rowOf, Small}
 use Rattle.spelling.specs.Paper.{writePaper}
 use Rattle.spelling.specs.Write.{listAnswer, rowAnswer, WritesRow, SmallWhereDone}
 use Rattle.spelling.specs.Demands.{writer, Fitting, RoundTrip}

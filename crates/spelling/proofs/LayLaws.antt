@@ -9,8 +9,9 @@ use lib.ListN.{length, drop, length-append}
 use Rattle.text.specs.Over.{over, overAt}
 use Rattle.text.proofs.Lists.{over-nil, over-append, overAt-nil, overAt-append, length-overAt}
 use Rattle.genotype.specs.declared.allele.Allele.{Allele}
+use Rattle.genotype.specs.Answers.{Parallel}
 use Rattle.spelling.specs.Spelling.{alleleText, listText}
-use Rattle.spelling.specs.Row.{Parallel, alleleAt, rowOf}
+use Rattle.spelling.specs.Row.{alleleAt, rowOf}
 use Rattle.spelling.specs.Put.{PutsAt}
 use Rattle.spelling.proofs.SpellLaws.{list-none, list-more}
 use Rattle.spelling.proofs.RowLaws.{row-here, row-past}

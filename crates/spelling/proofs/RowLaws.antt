@@ -11,8 +11,9 @@ use lib.ListN.{length, getD, drop, drop-of-length-le}
 use lib.Dec.{eqb}
 use Rattle.text.specs.Pick.{oneIf}
 use Rattle.genotype.specs.declared.allele.Allele.{Allele}
+use Rattle.genotype.specs.Answers.{Parallel}
 use Rattle.spelling.specs.Tally.{begun, tallied, tallyFrom, tallyOf}
-use Rattle.spelling.specs.Row.{Parallel, alleleAt, rowOf}
+use Rattle.spelling.specs.Row.{alleleAt, rowOf}
 use Rattle.spelling.specs.declared.tally.Tally.{Tally}
 
 -- ---- the list

@@ -12,7 +12,7 @@ use Rattle.text.specs.Answer.{numberOf}
 use Rattle.text.specs.Over.{over}
 use Rattle.text.proofs.Lists.{over-is}
 use Rattle.genotype.specs.Reading.{readingOf, listOf, numbersOf, missingOf, phasedOf}
-use Rattle.genotype.specs.Answers.{readAnswer, ReadsText}
+use Rattle.genotype.specs.Answers.{readAnswer, ReadsText, Parallel}
 use Rattle.genotype.specs.Demands.{reader}
 use Rattle.genotype.specs.Paper.{readPaper}
 use Rattle.genotype.specs.declared.allele.Allele.{Allele}
@@ -21,7 +21,7 @@ use Rattle.genotype.proofs.AnswerLaws.{row-even}
 use Rattle.genotype.proofs.ColumnLaws.{numbersOf-none, missingOf-none, phasedOf-none, numbersOf-more, missingOf-more, phasedOf-more, numbersOf-length, missingOf-length, phasedOf-length}
 use Rattle.genotype.proofs.ReaderLaws.{reader-answer, reader-row}
 use Rattle.spelling.specs.Spelling.{from44}
-use Rattle.spelling.specs.Row.{Parallel, rowOf}
+use Rattle.spelling.specs.Row.{rowOf}
 use Rattle.spelling.specs.Paper.{writePaper}
 use Rattle.spelling.specs.Write.{WritesRow}
 use Rattle.spelling.specs.Demands.{writer}

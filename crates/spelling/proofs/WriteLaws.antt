@@ -16,9 +16,10 @@ use Rattle.text.proofs.Lists.{rest-all, rest-put, rest-back}
 use Rattle.genotype.specs.Answers as G
 use Rattle.genotype.specs.declared.allele.Allele.{Allele}
 use Rattle.genotype.proofs.AnswerLaws.{row-even, row-uneven-nm, row-uneven-np, row-done-nm, row-done-np}
+use Rattle.genotype.specs.Answers.{Parallel}
 use Rattle.spelling.specs.Spelling.{listText, from44, Spelled, bad, phasing, empty, spell}
 use Rattle.spelling.specs.Tally.{tallyOf, planOf}
-use Rattle.spelling.specs.Row.{Parallel, rowOf, Small}
+use Rattle.spelling.specs.Row.{rowOf, Small}
 use Rattle.spelling.specs.Paper.{writePaper}
 use Rattle.spelling.specs.Write.{spelledAnswer, textOf, WritesList, listAnswer, rowAnswer, WritesRow, SmallWhereDone}
 use Rattle.spelling.specs.declared.tally.Tally.{Tally}

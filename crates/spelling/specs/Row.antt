@@ -1,16 +1,10 @@
 -- Three slices as a list of alleles (docs/RULES.md, "Genotypes"). Assumes nothing.
 use Prim.Native.Nat.{ℕ, _<_, _≤_}
-use mathlib.Core.Path.{_≡_}
 use mathlib.Core.Bool.{not}
 use mathlib.Core.List.{List, [], _∷_}
 use lib.ListN.{length, getD}
 use lib.Dec.{eqb}
 use Rattle.genotype.specs.declared.allele.Allele.{Allele}
-
--- they have one length
-pub record Parallel (n m p : List ℕ) : Type 0 where
-  pub missing : length n ≡ length m
-  pub phased : length n ≡ length p
 
 -- 0 is not missing, or unphased, and any other number is missing, or phased
 abbrev pub alleleOf : ℕ → ℕ → ℕ → Allele

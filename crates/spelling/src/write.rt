@@ -9,10 +9,11 @@ use genotype::allele::Allele;
 ghost use mathlib.Core.Path.{_≡_};
 ghost use Prim.Native.Nat.{_≤_, _<_};
 ghost use lib.ListN.{length};
+ghost use Rattle.genotype.specs.Answers.{Parallel};
 ghost use Rattle.text.specs.Over.{over};
 ghost use Rattle.spelling.specs.Spelling.{listText, from44};
 ghost use Rattle.spelling.specs.Tally.{tallyOf};
-ghost use Rattle.spelling.specs.Row.{Parallel, alleleAt, rowOf, Small};
+ghost use Rattle.spelling.specs.Row.{alleleAt, rowOf, Small};
 ghost use Rattle.spelling.specs.Write.{WritesList, WritesRow, SmallWhereDone};
 
 // The answer of the writer.
