@@ -9,6 +9,8 @@ pub mod One
 pub mod WindowLaws
 pub mod Window
 pub mod MovesOn
+pub mod Faults
+pub mod Meets
 pub mod WholeLaws
 pub mod Impostors
 pub mod Determined

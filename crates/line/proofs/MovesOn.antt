@@ -227,20 +227,20 @@ module _ {s : List ℕ} {at : ℕ} (h : at < length s) where
   further-within (end-4 n) = (omega arith, omega arith)
 
   -- so an answer that goes on as its number says is as asked
-  goes-moved : {n next : ℕ} {others : List ℕ} → GoesOn s at n next → Moved s at (says n (next ∷ others))
-  goes-moved {next = next} {others = others} g =
+  goes-moved : {n next : ℕ} {others : List ℕ} → ((n ≡ 0 → ⊥) → others ≡ []) → GoesOn s at n next → Moved s at (says n (next ∷ others))
+  goes-moved {next = next} {others = others} o g =
       let f = further-within g in
-      record { next = next; others = others; values = refl; goes = g; further = λ a b. f .0; within = λ a. f .1 }
+      record { next = next; others = others; values = refl; alone = o; goes = g; further = λ a b. f .0; within = λ a. f .1 }
 
   -- so is the answer to a verdict
   judged-moved : {v : Verdict} {past : ℕ} → Leads s at v → PastLine s at past → (from end : ℕ) (cs : List (List ℕ)) → Moved s at (judgedAnswer v from end cs past)
   unfolding judgedAnswer
-  judged-moved (refused-leads g) p from end cs = goes-moved g
+  judged-moved (refused-leads g) p from end cs = goes-moved (λ z. refl) g
   judged-moved {past = past} fine-leads p from end cs = by (allUtf8 cs)
     where
       by : (t : Bool) → Moved s at (pick t (says 0 (past ∷ fieldPlaces from cs end)) (says 5 (past ∷ [])))
-      by true = goes-moved (line-0 p)
-      by false = goes-moved (line-5 p)
+      by true = goes-moved (λ z. absurd (z refl)) (line-0 p)
+      by false = goes-moved (λ z. refl) (line-5 p)
 
   -- a line whose text stands at the place
   line-goes : (t : List ℕ) (e : Ending) (rest r : List ℕ) → drop at s ≡ t ++ r → Closed s at (at + length t) (at + length t + length (endingBytes e)) e
@@ -293,12 +293,12 @@ module _ (s : List ℕ) (at : ℕ) where
   end-moves : at ≡ length s → Moved s at (readAnswer s at)
   end-moves e =
       rw (read-end s at e)
-      (record { next = at; others = []; values = refl; goes = stays-1 e; further = λ a. absurd (a refl); within = λ a. omega arith })
+      (record { next = at; others = []; values = refl; alone = λ z. refl; goes = stays-1 e; further = λ a. absurd (a refl); within = λ a. omega arith })
 
   beyond-moves : length s < at → Moved s at (readAnswer s at)
   beyond-moves h =
       rw (read-beyond s at h)
-      (record { next = at; others = []; values = refl; goes = stays-6 h; further = λ a b. absurd (b refl); within = λ a. absurd (a refl) })
+      (record { next = at; others = []; values = refl; alone = λ z. refl; goes = stays-6 h; further = λ a b. absurd (b refl); within = λ a. absurd (a refl) })
 
   placed : (x y : Bool) → ltb (length s) at ≡ x → ltb at (length s) ≡ y → Moved s at (readAnswer s at)
   placed true y p q = beyond-moves (ltb-true _ _ p)

@@ -3,7 +3,7 @@ use Prim.Native.Nat.{ℕ, zero, suc, _+_, _*_, _<_, _≤_}
 use mathlib.Core.Path.{_≡_, refl, sym, ap, _∙_}
 use mathlib.Core.Bool.{Bool, true, false}
 use mathlib.Core.Logic.{_⊎_, ⊎-elim}
-use mathlib.Core.List.{List, [], _∷_, _++_, append-assoc}
+use mathlib.Core.List.{List, [], _∷_, _++_, append-assoc, flatten}
 use native.Mathlib.Omega.{arith}
 use native.Mathlib.Nat.{add-assoc}
 use lib.ListN.{length, getD, take, drop, length-append, List·getD-append}
@@ -12,63 +12,64 @@ use lib.Dec.{ltb, eqb}
 use borrow.Author.Tests.{ltb-false, eqb-false, eq-eqb, ne-eqb}
 use Rattle.text.specs.Pick.{pick}
 use Rattle.text.specs.Answer.{says, numberOf}
+use Rattle.text.specs.Range.{rangeAt, cut}
 use Rattle.text.proofs.Lists.{cut-is}
 use Rattle.pieces.specs.Pieces.{split, joined}
 use Rattle.pieces.proofs.PieceLaws.{split-joined, joined-one, joined-more}
 use Rattle.line.specs.Line.{Ending, Line, line, lineOf, columnPlaces, leadingPlaces, fieldPlaces, lineAnswer, readAnswer}
-use Rattle.line.specs.Demands.{Begins, fieldOf, Refuses, CutsOut, Stands, One}
+use Rattle.line.specs.Demands.{Begins, startIn, Lies, TenPlaces, Refuses, Stands, One}
 use Rattle.line.proofs.ColumnLaws.{line-whole}
 use Rattle.line.proofs.Exact.{Good, good-read, read-good, begins-line, begins-split, good-begins}
 use Rattle.line.proofs.LineLaws.{read-line}
 
--- ---- a field among places
+-- ---- where columns start
 
-field-first : (a b : ℕ) (places s : List ℕ) → fieldOf (a ∷ b ∷ places) 0 s ≡ take b (drop a s)
-unfolding fieldOf
-field-first a b places s = cut-is a b s
+start-first : (cs : List (List ℕ)) → startIn cs 0 ≡ 0
+unfolding startIn flatten
+start-first cs = refl
 
-field-next : (a b : ℕ) (places : List ℕ) (i : ℕ) (s : List ℕ) → fieldOf (a ∷ b ∷ places) (suc i) s ≡ fieldOf places i s
-unfolding fieldOf
-field-next a b places i s =
+start-later : (c : List ℕ) (cs : List (List ℕ)) (i : ℕ) → startIn (c ∷ cs) (suc i) ≡ length c + 1 + startIn cs i
+unfolding startIn flatten
+start-later c cs i = let l = length-append c (flatten (take i cs)) in omega arith
+
+-- ---- a place among places
+
+lies-first : {a b : ℕ} {places : List ℕ} {x y : ℕ} → a ≡ x → b ≡ y → Lies (a ∷ b ∷ places) 0 x y
+lies-first p q = record { starts = p; sized = q }
+
+lies-next : {a b : ℕ} {places : List ℕ} {i x y : ℕ} → Lies places i x y → Lies (a ∷ b ∷ places) (suc i) x y
+lies-next {i = i} l =
     let p : 2 * suc i ≡ suc (suc (2 * i)) = omega arith in
     let q : 2 * suc i + 1 ≡ suc (suc (2 * i + 1)) = omega arith in
-    rw (q, p)
+    record { starts = rw p (l .starts); sized = rw q (l .sized) }
 
-field-append : (places others : List ℕ) (i : ℕ) (s : List ℕ) → 2 * i + 1 < length places → fieldOf (places ++ others) i s ≡ fieldOf places i s
-unfolding fieldOf
-field-append places others i s h =
-    rw (List·getD-append places others 0 (2 * i + 1) h, List·getD-append places others 0 (2 * i) (omega arith))
+lies-append : (places others : List ℕ) {i x y : ℕ} → 2 * i + 1 < length places → Lies places i x y → Lies (places ++ others) i x y
+lies-append places others {i} h l =
+    record {
+      starts = List·getD-append places others 0 (2 * i) (omega arith) ∙ l .starts;
+      sized = List·getD-append places others 0 (2 * i + 1) h ∙ l .sized;
+    }
 
--- ---- columns that stand in a buffer, joined by tabs, from a place on
+-- each of the n leading places is its column's
+leading-column : (n from : ℕ) (cs : List (List ℕ)) (i : ℕ) → i < n → i < length cs
+    → Lies (leadingPlaces n from cs) i (from + startIn cs i) (length (getD cs i []))
+unfolding leadingPlaces
+leading-column n from [] i h l = absurd (omega arith)
+leading-column zero from (c ∷ cs) i h l = absurd (omega arith)
+leading-column (suc n) from (c ∷ cs) zero h l = lies-first (omega (arith, start-first (c ∷ cs))) refl
+leading-column (suc n) from (c ∷ cs) (suc i) h l =
+    let e : from + length c + 1 + startIn cs i ≡ from + startIn (c ∷ cs) (suc i) = omega (arith, start-later c cs i) in
+    rw (← e) (lies-next (leading-column n (from + length c + 1) cs i (omega arith) (omega arith)))
 
-module _ (s r : List ℕ) where
-  first-taken : (from : ℕ) (c : List ℕ) (cs : List (List ℕ)) → drop from s ≡ joined 9 (c ∷ cs) ++ r → take (length c) (drop from s) ≡ c
-  first-taken from c [] e = rw (e, joined-one) (take-append-seam c r)
-  first-taken from c (d ∷ cs) e = rw (e, joined-more, append-assoc c) (take-append-seam c _)
-
-  others-stand : (from : ℕ) (c d : List ℕ) (cs : List (List ℕ)) → drop from s ≡ joined 9 (c ∷ d ∷ cs) ++ r → drop (from + length c + 1) s ≡ joined 9 (d ∷ cs) ++ r
-  others-stand from c d cs e = rw (add-assoc, ← drop-drop (length c + 1) from s, e, joined-more, append-assoc c) (drop-append-add c _ 1)
-
-  -- each of the n leading places cuts its column out
-  pub leading-column : (n from : ℕ) (cs : List (List ℕ)) → drop from s ≡ joined 9 cs ++ r → (i : ℕ) → i < n → i < length cs
-      → fieldOf (leadingPlaces n from cs) i s ≡ getD cs i []
-  unfolding leadingPlaces
-  leading-column n from [] e i h l = absurd (omega arith)
-  leading-column zero from (c ∷ cs) e i h l = absurd (omega arith)
-  leading-column (suc n) from (c ∷ cs) e zero h l = rw field-first (first-taken from c cs e)
-  leading-column (suc n) from (c ∷ []) e (suc i) h l = absurd (omega arith)
-  leading-column (suc n) from (c ∷ d ∷ cs) e (suc i) h l =
-      rw field-next (leading-column n (from + length c + 1) (d ∷ cs) (others-stand from c d cs e) i (omega arith) (omega arith))
-
-  -- and the place behind them the other columns, joined
-  pub leading-others : (n from : ℕ) (cs : List (List ℕ)) → drop from s ≡ joined 9 cs ++ r → n < length cs
-      → fieldOf (leadingPlaces n from cs) n s ≡ joined 9 (drop n cs)
-  unfolding leadingPlaces
-  leading-others n from [] e l = absurd (omega arith)
-  leading-others zero from (c ∷ cs) e l = rw (field-first, e) (take-append-seam (joined 9 (c ∷ cs)) r)
-  leading-others (suc n) from (c ∷ []) e l = absurd (omega arith)
-  leading-others (suc n) from (c ∷ d ∷ cs) e l =
-      rw field-next (leading-others n (from + length c + 1) (d ∷ cs) (others-stand from c d cs e) (omega arith))
+-- and the place behind them that of the other columns, joined
+leading-others : (n from : ℕ) (cs : List (List ℕ)) → n < length cs
+    → Lies (leadingPlaces n from cs) n (from + startIn cs n) (length (joined 9 (drop n cs)))
+unfolding leadingPlaces
+leading-others n from [] l = absurd (omega arith)
+leading-others zero from (c ∷ cs) l = lies-first (omega (arith, start-first (c ∷ cs))) refl
+leading-others (suc n) from (c ∷ cs) l =
+    let e : from + length c + 1 + startIn cs n ≡ from + startIn (c ∷ cs) (suc n) = omega (arith, start-later c cs n) in
+    rw (← e) (lies-next (leading-others n (from + length c + 1) cs (omega arith)))
 
 leading-length : (n from : ℕ) (cs : List (List ℕ)) → n < length cs → length (leadingPlaces n from cs) ≡ 2 * n + 2
 unfolding leadingPlaces
@@ -89,34 +90,100 @@ column-length from (c ∷ cs) = let k = column-length (from + length c + 1) cs i
 
 -- ---- the ten places
 
-module _ (s r : List ℕ) (from : ℕ) (cs : List (List ℕ)) (end : ℕ) (e : drop from s ≡ joined 9 cs ++ r) where
-  cuts-eight : length cs ≡ 8 → CutsOut (fieldPlaces from cs end) s cs end
+module _ (from : ℕ) (cs : List (List ℕ)) where
+  lie-eight : length cs ≡ 8 → TenPlaces (fieldPlaces from cs (from + length (joined 9 cs))) from cs
   unfolding fieldPlaces
-  cuts-eight h =
+  lie-eight h =
       let k = column-length from cs in
       rw (eq-eqb (length cs) 8 h)
       (record {
         ten = simp length-append (omega arith);
-        eight = λ i l. field-append (columnPlaces from cs) _ i s (omega arith) ∙ rw (column-leading from cs) (leading-column s r (length cs) from cs e i (omega arith) (omega arith));
+        eight = λ i l. lies-append (columnPlaces from cs) _ (omega arith) (rw (column-leading from cs) (leading-column (length cs) from cs i (omega arith) (omega arith)));
         bare = λ z. drop-at (columnPlaces from cs) _ 16 (omega arith);
         format = λ z. absurd (omega arith);
         samples = λ z. absurd (omega arith);
       })
 
-  cuts-ten : 10 ≤ length cs → CutsOut (fieldPlaces from cs end) s cs end
+  lie-ten : 10 ≤ length cs → TenPlaces (fieldPlaces from cs (from + length (joined 9 cs))) from cs
   unfolding fieldPlaces
-  cuts-ten h =
+  lie-ten h =
       rw (ne-eqb (length cs) 8 (λ z. omega arith))
       (record {
         ten = leading-length 9 from cs (omega arith);
-        eight = λ i l. leading-column s r 9 from cs e i (omega arith) (omega arith);
+        eight = λ i l. leading-column 9 from cs i (omega arith) (omega arith);
         bare = λ z. absurd (omega arith);
-        format = λ z. leading-column s r 9 from cs e 8 (omega arith) (omega arith);
-        samples = λ z. leading-others s r 9 from cs e (omega arith);
+        format = λ z. leading-column 9 from cs 8 (omega arith) (omega arith);
+        samples = λ z. leading-others 9 from cs (omega arith);
       })
 
-  pub cuts-out : (length cs ≡ 8) ⊎ (10 ≤ length cs) → CutsOut (fieldPlaces from cs end) s cs end
-  cuts-out = ⊎-elim cuts-eight cuts-ten
+  pub places-lie : (length cs ≡ 8) ⊎ (10 ≤ length cs) → TenPlaces (fieldPlaces from cs (from + length (joined 9 cs))) from cs
+  places-lie = ⊎-elim lie-eight lie-ten
+
+-- ---- what they cut out
+
+-- place i of a list of starts and lengths, cut out of the buffer
+unfoldable pub fieldOf : List ℕ → ℕ → List ℕ → List ℕ
+fieldOf places i s = cut (rangeAt (getD places (2 * i) 0) (getD places (2 * i + 1) 0)) s
+
+-- the ten places cut these columns out of the buffer: FORMAT and the samples, which stay joined, where there are such
+pub record CutsOut (places : List ℕ) (s : List ℕ) (cs : List (List ℕ)) (end : ℕ) : Type 0 where
+  pub ten : length places ≡ 20
+  pub eight : (i : ℕ) → i < 8 → fieldOf places i s ≡ getD cs i []
+  pub bare : length cs ≡ 8 → drop 16 places ≡ end ∷ 0 ∷ end ∷ 0 ∷ []
+  pub format : 10 ≤ length cs → fieldOf places 8 s ≡ getD cs 8 []
+  pub samples : 10 ≤ length cs → fieldOf places 9 s ≡ joined 9 (drop 9 cs)
+
+lies-cut : (s : List ℕ) {places : List ℕ} {i start size : ℕ} → Lies places i start size → fieldOf places i s ≡ take size (drop start s)
+unfolding fieldOf
+lies-cut s l = rw (l .starts, l .sized) (cut-is _ _ s)
+
+-- columns that stand in a buffer, joined by tabs, from a place on
+module _ (s r : List ℕ) where
+  first-taken : (from : ℕ) (c : List ℕ) (cs : List (List ℕ)) → drop from s ≡ joined 9 (c ∷ cs) ++ r → take (length c) (drop from s) ≡ c
+  first-taken from c [] e = rw (e, joined-one) (take-append-seam c r)
+  first-taken from c (d ∷ cs) e = rw (e, joined-more, append-assoc c) (take-append-seam c _)
+
+  others-stand : (from : ℕ) (c d : List ℕ) (cs : List (List ℕ)) → drop from s ≡ joined 9 (c ∷ d ∷ cs) ++ r → drop (from + length c + 1) s ≡ joined 9 (d ∷ cs) ++ r
+  others-stand from c d cs e = rw (add-assoc, ← drop-drop (length c + 1) from s, e, joined-more, append-assoc c) (drop-append-add c _ 1)
+
+  later-place : (from : ℕ) (c : List ℕ) (cs : List (List ℕ)) (i : ℕ) → from + startIn (c ∷ cs) (suc i) ≡ from + length c + 1 + startIn cs i
+  later-place from c cs i = omega (arith, start-later c cs i)
+
+  first-place : (from : ℕ) (cs : List (List ℕ)) → from + startIn cs 0 ≡ from
+  first-place from cs = omega (arith, start-first cs)
+
+  column-cut : (from : ℕ) (cs : List (List ℕ)) → drop from s ≡ joined 9 cs ++ r → (i : ℕ) → i < length cs
+      → take (length (getD cs i [])) (drop (from + startIn cs i) s) ≡ getD cs i []
+  column-cut from [] e i l = absurd (omega arith)
+  column-cut from (c ∷ cs) e zero l = rw (first-place from (c ∷ cs)) (first-taken from c cs e)
+  column-cut from (c ∷ []) e (suc i) l = absurd (omega arith)
+  column-cut from (c ∷ d ∷ cs) e (suc i) l =
+      rw (later-place from c (d ∷ cs) i) (column-cut (from + length c + 1) (d ∷ cs) (others-stand from c d cs e) i (omega arith))
+
+  others-cut : (n from : ℕ) (cs : List (List ℕ)) → drop from s ≡ joined 9 cs ++ r → n < length cs
+      → take (length (joined 9 (drop n cs))) (drop (from + startIn cs n) s) ≡ joined 9 (drop n cs)
+  others-cut n from [] e l = absurd (omega arith)
+  others-cut zero from (c ∷ cs) e l = rw (first-place from (c ∷ cs), e) (take-append-seam (joined 9 (c ∷ cs)) r)
+  others-cut (suc n) from (c ∷ []) e l = absurd (omega arith)
+  others-cut (suc n) from (c ∷ d ∷ cs) e l =
+      rw (later-place from c (d ∷ cs) n) (others-cut n (from + length c + 1) (d ∷ cs) (others-stand from c d cs e) (omega arith))
+
+  -- the cut follows from where the places lie
+  pub lie-cuts : {places : List ℕ} {from : ℕ} {cs : List (List ℕ)} → (length cs ≡ 8) ⊎ (10 ≤ length cs) → drop from s ≡ joined 9 cs ++ r
+      → TenPlaces places from cs → CutsOut places s cs (from + length (joined 9 cs))
+  lie-cuts {from = from} {cs = cs} n e t =
+      let m : 8 ≤ length cs = ⊎-elim (λ h. omega arith) (λ h. omega arith) n in
+      record {
+        ten = t .ten;
+        eight = λ i l. lies-cut s (t .eight i l) ∙ column-cut from cs e i (omega arith);
+        bare = t .bare;
+        format = λ h. lies-cut s (t .format h) ∙ column-cut from cs e 8 (omega arith);
+        samples = λ h. lies-cut s (t .samples h) ∙ others-cut 9 from cs e (omega arith);
+      }
+
+pub cuts-out : (s r : List ℕ) (from : ℕ) (cs : List (List ℕ)) (end : ℕ) → drop from s ≡ joined 9 cs ++ r → end ≡ from + length (joined 9 cs)
+    → (length cs ≡ 8) ⊎ (10 ≤ length cs) → CutsOut (fieldPlaces from cs end) s cs end
+cuts-out s r from cs end e h n = rw h (lie-cuts s r n e (places-lie from cs n))
 
 -- ---- one
 
@@ -167,5 +234,5 @@ one s at z = by (lineOf (drop at s)) refl
               begin = b;
               only = λ cs f r c. begins-only q c;
               values = rw (read, good-read at t e rest g, j);
-              cuts = rw j (cuts-out s _ at (split 9 t) _ (sym (b .whole)) (g .count));
+              lie = rw j at (places-lie at (split 9 t) (g .count));
             }

@@ -17,13 +17,13 @@ use Rattle.pieces.proofs.PieceLaws.{split-joined, split-free, split-back, joine
 use Rattle.line.specs.Line.{Ending, endingBytes, Line, line, lineOf, columnPlaces, leadingPlaces, fieldPlaces, lineAnswer, readAnswer}
 use Rattle.line.specs.Place.{rangeOf}
 use Rattle.line.specs.Paper.{recordPlaces}
-use Rattle.line.specs.Demands.{fieldOf, Refuses, CutsOut}
+use Rattle.line.specs.Demands.{Refuses}
 use Rattle.line.specs.declared.read.Record.{Record}
 use Rattle.line.specs.declared.place.Name.the-variants as N
 use Rattle.line.proofs.ColumnLaws.{line-whole}
 use Rattle.line.proofs.LineLaws.{read-line}
 use Rattle.line.proofs.Exact.{Good, good-read, read-good}
-use Rattle.line.proofs.One.{column-leading, column-length, zero-within, cuts-out}
+use Rattle.line.proofs.One.{column-leading, column-length, zero-within, cuts-out, fieldOf, CutsOut}
 
 -- ---- the lengths of places
 
@@ -132,7 +132,7 @@ module _ {s : List ℕ} {at : ℕ} {r : Record} (g : Recorded s at r) where
   cuts : CutsOut (recordPlaces r) s (split 9 (g .text)) (at + length (g .text))
   cuts =
       rw (g .places)
-      (cuts-out s (endingBytes (g .ending) ++ g .rest) at (split 9 (g .text)) (at + length (g .text)) (rw (split-joined 9 (g .text)) (sym whole)) (g .good .count))
+      (cuts-out s (endingBytes (g .ending) ++ g .rest) at (split 9 (g .text)) (at + length (g .text)) (rw (split-joined 9 (g .text)) (sym whole)) (rw (split-joined 9 (g .text))) (g .good .count))
 
   eight : 8 ≤ length (split 9 (g .text))
   eight = ⊎-elim (λ h. omega arith) (λ h. omega arith) (g .good .count)

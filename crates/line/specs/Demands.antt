@@ -3,12 +3,11 @@ use Prim.Native.Nat.{ℕ, _+_, _-_, _*_, _<_, _≤_}
 use mathlib.Core.Path.{_≡_}
 use mathlib.Core.Bool.{Bool, true, false}
 use mathlib.Core.Logic.{_⊎_, _↔_}
-use mathlib.Core.List.{List, [], _∷_, _++_}
+use mathlib.Core.List.{List, [], _∷_, _++_, flatten}
 use lib.ListN.{length, getD, take, drop}
 use Rattle.text.specs.Answer.{Answer, says, numberOf, valuesOf}
 use Rattle.text.specs.Bytes.{endsIn}
 use Rattle.text.specs.Utf8.{isUtf8}
-use Rattle.text.specs.Range.{rangeAt, cut}
 use Rattle.pieces.specs.Pieces.{joined}
 use Rattle.pieces.specs.Demands.{Free}
 use Rattle.line.specs.Line.{Ending, nothing, feed, return-feed, endingBytes}
@@ -49,17 +48,23 @@ Exact read = (s : List ℕ) (at : ℕ) → at < length s → Refuses (read s at)
 
 -- ---- one
 
--- place i of a list of starts and lengths, cut out of the buffer
-unfoldable pub fieldOf : List ℕ → ℕ → List ℕ → List ℕ
-fieldOf places i s = cut (rangeAt (getD places (2 * i) 0) (getD places (2 * i + 1) 0)) s
+-- where column i starts: past the columns before it, with a tab behind each
+unfoldable pub startIn : List (List ℕ) → ℕ → ℕ
+startIn cs i = i + length (flatten (take i cs))
 
--- the ten places cut these columns out of the buffer: FORMAT and the samples, which stay joined, where there are such
-pub record CutsOut (places : List ℕ) (s : List ℕ) (cs : List (List ℕ)) (end : ℕ) : Type 0 where
+-- place i of a list of starts and lengths has this start and this length
+pub record Lies (places : List ℕ) (i start size : ℕ) : Type 0 where
+  pub starts : getD places (2 * i) 0 ≡ start
+  pub sized : getD places (2 * i + 1) 0 ≡ size
+
+-- the ten places of columns that start at a place: each column's own start and length, the samples as one;
+-- of eight columns FORMAT and the samples are empty, at the end of the text
+pub record TenPlaces (places : List ℕ) (at : ℕ) (cs : List (List ℕ)) : Type 0 where
   pub ten : length places ≡ 20
-  pub eight : (i : ℕ) → i < 8 → fieldOf places i s ≡ getD cs i []
-  pub bare : length cs ≡ 8 → drop 16 places ≡ end ∷ 0 ∷ end ∷ 0 ∷ []
-  pub format : 10 ≤ length cs → fieldOf places 8 s ≡ getD cs 8 []
-  pub samples : 10 ≤ length cs → fieldOf places 9 s ≡ joined 9 (drop 9 cs)
+  pub eight : (i : ℕ) → i < 8 → Lies places i (at + startIn cs i) (length (getD cs i []))
+  pub bare : length cs ≡ 8 → drop 16 places ≡ (at + length (joined 9 cs)) ∷ 0 ∷ (at + length (joined 9 cs)) ∷ 0 ∷ []
+  pub format : 10 ≤ length cs → Lies places 8 (at + startIn cs 8) (length (getD cs 8 []))
+  pub samples : 10 ≤ length cs → Lies places 9 (at + startIn cs 9) (length (joined 9 (drop 9 cs)))
 
 -- the answer 0 stands for these columns, with this ending and rest, and for no others; the next place is just past the ending
 pub record Stands (s : List ℕ) (at : ℕ) (a : Answer) : Type 0 where
@@ -70,10 +75,69 @@ pub record Stands (s : List ℕ) (at : ℕ) (a : Answer) : Type 0 where
   pub begin : Begins (drop at s) columns ending rest
   pub only : (cs : List (List ℕ)) (e : Ending) (r : List ℕ) → Begins (drop at s) cs e r → (cs ≡ columns) × (e ≡ ending) × (r ≡ rest)
   pub values : valuesOf a ≡ (at + length (joined 9 columns) + length (endingBytes ending)) ∷ places
-  pub cuts : CutsOut places s columns (at + length (joined 9 columns))
+  pub lie : TenPlaces places at columns
 
 unfoldable pub One : Reader → Type 0
 One read = (s : List ℕ) (at : ℕ) → numberOf (read s at) ≡ 0 → Stands s at (read s at)
+
+-- ---- faults
+
+-- free of tab and LF
+pub record Plain (c : List ℕ) : Type 0 where
+  pub no-tab : Free 9 c
+  pub no-feed : Free 10 c
+
+-- columns 1 to 7, and FORMAT, must be ended by a tab
+abbrev pub MustGoOn : ℕ → Type 0
+MustGoOn k = (k ≤ 7) ⊎ (k ≡ 9)
+
+-- INFO and the samples may be the last
+abbrev pub MayEnd : ℕ → Type 0
+MayEnd k = (k ≡ 8) ⊎ (10 ≤ k)
+
+-- column k begins this text and is bad: the number that refuses it, and the bytes through its terminator
+-- 2: empty and ended by a tab; or empty, but for a CR, and ended by LF where it may be the last
+-- 3: ended by LF where it must go on
+-- 4: cut by the end of the input where it must go on, or empty there
+pub data Bad (k : ℕ) : List ℕ → ℕ → ℕ → Type 0 where
+  empty-tabbed : {rest : List ℕ} → Bad k (9 ∷ rest) 2 1
+  empty-fed : {rest : List ℕ} → MayEnd k → Bad k (10 ∷ rest) 2 1
+  empty-returned : {rest : List ℕ} → MayEnd k → Bad k (13 ∷ 10 ∷ rest) 2 2
+  early-fed : (c rest : List ℕ) → MustGoOn k → Plain c → Bad k (c ++ 10 ∷ rest) 3 (length c + 1)
+  early-cut : {c : List ℕ} → MustGoOn k → Plain c → Bad k c 4 (length c)
+  empty-cut : Bad k [] 4 0
+
+-- each column with a tab behind it
+unfoldable pub tabbed : List (List ℕ) → List ℕ
+tabbed [] = []
+tabbed (c ∷ cs) = c ++ 9 ∷ tabbed cs
+
+-- these columns begin the input, none of them empty, each ended by a tab; then something is left
+pub record Behind (s : List ℕ) (cs : List (List ℕ)) (left : List ℕ) : Type 0 where
+  pub full : (i : ℕ) → i < length cs → 0 < length (getD cs i [])
+  pub plains : (i : ℕ) → i < length cs → Plain (getD cs i [])
+  pub whole : tabbed cs ++ left ≡ s
+
+-- no column is bad: as `Begins`, but for UTF-8
+pub record Shaped (s : List ℕ) (cs : List (List ℕ)) (e : Ending) (rest : List ℕ) : Type 0 where
+  pub count : MayEnd (length cs)
+  pub full : (i : ℕ) → i < length cs → 0 < length (getD cs i [])
+  pub plains : (i : ℕ) → i < length cs → Plain (getD cs i [])
+  pub whole : joined 9 cs ++ (endingBytes e ++ rest) ≡ s
+  pub ended : Ended (joined 9 cs) e rest
+
+-- what refuses the line at a place, and where to go on: its first bad column, and past that column's terminator;
+-- or, where no column is bad, one that is not UTF-8, and past the line
+pub data Faulty (s : List ℕ) (at : ℕ) : ℕ → ℕ → Type 0 where
+  bad-column : {cs : List (List ℕ)} {left : List ℕ} {number bytes : ℕ} → Behind (drop at s) cs left → Bad (1 + length cs) left number bytes
+      → Faulty s at number (at + length (tabbed cs) + bytes)
+  not-text : {cs : List (List ℕ)} {e : Ending} {rest : List ℕ} {i : ℕ} → Shaped (drop at s) cs e rest → i < length cs → isUtf8 (getD cs i []) ≡ false
+      → Faulty s at 5 (at + length (joined 9 cs) + length (endingBytes e))
+
+-- from a place in the input it answers a number from 2 to 5, with a next place and nothing more, exactly when the line is so faulty
+unfoldable pub Faults : Reader → Type 0
+Faults read = (s : List ℕ) (at : ℕ) → at < length s → (number next : ℕ)
+    → ((2 ≤ number) × (number ≤ 5) × (read s at ≡ says number (next ∷ []))) ↔ Faulty s at number next
 
 -- ---- moves on
 
@@ -120,17 +184,30 @@ pub data GoesOn (s : List ℕ) (at : ℕ) : ℕ → ℕ → Type 0 where
   feed-3 : {feed : ℕ} → FirstFeed s at feed → GoesOn s at 3 (feed + 1)
   end-4 : NoFeed s at → GoesOn s at 4 (length s)
 
--- the next place is the answer's first value, is as its number says, and lies further on for every number but 1 and 6
+-- the next place is the answer's first value, and its only one where the number is not 0, is as its number says, and lies further on for every number but 1 and 6
 pub record Moved (s : List ℕ) (at : ℕ) (a : Answer) : Type 0 where
   pub next : ℕ
   pub others : List ℕ
   pub values : valuesOf a ≡ next ∷ others
+  pub alone : (numberOf a ≡ 0 → ⊥) → others ≡ []
   pub goes : GoesOn s at (numberOf a) next
   pub further : (numberOf a ≡ 1 → ⊥) → (numberOf a ≡ 6 → ⊥) → at < next
   pub within : (numberOf a ≡ 6 → ⊥) → next ≤ length s
 
 unfoldable pub MovesOn : Reader → Type 0
 MovesOn read = (s : List ℕ) (at : ℕ) → Moved s at (read s at)
+
+-- ---- all of it
+
+pub record Meets (read : Reader) : Type 0 where
+  pub exact : Exact read
+  pub one : One read
+  pub faults : Faults read
+  pub moves-on : MovesOn read
+
+-- two readers that meet these four give one answer, with all its values, from every place of every input
+unfoldable pub OneReader : Type 0
+OneReader = (read other : Reader) → Meets read → Meets other → (s : List ℕ) (at : ℕ) → read s at ≡ other s at
 
 -- ---- window
 
