@@ -1,5 +1,6 @@
 pub mod Pick
 pub mod Answer
+pub mod Outcome
 pub mod Place
 pub mod Range
 pub mod Same
@@ -10,5 +11,6 @@ pub mod Over
 pub mod Verdict
 pub mod Utf8
 pub mod Space
+pub mod Promises
 pub mod Inner
 pub mod Demands

@@ -1,10 +1,9 @@
 // Equal texts.
-ghost use mathlib.Core.Path.{_≡_};
-ghost use Rattle.text.specs.Same.{same};
+ghost use Rattle.text.specs.Promises.{Compares};
 
 // Whether two texts are the same bytes.
 pub fn same_bytes(s: &[u8], t: &[u8]) -> bool
-    ensures { λ r. ⌜ r ≡ same (now (s .entry)) (now (t .entry)) ⌝ }
+    ensures { λ r. ⌜ Compares (now (s .entry)) (now (t .entry)) r ⌝ }
 {
     if s.len() != t.len() {
         return false;

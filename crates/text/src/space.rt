@@ -5,8 +5,8 @@ use crate::utf8::check_utf8;
 ghost use mathlib.Core.Path.{_≡_};
 ghost use Prim.Native.Nat.{_+_, _≤_, _<_};
 ghost use lib.ListN.{length, take, drop};
-ghost use Rattle.text.specs.Space.{codePoint, isSpace, spaceAnswer};
-ghost use Rattle.text.specs.Paper.{spacePaper};
+ghost use Rattle.text.specs.Space.{codePoint, isSpace};
+ghost use Rattle.text.specs.Promises.{FindsSpace};
 
 // What a search for white space finds.
 pub enum Space {
@@ -67,7 +67,7 @@ fn is_space(p: u32) -> bool
 
 // Looks for white space, character by character. Where one is found, the rest must still be UTF-8.
 pub fn find_space(s: &[u8]) -> Space
-    ensures { λ r. ⌜ spacePaper r ≡ spaceAnswer (now (s .entry)) ⌝ }
+    ensures { λ r. ⌜ FindsSpace (now (s .entry)) r ⌝ }
 {
     let mut i = 0;
     while i < s.len() {

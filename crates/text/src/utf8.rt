@@ -5,8 +5,7 @@ ghost use Prim.Native.Nat.{_+_, _<_, _≤_};
 ghost use lib.ListN.{length, drop};
 ghost use lib.Dec.{ltb};
 ghost use Rattle.text.specs.Pick.{within};
-ghost use Rattle.text.specs.Utf8.{utf8Answer};
-ghost use Rattle.text.specs.Paper.{utf8Paper};
+ghost use Rattle.text.specs.Promises.{ChecksUtf8};
 ghost use Rattle.text.specs.Inner.{Asks, CharAt, RunAt, ascii};
 
 // What a check of UTF-8 finds.
@@ -146,7 +145,7 @@ fn run_size(s: &[u8], at: usize) -> usize
 
 // Judges whether bytes are UTF-8, run by run.
 pub fn check_utf8(s: &[u8]) -> Utf8
-    ensures { λ r. ⌜ utf8Paper r ≡ utf8Answer (now (s .entry)) ⌝ }
+    ensures { λ r. ⌜ ChecksUtf8 (now (s .entry)) r ⌝ }
 {
     let mut i = 0;
     while i < s.len() {
