@@ -27,8 +27,8 @@ unfolding digitsValue allDigits isDigit worth
 zero-first b s = simp (zero-mul, zero-add)
 
 pub passes-zeros : PassesZeros valueOf
-unfolding PassesZeros valueOf
-passes-zeros b s h = rw (ne-eqb b 43 h) (zero-first b s)
+unfolding valueOf
+passes-zeros = record { bare = λ b s h. rw (ne-eqb b 43 h) (zero-first b s); signed = zero-first }
 
 pub reads-back : ReadsBack shortest valueOf
 reads-back n h = digits-value (shortest n) (shortest-plain n .spelled) h

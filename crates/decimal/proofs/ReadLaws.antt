@@ -12,7 +12,8 @@ use lib.Dec.{leb, lit<}
 use borrow.Author.Tests.{le-leb, lt-leb, eq-eqb, ne-eqb}
 use Rattle.text.specs.Pick.{pick}
 use Rattle.text.proofs.Lists.{here}
-use Rattle.decimal.specs.Decimal.{isDigit, allDigits, worth, digitsValue, valueOf, valueAnswer, digitsAnswer, decimalAnswer}
+use Rattle.decimal.specs.Decimal.{isDigit, allDigits, worth, digitsValue, valueOf, valueAnswer, decimalAnswer}
+use Rattle.decimal.specs.Inner.{digitsAnswer}
 use Rattle.decimal.specs.Paper.{numberPaper}
 use Rattle.decimal.specs.declared.read.Number.{Number}
 use Rattle.decimal.specs.declared.read.Number.the-variants.{Value, Bad}

@@ -38,8 +38,5 @@ unfoldable pub valueAnswer : Option ℕ → Answer
 valueAnswer (some n) = says 0 (n ∷ [])
 valueAnswer none = says 12 []
 
-unfoldable pub digitsAnswer : List ℕ → Answer
-digitsAnswer s = valueAnswer (digitsValue s)
-
 unfoldable pub decimalAnswer : List ℕ → Answer
 decimalAnswer s = valueAnswer (valueOf s)

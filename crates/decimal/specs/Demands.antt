@@ -28,9 +28,10 @@ pub record Plain (s : List ℕ) (n : ℕ) : Type 0 where
 unfoldable pub ReadsDecimals : (List ℕ → Option ℕ) → Type 0
 ReadsDecimals read = (t : List ℕ) (n : ℕ) → (read t ≡ some n) ↔ Decimal t n
 
--- a leading zero changes nothing, so no number of them does
-unfoldable pub PassesZeros : (List ℕ → Option ℕ) → Type 0
-PassesZeros read = (b : ℕ) (s : List ℕ) → (b ≡ 43 → ⊥) → read (48 ∷ b ∷ s) ≡ read (b ∷ s)
+-- a leading zero changes nothing, neither at the start nor behind '+', so no number of them does
+pub record PassesZeros (read : List ℕ → Option ℕ) : Type 0 where
+  pub bare : (b : ℕ) (s : List ℕ) → (b ≡ 43 → ⊥) → read (48 ∷ b ∷ s) ≡ read (b ∷ s)
+  pub signed : (b : ℕ) (s : List ℕ) → read (43 ∷ 48 ∷ b ∷ s) ≡ read (43 ∷ b ∷ s)
 
 -- what is printed reads back as the number
 abbrev pub ReadsBack : (ℕ → List ℕ) → (List ℕ → Option ℕ) → Type 0

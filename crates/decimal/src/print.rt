@@ -6,10 +6,11 @@ ghost use Prim.Native.Nat.{_≤_, _+_};
 ghost use lib.ListN.{length};
 ghost use Rattle.text.specs.Over.{over, Writes};
 ghost use Rattle.decimal.specs.Shortest.{shortest};
+ghost use Rattle.decimal.specs.Promises.{CountsDigits};
 
 // How many digits a number has.
 pub fn decimal_len(n: u64) -> usize
-    ensures { λ r. ⌜ r ≡ length (shortest n) ⌝ }
+    ensures { λ r. ⌜ CountsDigits n r ⌝ }
 {
     let mut k = 1;
     let mut m = n;

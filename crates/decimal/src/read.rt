@@ -2,8 +2,9 @@
 ghost use mathlib.Core.Path.{_≡_};
 ghost use Prim.Native.Nat.{_≤_};
 ghost use lib.ListN.{length, drop};
-ghost use Rattle.decimal.specs.Decimal.{decimalAnswer, digitsAnswer};
 ghost use Rattle.decimal.specs.Paper.{numberPaper};
+ghost use Rattle.decimal.specs.Promises.{ReadsNumber};
+ghost use Rattle.decimal.specs.Inner.{digitsAnswer};
 
 // What a decimal text is worth, or that it is none.
 pub enum Number {
@@ -58,7 +59,7 @@ fn digits_from(s: &[u8], from: usize) -> Number
 
 // An optional plus sign, and one or more digits, worth at most MOST.
 pub fn read_decimal(s: &[u8]) -> Number
-    ensures { λ r. ⌜ numberPaper r ≡ decimalAnswer (now (s .entry)) ⌝ }
+    ensures { λ r. ⌜ ReadsNumber (now (s .entry)) r ⌝ }
 {
     if s.len() == 0 {
         return Number::Bad;
