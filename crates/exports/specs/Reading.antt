@@ -5,7 +5,8 @@ use mathlib.Core.Path.{_≡_}
 use mathlib.Core.List.{List}
 use Rattle.text.specs.Answer.{Answer}
 use Rattle.text.specs.Over.{laid}
-use Rattle.genotype.specs.Reading.{readingOf, listOf, numbersOf, missingOf, phasedOf}
+use Rattle.genotype.specs.Reading.{readingOf, listOf}
+use Rattle.genotype.specs.Row.{numbersOf, missingOf, phasedOf}
 use Rattle.genotype.specs.Answers.{slicesAnswer, checkedSlices}
 use Rattle.genotype.specs.declared.allele.Allele.{Allele}
 use Rattle.exports.specs.Told.{Tells, leftBy}

@@ -3,7 +3,7 @@ use mathlib.Core.Path.{_≡_, refl}
 use mathlib.Core.List.{List, [], _∷_}
 use lib.ListN.{length, length-map}
 use Rattle.text.specs.Pick.{oneIf}
-use Rattle.genotype.specs.Reading.{numbersOf, missingOf, phasedOf}
+use Rattle.genotype.specs.Row.{numbersOf, missingOf, phasedOf}
 use Rattle.genotype.specs.declared.allele.Allele.{Allele}
 
 pub numbersOf-none : numbersOf [] ≡ []

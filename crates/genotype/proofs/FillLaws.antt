@@ -12,7 +12,8 @@ use lib.Seq.{sets}
 use Rattle.text.specs.Over.{over}
 use Rattle.text.proofs.Lists.{sets-over}
 use Rattle.text.specs.Pick.{oneIf}
-use Rattle.genotype.specs.Reading.{readingOf, stepAnswer, listOf, ListMeant, numbersOf, missingOf, phasedOf}
+use Rattle.genotype.specs.Reading.{readingOf, stepAnswer, listOf, ListMeant}
+use Rattle.genotype.specs.Row.{numbersOf, missingOf, phasedOf}
 use Rattle.genotype.specs.Paper.{stepPaper}
 use Rattle.genotype.specs.declared.allele.Allele.{Allele}
 use Rattle.genotype.specs.declared.step.Step.{Step}

@@ -8,6 +8,7 @@ pub mod AboveLaws
 pub mod AnswerLaws
 pub mod ReadLaws
 pub mod ColumnLaws
+pub mod RowLaws
 pub mod Determined
 pub mod PhasedLaws
 pub mod CutLaws
@@ -16,4 +17,5 @@ pub mod Exact
 pub mod Impostors
 pub mod Nearest
 pub mod ReaderLaws
+pub mod Slices
 pub mod CaseLaws

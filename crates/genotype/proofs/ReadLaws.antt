@@ -11,7 +11,8 @@ use lib.ListN.{length}
 use Rattle.text.specs.Answer.{Answer, says, numberOf}
 use Rattle.text.specs.Over.{over}
 use Rattle.text.proofs.CopyLaws.{laid-refused}
-use Rattle.genotype.specs.Reading.{Reading, list, bad, empty, readingOf, listOf, ListMeant, numbersOf, missingOf, phasedOf}
+use Rattle.genotype.specs.Reading.{Reading, list, bad, empty, readingOf, listOf, ListMeant}
+use Rattle.genotype.specs.Row.{numbersOf, missingOf, phasedOf}
 use Rattle.genotype.specs.Answers.{readAnswer, firstAbove, aboveAnswer, checkedAnswer, rowAnswer, Reads}
 use Rattle.genotype.specs.Paper.{readPaper}
 use Rattle.genotype.specs.declared.allele.Allele.{Allele}

@@ -11,7 +11,8 @@ use Rattle.text.specs.Answer.{Answer, says}
 use Rattle.text.specs.Over.{laid, roomFor}
 use Rattle.text.specs.First.{firstWhere}
 use Rattle.lists.specs.AlternateBases.{altCount}
-use Rattle.genotype.specs.Reading.{Reading, list, bad, empty, readingOf, listOf, numbersOf, missingOf, phasedOf}
+use Rattle.genotype.specs.Reading.{Reading, list, bad, empty, readingOf, listOf}
+use Rattle.genotype.specs.Row.{numbersOf, missingOf, phasedOf}
 use Rattle.genotype.specs.Paper.{readPaper}
 use Rattle.genotype.specs.declared.allele.Allele.{Allele}
 use Rattle.genotype.specs.declared.read.Read.{Read}

@@ -8,9 +8,12 @@ use lib.ListN.{length}
 use Rattle.text.specs.Answer.{Answer, says, numberOf}
 use Rattle.text.specs.Over.{over}
 use Rattle.genotype.specs.Reading.{readingOf}
-use Rattle.genotype.specs.Answers.{readAnswer, rowRead}
+use Rattle.genotype.specs.Row.{rowOf}
+use Rattle.genotype.specs.Paper.{readPaper}
+use Rattle.genotype.specs.Answers.{readAnswer, rowRead, Parallel, ReadsText}
 use Rattle.genotype.specs.Means.{Means}
 use Rattle.genotype.specs.declared.allele.Allele.{Allele}
+use Rattle.genotype.specs.declared.read.Read.{Read}
 
 -- a reader is given a text and a row, and answers on paper and leaves a row
 pub record Outcome : Type 0 where
@@ -47,3 +50,10 @@ Exact read = (t : List ℕ) (row : List Allele) → ((as′ : List Allele) → M
 -- a refusal leaves the row as it was
 unfoldable pub Untouched : Reader → Type 0
 Untouched read = (t : List ℕ) (row : List Allele) → (numberOf (read t row .answer) ≡ 0 → ⊥) → read t row .row ≡ row
+
+-- ---- the reader over slices
+
+-- given slices of one length, `read_genotype` answers as the reader does and leaves slices that stand for the row that it leaves
+unfoldable pub SlicesReader : Type 0
+SlicesReader = (t n m p : List ℕ) (r : Read) (n′ m′ p′ : List ℕ) → Parallel n m p → ReadsText t n m p r n′ m′ p′
+    → (readPaper r ≡ reader t (rowOf n m p) .answer) × (rowOf n′ m′ p′ ≡ reader t (rowOf n m p) .row)

@@ -1,4 +1,5 @@
 pub mod Reading
+pub mod Row
 pub mod Paper
 pub mod Answers
 pub mod Inner

@@ -94,17 +94,6 @@ listOf empty = []
 pub record ListMeant (t : List ℕ) : Type 0 where
   pub is : readingOf t ≡ list (listOf (readingOf t))
 
--- ---- a list as three lists of numbers
-
-unfoldable pub numbersOf : List Allele → List ℕ
-numbersOf as′ = map (λ (a : Allele). a .number) as′
-
-unfoldable pub missingOf : List Allele → List ℕ
-missingOf as′ = map (λ (a : Allele). oneIf (a .missing)) as′
-
-unfoldable pub phasedOf : List Allele → List ℕ
-phasedOf as′ = map (λ (a : Allele). oneIf (a .phased)) as′
-
 -- ---- one step
 
 -- the next place, and the allele; or 12

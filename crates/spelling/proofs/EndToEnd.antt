@@ -9,7 +9,8 @@ use lib.ListN.{length, getD, take, drop}
 use Rattle.text.specs.Answer.{says, numberOf}
 use Rattle.text.specs.Over.{over}
 use Rattle.text.proofs.Lists.{take-over}
-use Rattle.genotype.specs.Reading.{list, readingOf, numbersOf, missingOf, phasedOf}
+use Rattle.genotype.specs.Reading.{list, readingOf}
+use Rattle.genotype.specs.Row.{numbersOf, missingOf, phasedOf}
 use Rattle.genotype.specs.Answers.{ReadsText, Parallel}
 use Rattle.genotype.specs.declared.allele.Allele.{Allele}
 use Rattle.genotype.specs.declared.read.Read.{Read}
@@ -17,15 +18,16 @@ use Rattle.genotype.proofs.MeansLaws.{reads-means}
 use Rattle.genotype.proofs.ColumnLaws.{numbersOf-length, missingOf-length, phasedOf-length}
 use Rattle.genotype.proofs.AnswerLaws.{Holds, reads-list}
 use Rattle.spelling.specs.Spelling.{from44}
-use Rattle.spelling.specs.Row.{alleleOf, rowOf, Small}
+use Rattle.spelling.specs.Write.{Small}
+use Rattle.genotype.specs.Row.{alleleOf, rowOf}
 use Rattle.spelling.specs.Paper.{writePaper}
 use Rattle.spelling.specs.Write.{listAnswer, rowAnswer, WritesRow, SmallWhereDone}
 use Rattle.spelling.specs.Demands.{writer, Fitting, RoundTrip}
 use Rattle.spelling.specs.EndToEnd.{ReadBack}
 use Rattle.spelling.specs.declared.write.Write.the-variants.{Done}
-use Rattle.spelling.proofs.RowLaws.{row-length}
+use Rattle.genotype.proofs.RowLaws.{row-length}
 use Rattle.spelling.proofs.WriteLaws.{row-list, row-parallel}
-use Rattle.spelling.proofs.Slices.{row-append}
+use Rattle.genotype.proofs.RowLaws.{row-append}
 use Rattle.spelling.proofs.RoundTrip.{round-trip}
 
 -- ---- the list of three slices

@@ -16,7 +16,8 @@ use Rattle.genotype.proofs.PhasedLaws.{phased-none}
 use Rattle.spelling.specs.Spelling.{shaped}
 use Rattle.spelling.specs.Permitted.{Permitted, TheShortest}
 use Rattle.spelling.specs.Demands.{Writer, writer, Exact, WritesShortest}
-use Rattle.spelling.proofs.SpellLaws.{sound-there, body-number, list-none, list-bare, unsound-none, unsound-more, spell-sound}
+use Rattle.genotype.proofs.RowLaws.{sound-there, unsound-none, unsound-more}
+use Rattle.spelling.proofs.SpellLaws.{body-number, list-none, list-bare, spell-sound}
 use Rattle.spelling.proofs.Shortest.{spelled-shortest}
 use Rattle.spelling.proofs.Exact.{exact, writes-shortest}
 

@@ -11,10 +11,10 @@ use Rattle.text.proofs.Lists.{over-nil, over-append, overAt-nil, overAt-append,
 use Rattle.genotype.specs.declared.allele.Allele.{Allele}
 use Rattle.genotype.specs.Answers.{Parallel}
 use Rattle.spelling.specs.Spelling.{alleleText, listText}
-use Rattle.spelling.specs.Row.{alleleAt, rowOf}
+use Rattle.genotype.specs.Row.{alleleAt, rowOf}
 use Rattle.spelling.specs.Put.{PutsAt}
 use Rattle.spelling.proofs.SpellLaws.{list-none, list-more}
-use Rattle.spelling.proofs.RowLaws.{row-here, row-past}
+use Rattle.genotype.proofs.RowLaws.{row-here, row-past}
 use Rattle.spelling.proofs.PutLaws.{put-place, put-bytes}
 
 pub record Laying (n m p : List ℕ) (bare : Bool) (l₀ l : List ℕ) (at : ℕ) (lead : Bool) (k : ℕ) : Type 0 where

@@ -14,12 +14,14 @@ use Rattle.text.specs.Pick.{pick}
 use Rattle.genotype.specs.Means.{allPhased}
 use Rattle.genotype.specs.declared.allele.Allele.{Allele}
 use Rattle.genotype.proofs.PhasedLaws.{phased-none, phased-more}
-use Rattle.spelling.specs.Spelling.{bodyText, alleleText, listText, isSound, firstUnsound, text, bad, phasing, empty, shaped, spell}
+use Rattle.spelling.specs.Spelling.{bodyText, alleleText, listText, text, bad, phasing, empty, shaped, spell}
+use Rattle.genotype.specs.Row.{isSound, firstUnsound}
 use Rattle.spelling.specs.Tally.{begun, shortened, counted, tallied, tallyFrom, tallyOf, shapeOf, planOf}
 use Rattle.spelling.specs.declared.tally.Tally.{Tally}
 use Rattle.spelling.specs.declared.tally.Plan.{Plan}
 use Rattle.spelling.specs.declared.tally.Plan.the-variants as P
-use Rattle.spelling.proofs.SpellLaws.{bare-text, marked-length, list-none, list-length, marked-longer, unsound-none, unsound-more, unsound-here, sound-parts, spell-none, spell-sound, spell-bad}
+use Rattle.genotype.proofs.RowLaws.{unsound-none, unsound-more, unsound-here, sound-parts}
+use Rattle.spelling.proofs.SpellLaws.{bare-text, marked-length, list-none, list-length, marked-longer, spell-none, spell-sound, spell-bad}
 use Rattle.spelling.proofs.TallyLaws.{begin-is, short-not, short-fits, firstly, stopped, tallied-stopped, tallied-unsound, tallied-sound, counted-first, counted-later, plan-empty, plan-sound, plan-stopped}
 
 -- ---- a list whose missing alleles have the number 0

@@ -9,9 +9,11 @@ use native.Mathlib.Omega.{arith}
 use lib.ListN.{length}
 use Rattle.genotype.specs.Means.{allPhased}
 use Rattle.genotype.specs.declared.allele.Allele.{Allele}
-use Rattle.spelling.specs.Spelling.{listText, firstUnsound, text, shaped, spell}
+use Rattle.spelling.specs.Spelling.{listText, text, shaped, spell}
+use Rattle.genotype.specs.Row.{firstUnsound}
 use Rattle.spelling.specs.Permitted.{Permitted, bare, marked, TheShortest}
-use Rattle.spelling.proofs.SpellLaws.{list-bare, list-marked, marked-longer, unsound-more, sound-parts, spell-none, spell-sound, spell-bad}
+use Rattle.genotype.proofs.RowLaws.{unsound-more, sound-parts}
+use Rattle.spelling.proofs.SpellLaws.{list-bare, list-marked, marked-longer, spell-none, spell-sound, spell-bad}
 use Rattle.spelling.proofs.PermittedLaws.{plainly-only, plainly-has, plainly-sound, following-only, following-has, following-sound}
 
 -- ---- a permitted spelling is one of two texts

@@ -7,26 +7,18 @@ use mathlib.Core.Option.{some, none}
 use native.Mathlib.Omega.{arith}
 use native.Mathlib.Numerals.{add-one}
 use lib.ListN.{length, length-append}
-use lib.Dec.{leb, eqb}
+use lib.Dec.{leb}
 use borrow.Author.Tests.{lt-ltb, le-ltb, eq-eqb, ne-eqb}
-use Rattle.text.proofs.FirstLaws.{where-none, where-here, where-later}
 use Rattle.decimal.specs.Shortest.{shortest}
 use Rattle.decimal.proofs.Shortest.{length-20}
 use Rattle.genotype.specs.Means.{markByte, allPhased}
 use Rattle.genotype.specs.declared.allele.Allele.{Allele}
-use Rattle.spelling.specs.Spelling.{bodyText, alleleText, listText, isSound, firstUnsound, from44, bad, empty, shaped, judged, spell}
+use Rattle.spelling.specs.Spelling.{bodyText, alleleText, listText, from44, bad, empty, shaped, judged, spell}
+use Rattle.genotype.specs.Row.{firstUnsound}
 
 -- ---- one allele
 
 module _ (a : Allele) where
-  pub sound-missing : a .missing ≡ true → eqb (a .number) 0 ≡ isSound a
-  unfolding isSound
-  sound-missing e = rw e
-
-  pub sound-there : a .missing ≡ false → true ≡ isSound a
-  unfolding isSound
-  sound-there e = rw e
-
   pub body-dot : a .missing ≡ true → bodyText a ≡ 46 ∷ []
   unfolding bodyText
   body-dot e = rw e
@@ -86,30 +78,6 @@ marked-longer a as′ =
 
 -- ---- which lists have a text
 
-pub unsound-none : (k : ℕ) → firstUnsound k [] ≡ none
-unfolding firstUnsound
-unsound-none k = where-none _ k
-
-module _ (k : ℕ) (a : Allele) (as′ : List Allele) where
-  pub unsound-more : isSound a ≡ true → firstUnsound k (a ∷ as′) ≡ firstUnsound (k + 1) as′
-  unfolding firstUnsound
-  unsound-more h = where-later _ k a as′ (rw h)
-
-  pub unsound-here : isSound a ≡ false → firstUnsound k (a ∷ as′) ≡ some k
-  unfolding firstUnsound
-  unsound-here h = where-here _ k a as′ (rw h)
-
-  -- in a list without an unsound allele the first is sound, and the others are such a list
-  pub sound-parts : firstUnsound k (a ∷ as′) ≡ none → (isSound a ≡ true) × (firstUnsound (k + 1) as′ ≡ none)
-  sound-parts e = by (isSound a) refl
-    where
-      by : (t : Bool) → isSound a ≡ t → (isSound a ≡ true) × (firstUnsound (k + 1) as′ ≡ none)
-      by true h = (h, sym (unsound-more h) ∙ e)
-      by false h =
-          let s = sym (unsound-here h) ∙ e in
-          let z : _≡_ {A = ℕ} 0 1 = cc in
-          absurd (omega arith)
-
 pub spell-none : (late : Bool) → spell late [] ≡ empty
 unfolding spell
 spell-none late = refl
@@ -138,4 +106,4 @@ module _ (major minor : ℕ) where
   unfolding from44
   late-not h e = rw (le-ltb _ _ h, ne-eqb _ _ e)
 
-pub ruleset laws = (sound-missing, sound-there, dot-length, number-length, number-20, late-major, late-minor, late-not)
+pub ruleset laws = (dot-length, number-length, number-20, late-major, late-minor, late-not)

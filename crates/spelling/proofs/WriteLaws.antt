@@ -19,7 +19,8 @@ use Rattle.genotype.proofs.AnswerLaws.{row-even, row-uneven-nm, row-uneven-np, 
 use Rattle.genotype.specs.Answers.{Parallel}
 use Rattle.spelling.specs.Spelling.{listText, from44, Spelled, bad, phasing, empty, spell}
 use Rattle.spelling.specs.Tally.{tallyOf, planOf}
-use Rattle.spelling.specs.Row.{rowOf, Small}
+use Rattle.spelling.specs.Write.{Small}
+use Rattle.genotype.specs.Row.{rowOf}
 use Rattle.spelling.specs.Paper.{writePaper}
 use Rattle.spelling.specs.Write.{spelledAnswer, textOf, WritesList, listAnswer, rowAnswer, WritesRow, SmallWhereDone}
 use Rattle.spelling.specs.declared.tally.Tally.{Tally}
@@ -27,7 +28,7 @@ use Rattle.spelling.specs.declared.tally.Plan.{Plan}
 use Rattle.spelling.specs.declared.tally.Plan.the-variants as P
 use Rattle.spelling.specs.declared.write.Write.{Write}
 use Rattle.spelling.specs.declared.write.Write.the-variants as W
-use Rattle.spelling.proofs.RowLaws.{row-length}
+use Rattle.genotype.proofs.RowLaws.{row-length}
 use Rattle.spelling.proofs.PlanLaws.{Spells, Overflows, Told, plan-told}
 
 -- ---- at the start of an output

@@ -9,10 +9,14 @@ use lib.ListN.{length, getD, take, drop}
 use Rattle.text.specs.Answer.{Answer, says, numberOf}
 use Rattle.text.specs.Over.{overAt}
 use Rattle.genotype.specs.Means.{Means}
+use Rattle.genotype.specs.Row.{rowOf}
+use Rattle.genotype.specs.Answers.{Parallel}
 use Rattle.genotype.specs.declared.allele.Allele.{Allele}
 use Rattle.spelling.specs.Spelling.{from44}
 use Rattle.spelling.specs.Permitted.{Permitted, TheShortest}
-use Rattle.spelling.specs.Write.{listAnswer, listLeft}
+use Rattle.spelling.specs.Paper.{writePaper}
+use Rattle.spelling.specs.Write.{listAnswer, listLeft, WritesRow}
+use Rattle.spelling.specs.declared.write.Write.{Write}
 
 -- a writer is given a file format, a list, an output and a place in it, and answers on paper and leaves an output
 pub record Outcome : Type 0 where
@@ -64,3 +68,10 @@ pub record Fitting (as′ : List Allele) : Type 0 where
 unfoldable pub RoundTrip : Writer → Type 0
 RoundTrip write = (major minor : ℕ) (as′ : List Allele) (out : List ℕ) (at n : ℕ) → Fitting as′ → write major minor as′ out at .answer ≡ says 0 (n ∷ [])
     → Means (take n (drop at (write major minor as′ out at .output))) as′
+
+-- ---- the writer over slices
+
+-- given slices of one length, `write_genotype` answers and leaves what the writer does with the list that they stand for
+unfoldable pub SlicesWriter : Type 0
+SlicesWriter = (n m p : List ℕ) (major minor : ℕ) (out : List ℕ) (at : ℕ) (r : Write) (out′ : List ℕ) → Parallel n m p → WritesRow n m p major minor out at r out′
+    → (writePaper r ≡ writer major minor (rowOf n m p) out at .answer) × (out′ ≡ writer major minor (rowOf n m p) out at .output)

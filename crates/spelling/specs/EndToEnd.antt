@@ -6,7 +6,7 @@ use lib.ListN.{length, take}
 use Rattle.text.specs.Answer.{says}
 use Rattle.genotype.specs.Paper.{readPaper}
 use Rattle.genotype.specs.declared.read.Read.{Read}
-use Rattle.spelling.specs.Row.{rowOf}
+use Rattle.genotype.specs.Row.{rowOf}
 
 -- the reader's answer r is 0 and the length of the list written, and the slices it leaves begin with that list, every phasing too
 pub record ReadBack (n m p : List ℕ) (r : Read) (n′ m′ p′ : List ℕ) : Type 0 where

@@ -1,7 +1,6 @@
 pub mod Spelling
 pub mod Permitted
 pub mod Tally
-pub mod Row
 pub mod Put
 pub mod Paper
 pub mod Write

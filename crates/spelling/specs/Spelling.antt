@@ -1,13 +1,13 @@
 -- How a list of alleles is spelled, or why it has no spelling (docs/RULES.md, "Genotypes"). Assumes nothing.
-use Prim.Native.Nat.{ℕ, _+_}
-use mathlib.Core.Bool.{Bool, true, false, not, _&&_, _||_, Bool·beq}
+use Prim.Native.Nat.{ℕ}
+use mathlib.Core.Bool.{Bool, true, false, _&&_, _||_, Bool·beq}
 use mathlib.Core.List.{List, [], _∷_, _++_}
 use mathlib.Core.Option.{Option, some, none}
 use lib.Dec.{leb, ltb, eqb}
 use Rattle.text.specs.Pick.{pick}
-use Rattle.text.specs.First.{firstWhere}
 use Rattle.decimal.specs.Shortest.{shortest}
 use Rattle.genotype.specs.Means.{markByte, allPhased}
+use Rattle.genotype.specs.Row.{firstUnsound}
 use Rattle.genotype.specs.declared.allele.Allele.{Allele}
 
 -- ---- the text
@@ -27,14 +27,6 @@ listText bare [] = []
 listText bare (a ∷ as′) = alleleText bare a ++ listText false as′
 
 -- ---- which lists have a spelling
-
--- a missing allele's number is 0
-unfoldable pub isSound : Allele → Bool
-isSound a = not (a .missing) || eqb (a .number) 0
-
--- the index of the first that is not, the first of these having index k
-unfoldable pub firstUnsound : ℕ → List Allele → Option ℕ
-firstUnsound k as′ = firstWhere (λ (a : Allele). not (isSound a)) k as′
 
 -- a file format of 4.4 or later: major compared first, then minor
 unfoldable pub from44 : ℕ → ℕ → Bool

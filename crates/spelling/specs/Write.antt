@@ -1,16 +1,16 @@
 -- What the writer answers, and what it leaves in the output (docs/RULES.md, "Genotypes"). Assumes nothing.
-use Prim.Native.Nat.{ℕ}
+use Prim.Native.Nat.{ℕ, _<_, _≤_}
 use mathlib.Core.Path.{_≡_}
 use mathlib.Core.Bool.{Bool}
 use mathlib.Core.List.{List, [], _∷_}
-use lib.ListN.{drop}
+use lib.ListN.{length, getD, drop}
 use Rattle.text.specs.Answer.{Answer, says, numberOf}
 use Rattle.text.specs.Over.{roomAnswer, laid, laidAt}
 use Rattle.text.specs.Place.{placed}
 use Rattle.genotype.specs.Answers as G
+use Rattle.genotype.specs.Row.{rowOf}
 use Rattle.genotype.specs.declared.allele.Allele.{Allele}
 use Rattle.spelling.specs.Spelling.{from44, Spelled, text, bad, phasing, empty, spell}
-use Rattle.spelling.specs.Row.{rowOf, Small}
 use Rattle.spelling.specs.Paper.{writePaper}
 use Rattle.spelling.specs.declared.write.Write.{Write}
 
@@ -53,6 +53,10 @@ rowLeft n m p late out at = laidAt (rowAnswer n m p late out at) at (textOf (spe
 pub record WritesRow (n m p : List ℕ) (major minor : ℕ) (out : List ℕ) (at : ℕ) (r : Write) (out′ : List ℕ) : Type 0 where
   pub answer : writePaper r ≡ rowAnswer n m p (from44 major minor) out at
   pub bytes : out′ ≡ rowLeft n m p (from44 major minor) out at
+
+-- each number has at most 64 bits
+pub record Small (n : List ℕ) : Type 0 where
+  pub each : (i : ℕ) → i < length n → getD n i 0 ≤ 18446744073709551615
 
 -- the numbers of a list that is written have at most 64 bits: so what is written reads back with nothing asked of the caller
 pub record SmallWhereDone (n : List ℕ) (r : Write) : Type 0 where

@@ -5,7 +5,8 @@ use genotype::allele::Allele;
 ghost use mathlib.Core.Path.{_≡_};
 ghost use Prim.Native.Nat.{_≤_};
 ghost use lib.ListN.{length};
-ghost use Rattle.spelling.specs.Spelling.{isSound, bodyText, from44};
+ghost use Rattle.spelling.specs.Spelling.{bodyText, from44};
+ghost use Rattle.genotype.specs.Row.{isSound};
 ghost use Rattle.spelling.specs.Tally.{begun, shortened, tallied, planOf};
 
 pub struct Tally {

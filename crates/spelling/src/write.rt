@@ -13,7 +13,8 @@ ghost use Rattle.genotype.specs.Answers.{Parallel};
 ghost use Rattle.text.specs.Over.{over};
 ghost use Rattle.spelling.specs.Spelling.{listText, from44};
 ghost use Rattle.spelling.specs.Tally.{tallyOf};
-ghost use Rattle.spelling.specs.Row.{alleleAt, rowOf, Small};
+ghost use Rattle.spelling.specs.Write.{Small};
+ghost use Rattle.genotype.specs.Row.{alleleAt, rowOf};
 ghost use Rattle.spelling.specs.Write.{WritesList, WritesRow, SmallWhereDone};
 
 // The answer of the writer.
