@@ -4,4 +4,6 @@ pub mod Block
 pub mod Nth
 pub mod Entries
 pub mod Joined
+pub mod Promises
+pub mod Inner
 pub mod Demands
