@@ -3,7 +3,7 @@ use Prim.Native.Nat.{ℕ, _+_, _*_, _/_, _≤_, _<_}
 use mathlib.Core.Path.{_≡_}
 use mathlib.Core.List.{List, [], _∷_}
 use lib.ListN.{length, getD, drop}
-use Rattle.pieces.specs.Block.{beforeEither}
+use Rattle.pieces.specs.Before.{beforeEither}
 
 -- ---- where a piece ends
 

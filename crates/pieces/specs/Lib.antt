@@ -1,6 +1,6 @@
 pub mod Paper
 pub mod Pieces
-pub mod Block
+pub mod Before
 pub mod Nth
 pub mod Entries
 pub mod Joined

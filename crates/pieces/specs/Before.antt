@@ -1,4 +1,4 @@
--- The bytes before the first of two. Assumes nothing.
+-- What stands in a text before the first of two bytes. Assumes nothing.
 use Prim.Native.Nat.{ℕ}
 use mathlib.Core.Bool.{_||_}
 use mathlib.Core.List.{List, [], _∷_}
