@@ -10,7 +10,7 @@ use Rattle.text.specs.Pick.{pick, oneIf}
 use Rattle.text.specs.Answer.{Answer, says}
 use Rattle.text.specs.Same.{same}
 use Rattle.text.specs.Place.{placed}
-use Rattle.pieces.specs.Block.{beforeEither}
+use Rattle.pieces.specs.Before.{beforeEither}
 use Rattle.decimal.specs.Decimal.{valueOf}
 use Rattle.pieces.specs.Pieces.{lacks}
 use Rattle.genotype.specs.declared.allele.Allele.{Allele}
