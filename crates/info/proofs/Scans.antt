@@ -20,16 +20,8 @@ use Rattle.info.proofs.EntryLaws.{
   step-end,
   step-last,
   step-more,
-  Stands,
-  outside,
-  nothing-left,
-  last-entry,
-  one-entry,
-  last-key,
-  keyless,
-  last-value,
-  step-stands,
 }
+use Rattle.info.proofs.Steps.{Stands, outside, nothing-left, last-entry, one-entry, last-key, keyless, last-value, step-stands}
 
 -- ---- well formed columns
 
