@@ -1,18 +1,13 @@
 -- An entry is spelled as it was cut, and cut as it is spelled; so what stands at a place tells the step's answer, by cases of the definition. Assumes nothing.
-use Prim.Native.Nat.{ℕ, _+_, _<_, _≤_}
+use Prim.Native.Nat.{ℕ, _+_, _<_}
 use mathlib.Core.Path.{_≡_, refl, sym, ap, _∙_}
-use mathlib.Core.Bool.{Bool, true, false}
 use mathlib.Core.List.{List, [], _∷_, _++_, append-nil, append-assoc}
 use native.Mathlib.Omega.{arith}
 use native.Mathlib.Nat.{add-assoc}
 use lib.ListN.{length, take, drop, length-append, length-drop}
 use lib.Seq.{take-append-seam, drop-append-add, drop-drop}
-use lib.Dec.{ltb, eqb}
-use borrow.Author.Tests.{ltb-true, ltb-false, eqb-true, eqb-false}
-use Rattle.text.specs.Pick.{pick}
-use Rattle.text.specs.Answer.{Answer, says}
-use Rattle.text.proofs.ByteLaws.{none-empty, some-empty}
-use Rattle.text.specs.Bytes.{isEmpty}
+use Rattle.text.specs.Answer.{says}
+use Rattle.text.proofs.ByteLaws.{some-empty}
 use Rattle.text.proofs.PlaceLaws.{place-beyond, place-end, place-inside}
 use Rattle.pieces.specs.Pieces.{split, joined}
 use Rattle.pieces.specs.Demands.{Free}

@@ -12,11 +12,10 @@ use Rattle.text.specs.Answer.{Answer, says}
 use Rattle.text.specs.Bytes.{isEmpty}
 use Rattle.text.proofs.ByteLaws.{none-empty, some-empty}
 use Rattle.pieces.specs.Pieces.{split, joined}
-use Rattle.pieces.specs.Demands.{Free}
-use Rattle.pieces.proofs.PieceLaws.{free-nil, free-cons, free-append, first-free, split-nil, split-append, one-text, more-text}
+use Rattle.pieces.proofs.PieceLaws.{free-nil, first-free, split-nil, split-append, one-text, more-text}
 use Rattle.info.specs.Info.{Pair, alone, paired, keyOf, pairOf, placesOf, entryAnswer, danglingAnswer, endedAnswer, firstAnswer, stepAnswer}
-use Rattle.info.specs.Demands.{Stepper, Key, StepAt, past-end, at-end, key-last, key-more, value-last, value-more, key-dangles, value-dangles, equals-first, semicolon-first, Steps, OneStepper, spelled, valueFree, Good}
-use Rattle.info.proofs.EntryLaws.{pair-spelled, spelled-pair, Parted, pair-parted, parted-good, spelled-free, spelled-some, stands-length, step-beyond, step-end, step-inside, first-last, first-ended, ended-none, ended-some, step-last, step-more}
+use Rattle.info.specs.Demands.{StepAt, past-end, at-end, key-last, key-more, value-last, value-more, key-dangles, value-dangles, equals-first, semicolon-first, Steps, OneStepper, spelled, valueFree, Good}
+use Rattle.info.proofs.EntryLaws.{pair-spelled, spelled-pair, Parted, pair-parted, parted-good, spelled-free, step-beyond, step-end, step-inside, first-last, first-ended, ended-none, ended-some, step-last, step-more}
 
 -- ---- from the shape to the answer
 
