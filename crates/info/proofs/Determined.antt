@@ -13,8 +13,8 @@ one-step : (t : List ℕ) (at : ℕ) → OneAnswer (TakesStep t at)
 one-step t at r r′ e e′ = step-paper-injective r r′ (e ∙ sym e′)
 
 -- a reader is its column and its place
-one-reader : (c : RefT (List ℕ)) (n : ℕ) → OneAnswer (λ (r : Reader). (r .column ≡ c) × (r .at ≡ n))
-one-reader c n r r′ e e′ = ap₂ reader-at (e .0 ∙ sym (e′ .0)) (e .1 ∙ sym (e′ .1))
+same-reader : {r r′ : Reader} → r .column ≡ r′ .column → r .at ≡ r′ .at → r ≡ r′
+same-reader c n = ap₂ reader-at c n
   where
     reader-at : RefT (List ℕ) → ℕ → Reader
     reader-at c n = record { column = c; at = n }
@@ -27,8 +27,8 @@ determined =
       find = λ t key r r′ e e′. step-paper-injective r r′ (e ∙ sym e′);
       value = λ column key r r′ s s′. (ap₂ (λ (block place : ℕ). (block, place)) (s .memory ∙ sym (s′ .memory)) (s .place ∙ sym (s′ .place)), s .bytes ∙ sym (s′ .bytes));
       count = λ t r r′ e e′. e ∙ sym e′;
-      «open» = λ column. one-reader column 0;
-      moved = λ reader. one-reader (reader .column);
+      «open» = λ column r r′ e e′. same-reader (e .0 ∙ sym (e′ .0)) (e .1 ∙ sym (e′ .1));
+      moved = λ reader at r r′ e e′. same-reader (e .0 ∙ sym (e′ .0)) (e .1 ∙ sym (e′ .1));
       next = λ reader. one-step (now (reader .column)) (reader .at);
       step-from = one-step;
     }

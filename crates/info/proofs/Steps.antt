@@ -26,12 +26,14 @@ inside t at e n = let l = length-drop at t in omega (arith, ap length e)
 past-value : (at : ℕ) (k v : List ℕ) → at + length (k ++ 61 ∷ v) + 1 ≡ at + length k + 1 + length v + 1
 past-value at k v = simp length-append (omega arith)
 
--- an entry whose `;` is the last byte
 module _ (t : List ℕ) (at : ℕ) where
+  dangles-length : (p : Pair) → drop at t ≡ spelled p ++ 59 ∷ [] → at + length (spelled p) + 1 ≡ length t
+  dangles-length p e = let l = length-drop at t in omega (arith, simp length-append at (ap length e))
+
+  -- an entry whose `;` is the last byte
   step-dangles : (p : Pair) → Parted p → drop at t ≡ spelled p ++ 59 ∷ [] → stepAnswer t at ≡ danglingAnswer at p (length t)
   step-dangles p c e =
-      let l = length-drop at t in
-      let m : at + length (spelled p) + 1 ≡ length t = omega (arith, simp length-append at (ap length e)) in
+      let m = dangles-length p e in
       step-inside t at (omega arith)
       ∙ rw (e, split-append (spelled p) [] (c .no-semicolon), first-ended, pair-spelled p (c .no-equals), m, ended-none at p (length t) [] refl)
 
@@ -116,10 +118,7 @@ module _ (t : List ℕ) (at : ℕ) where
   shape-ended : (p : Pair) → Parted p → (s : List ℕ) → drop at t ≡ spelled p ++ 59 ∷ s
       → StepAt t at (endedAnswer at p (at + length (spelled p) + 1) s)
   unfolding endedAnswer
-  shape-ended p c [] e =
-      let l = length-drop at t in
-      let m : at + length (spelled p) + 1 ≡ length t = omega (arith, simp length-append at (ap length e)) in
-      rw m (shape-dangles p c e)
+  shape-ended p c [] e = rw (dangles-length t at p e) (shape-dangles p c e)
   shape-ended p c (b ∷ rest) e = shape-more p c b rest e
 
   pub answer-shape : StepAt t at (stepAnswer t at)

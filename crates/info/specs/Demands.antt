@@ -21,14 +21,17 @@ Finder = List ℕ → List ℕ → Answer
 
 -- ---- a step, by the shape of what is left
 
--- not empty, no `=` and no `;`
+-- a key: not empty, no `=` and no `;`
 pub record Key (k : List ℕ) : Type 0 where
   pub some : 0 < length k
   pub no-equals : Free 61 k
   pub no-semicolon : Free 59 k
 
--- what a step from a place answers: 6 beyond the column and 10 at its end; 0 for a key, or a key, `=` and a value, before the column's end or a `;` with more behind it;
--- 7 or 9 where that `;` is the last byte, and 7 even where the key is empty; 8 for `=`, or `;` and more
+-- what a step from a place answers, by what is left from there on (61 is `=`, 59 is `;`): the number, the next place, and the places of an entry
+-- 6: the place lies beyond the column; 10: it is the end
+-- 0: a key, or a key, `=` and a value, before the column's end or before `;` and more
+-- 7 after a key, 9 after a value: that `;` is the last byte; 7 is judged before 8, so there the key may be empty
+-- 8: an empty key, before `=` or before `;` and more
 pub data StepAt (t : List ℕ) (at : ℕ) : Answer → Type 0 where
   past-end : length t < at → StepAt t at (says 6 (at ∷ []))
   at-end : at ≡ length t → StepAt t at (says 10 (at ∷ []))
@@ -43,7 +46,7 @@ pub data StepAt (t : List ℕ) (at : ℕ) : Answer → Type 0 where
   equals-first : {rest : List ℕ} → drop at t ≡ 61 ∷ rest → StepAt t at (says 8 ((at + 1) ∷ []))
   semicolon-first : {b : ℕ} {rest : List ℕ} → drop at t ≡ 59 ∷ b ∷ rest → StepAt t at (says 8 ((at + 1) ∷ []))
 
--- a stepper answers so, and not otherwise
+-- a stepper answers so, and only so
 unfoldable pub Steps : Stepper → Type 0
 Steps step = (t : List ℕ) (at : ℕ) (a : Answer) → (step t at ≡ a) ↔ StepAt t at a
 
@@ -61,7 +64,7 @@ unfoldable pub valueFree : Pair → Type 0
 valueFree (alone k) = Unit {0}
 valueFree (paired k v) = Free 59 v
 
--- its value, if it has one, holds no `;`
+-- its key is one, and its value, if it has one, holds no `;`
 pub record Good (p : Pair) : Type 0 where
   pub key : Key (keyOf p)
   pub value : valueFree p
@@ -134,16 +137,18 @@ pub record First (step : Stepper) (find : Finder) : Type 0 where
 
 -- ---- what follows from the steps alone
 
+-- the statements above, of a stepper and of our finder
 pub record Follows (step : Stepper) : Type 0 where
   pub scans : Scans step
   pub moves-on : MovesOn step
   pub finishes : Finishes step
   pub first : First step findAnswer
 
+-- any stepper that meets `Steps` meets them
 unfoldable pub StepsSuffice : Type 0
 StepsSuffice = (step : Stepper) → Steps step → Follows step
 
--- so two finders of the first entry, each by steps that meet `Steps`, give one answer for every column and key
+-- and two finders of the first entry, each over a stepper that meets `Steps`, give one answer for every column and key
 unfoldable pub OneFinder : Type 0
 OneFinder = (step other : Stepper) → Steps step → Steps other → (find seek : Finder) → First step find → First other seek → (t key : List ℕ) → find t key ≡ seek t key
 
