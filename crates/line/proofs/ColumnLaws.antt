@@ -207,7 +207,7 @@ pub record InOrder (k : ℕ) (cs : List (List ℕ)) : Type 0 where
   pub full : (i : ℕ) → i < length cs → 0 < length (getD cs i [])
   pub last : required (k + length cs - 1) ≡ false
 
-order-one : {k : ℕ} {c : List ℕ} → required k ≡ false → isEmpty c ≡ false → InOrder k (c ∷ [])
+pub order-one : {k : ℕ} {c : List ℕ} → required k ≡ false → isEmpty c ≡ false → InOrder k (c ∷ [])
 order-one {k} {c} r m = record { full = by; last = let z : k + 1 - 1 ≡ k = omega arith in rw z r }
   where
     by : (i : ℕ) → i < 1 → 0 < length (getD (c ∷ []) i [])
@@ -218,7 +218,7 @@ order-one {k} {c} r m = record { full = by; last = let z : k + 1 - 1 ≡ k = ome
 next-number : (k n : ℕ) → k + 1 + n - 1 ≡ k + suc n - 1
 next-number k n = omega arith
 
-order-more : {k : ℕ} {c : List ℕ} {cs : List (List ℕ)} → isEmpty c ≡ false → InOrder (k + 1) cs → InOrder k (c ∷ cs)
+pub order-more : {k : ℕ} {c : List ℕ} {cs : List (List ℕ)} → isEmpty c ≡ false → InOrder (k + 1) cs → InOrder k (c ∷ cs)
 order-more {k} {c} {cs} m o = record { full = by; last = rw next-number at (o .last) }
   where
     by : (i : ℕ) → i < suc (length cs) → 0 < length (getD (c ∷ cs) i [])
