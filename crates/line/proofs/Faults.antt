@@ -1,7 +1,7 @@
 -- A bad column is what the verdict refuses; and every line has a bad column, or is shaped, and then is refused by UTF-8 alone. Assumes nothing.
 use Prim.Native.Nat.{ℕ, zero, suc, _+_, _-_, _<_, suc-le-suc}
 use mathlib.Core.Path.{_≡_, refl, sym, ap, _∙_}
-use mathlib.Core.Bool.{Bool, true, false, _||_, or-true, true≢false}
+use mathlib.Core.Bool.{Bool, true, false, or-true, true≢false}
 use mathlib.Core.Logic.{_⊎_, inl, inr, ⊎-elim}
 use mathlib.Core.List.{List, [], _∷_, _++_, append-assoc, append-nil}
 use native.Mathlib.Omega.{arith}
@@ -9,8 +9,8 @@ use lib.ListN.{length, getD, drop, length-append}
 use Rattle.text.specs.Pick.{pick}
 use Rattle.text.specs.Bytes.{isEmpty, endsIn}
 use Rattle.text.specs.Answer.{says}
-use Rattle.text.specs.Verdict.{Verdict, fine, refused}
-use Rattle.text.proofs.ByteLaws.{none-empty, some-empty}
+use Rattle.text.specs.Verdict.{Verdict, refused}
+use Rattle.text.proofs.ByteLaws.{some-empty}
 use Rattle.pieces.specs.Pieces.{split, joined}
 use Rattle.pieces.specs.Demands.{Free}
 use Rattle.pieces.proofs.PieceLaws.{free-nil, free-cons, free-append, free-left, split-some, split-whole, split-free, split-append, split-joined, joined-one, joined-more}

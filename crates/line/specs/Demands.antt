@@ -7,6 +7,7 @@ use mathlib.Core.List.{List, [], _∷_, _++_, flatten}
 use lib.ListN.{length, getD, take, drop}
 use Rattle.text.specs.Answer.{Answer, says, numberOf, valuesOf}
 use Rattle.text.specs.Bytes.{endsIn}
+use Rattle.text.specs.Demands.{Characters}
 use Rattle.pieces.specs.Pieces.{joined}
 use Rattle.pieces.specs.Demands.{Free}
 use Rattle.line.specs.Line.{Ending, nothing, feed, return-feed, endingBytes, allUtf8}
@@ -216,3 +217,19 @@ Windowed read = (s : List ℕ) (at : ℕ) (w : List ℕ) (p : ℕ) → Window s 
 -- a text is UTF-8 exactly when each piece between tabs is
 unfoldable pub ByColumns : (List ℕ → Bool) → (List (List ℕ) → Bool) → (List ℕ → List (List ℕ)) → Type 0
 ByColumns check all columns = (t : List ℕ) → check t ≡ all (columns t)
+
+-- ---- the first nine tabs
+
+-- the columns with the first nine tabs out: the text that the Rust checks
+unfoldable pub untabbed : List (List ℕ) → List ℕ
+untabbed cs = flatten (take 9 cs) ++ joined 9 (drop 9 cs)
+
+-- the characters of that text, of which none stands across one of these tabs: the first so many are the columns before it
+pub record Uncrossed (cs : List (List ℕ)) : Type 0 where
+  pub chars : List (List ℕ)
+  pub are : Characters (untabbed cs) chars
+  pub each : (i : ℕ) → i < length cs → i ≤ 9 → (n : ℕ) × (flatten (take n chars) ≡ flatten (take i cs))
+
+-- each column is UTF-8 exactly when that text is, with no character across one of these tabs
+unfoldable pub WithoutTabs : Type 0
+WithoutTabs = (cs : List (List ℕ)) → (allUtf8 cs ≡ true) ↔ Uncrossed cs
