@@ -1,6 +1,6 @@
 -- A line is refused, or its columns are good and begin the input; columns that begin an input are the line's, so they are read. Assumes nothing.
 use Prim.Native.Nat.{ℕ, _+_, _<_, _≤_}
-use mathlib.Core.Path.{_≡_, refl}
+use mathlib.Core.Path.{_≡_, refl, _∙_}
 use mathlib.Core.Bool.{Bool, true, false, _||_}
 use mathlib.Core.Logic.{_⊎_, inl, inr, ⊎-elim}
 use mathlib.Core.List.{List, [], _∷_}
@@ -13,9 +13,9 @@ use Rattle.text.specs.Verdict.{Verdict, fine, refused}
 use Rattle.pieces.specs.Pieces.{split, joined}
 use Rattle.pieces.proofs.PieceLaws.{split-some, split-free, split-joined, split-back}
 use Rattle.line.specs.Line.{Ending, nothing, feed, return-feed, endingBytes, Line, line, lineOf, required, lastVerdict, verdict, fieldPlaces, allUtf8, judgedAnswer, lineAnswer, readAnswer}
-use Rattle.line.specs.Demands.{Begins, Refuses, Exact}
+use Rattle.line.specs.Demands.{MayEnd, Shaped, Begins, Refuses, Exact}
 use Rattle.line.proofs.LineLaws.{read-line}
-use Rattle.line.proofs.ColumnLaws.{free-joined, free-each, LineCut, line-only, line-whole, utf8-each, utf8-all, fine-count, fine-full, count-fine}
+use Rattle.line.proofs.ColumnLaws.{free-joined, free-each, LineCut, line-only, line-whole, fine-count, fine-full, count-fine}
 
 -- ---- a verdict is fine, or a refusal by 2, 3 or 4
 
@@ -75,46 +75,52 @@ read-good from t e rest = told (verdict 1 from cs e past) refl (judged 1 from cs
 
 -- ---- columns that begin an input
 
-module _ {s : List ℕ} {cs : List (List ℕ)} {e : Ending} {rest : List ℕ} (b : Begins s cs e rest) where
+module _ {s : List ℕ} {cs : List (List ℕ)} {e : Ending} {rest : List ℕ} (b : Shaped s cs e rest) where
   -- are the line's
-  pub begins-line : lineOf s ≡ line (joined 9 cs) e rest
-  begins-line =
+  pub shaped-line : lineOf s ≡ line (joined 9 cs) e rest
+  shaped-line =
       line-only
       (record { whole = b .whole; unfed = free-joined cs (λ z. omega arith) (λ i l. b .each i l .no-feed); ended = b .ended })
 
-  pub begins-split : split 9 (joined 9 cs) ≡ cs
-  begins-split = split-back 9 cs (⊎-elim (λ h. omega arith) (λ h. omega arith) (b .count)) (λ i l. b .each i l .no-tab)
+  pub shaped-split : split 9 (joined 9 cs) ≡ cs
+  shaped-split = split-back 9 cs (⊎-elim (λ h. omega arith) (λ h. omega arith) (b .count)) (λ i l. b .each i l .no-tab)
 
-  -- and good
-  pub begins-good : Good cs
-  begins-good =
-      record { count = b .count; full = λ i l. b .each i l .some; utf8 = utf8-all cs (λ i l. b .each i l .utf8) }
+  -- none is bad, so the answer turns on UTF-8 alone
+  pub shaped-fine : (from past : ℕ) → verdict 1 from cs e past ≡ fine
+  shaped-fine from past = count-fine from cs e past (b .count) (λ i l. b .each i l .some)
 
--- a line's columns begin the input where they are good
-pub good-begins : {s t : List ℕ} {e : Ending} {rest : List ℕ} → LineCut s t e rest → Good (split 9 t) → Begins s (split 9 t) e rest
-good-begins {t = t} c g =
+  pub shaped-answer : (from : ℕ)
+      → lineAnswer from (lineOf s) ≡ judgedAnswer fine from (from + length (joined 9 cs)) cs (from + length (joined 9 cs) + length (endingBytes e))
+  unfolding lineAnswer
+  shaped-answer from = rw (shaped-line, shaped-split, shaped-fine from (from + length (joined 9 cs) + length (endingBytes e)))
+
+-- a line's columns begin the input where they are so many, and none is empty
+pub cut-shaped : {s t : List ℕ} {e : Ending} {rest : List ℕ} → LineCut s t e rest → MayEnd (length (split 9 t))
+    → ((i : ℕ) → i < length (split 9 t) → 0 < length (getD (split 9 t) i [])) → Shaped s (split 9 t) e rest
+cut-shaped {t = t} c n full =
     let j = split-joined 9 t in
     record {
-      count = g .count;
-      each =
-          λ i l.
-          record {
-            some = g .full i l;
-            utf8 = utf8-each (split 9 t) (g .utf8) i l;
-            no-tab = split-free 9 t i l;
-            no-feed = free-each 9 (split 9 t) (rw j (c .unfed)) i l;
-          };
+      count = n;
+      each = λ i l. record { some = full i l; no-tab = split-free 9 t i l; no-feed = free-each 9 (split 9 t) (rw j (c .unfed)) i l };
       whole = rw j (c .whole);
       ended = rw j (c .ended);
     }
 
+-- and are UTF-8
+pub good-begins : {s t : List ℕ} {e : Ending} {rest : List ℕ} → LineCut s t e rest → Good (split 9 t) → Begins s (split 9 t) e rest
+good-begins c g = record { shaped = cut-shaped c (g .count) (g .full); utf8 = g .utf8 }
+
 -- ---- exact
 
--- where columns begin what is left, the answer is 0
+-- where columns begin what is left, the answer is 0, with their places
+pub begins-answer : (s : List ℕ) (at : ℕ) {cs : List (List ℕ)} {e : Ending} {rest : List ℕ} → at < length s → Begins (drop at s) cs e rest
+    → readAnswer s at ≡ says 0 ((at + length (joined 9 cs) + length (endingBytes e)) ∷ fieldPlaces at cs (at + length (joined 9 cs)))
+unfolding judgedAnswer
+begins-answer s at h b = read-line s at h ∙ shaped-answer (b .shaped) at ∙ rw (b .utf8)
+
 pub begins-read : (s : List ℕ) (at : ℕ) {cs : List (List ℕ)} {e : Ending} {rest : List ℕ} → at < length s → Begins (drop at s) cs e rest
     → numberOf (readAnswer s at) ≡ 0
-begins-read s at {cs} {e} {rest} h b =
-    rw (read-line s at h, begins-line b, good-read at (joined 9 cs) e rest (rw (begins-split b) (begins-good b)))
+begins-read s at h b = rw (begins-answer s at h b)
 
 -- else it refuses
 pub exact : Exact readAnswer

@@ -11,6 +11,7 @@ pub mod Window
 pub mod MovesOn
 pub mod Faults
 pub mod Meets
+pub mod WithoutTabs
 pub mod WholeLaws
 pub mod Impostors
 pub mod Determined

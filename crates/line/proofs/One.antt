@@ -19,16 +19,16 @@ use Rattle.pieces.proofs.PieceLaws.{split-joined, joined-one, joined-more}
 use Rattle.line.specs.Line.{Ending, Line, line, lineOf, columnPlaces, leadingPlaces, fieldPlaces, lineAnswer, readAnswer}
 use Rattle.line.specs.Demands.{Begins, startIn, Lies, TenPlaces, Refuses, Stands, One}
 use Rattle.line.proofs.ColumnLaws.{line-whole}
-use Rattle.line.proofs.Exact.{Good, good-read, read-good, begins-line, begins-split, good-begins}
+use Rattle.line.proofs.Exact.{Good, good-read, read-good, shaped-line, shaped-split, good-begins}
 use Rattle.line.proofs.LineLaws.{read-line}
 
 -- ---- where columns start
 
-start-first : (cs : List (List ℕ)) → startIn cs 0 ≡ 0
+pub start-first : (cs : List (List ℕ)) → startIn cs 0 ≡ 0
 unfolding startIn flatten
 start-first cs = refl
 
-start-later : (c : List ℕ) (cs : List (List ℕ)) (i : ℕ) → startIn (c ∷ cs) (suc i) ≡ length c + 1 + startIn cs i
+pub start-later : (c : List ℕ) (cs : List (List ℕ)) (i : ℕ) → startIn (c ∷ cs) (suc i) ≡ length c + 1 + startIn cs i
 unfolding startIn flatten
 start-later c cs i = let l = length-append c (flatten (take i cs)) in omega arith
 
@@ -191,9 +191,9 @@ cuts-out s r from cs end e h n = rw h (lie-cuts s r n e (places-lie from cs n))
 begins-only : {s t : List ℕ} {e : Ending} {rest : List ℕ} → lineOf s ≡ line t e rest → {cs : List (List ℕ)} {f : Ending} {r : List ℕ} → Begins s cs f r
     → (cs ≡ split 9 t) × (f ≡ e) × (r ≡ rest)
 begins-only {t = t} {e = e} {rest = rest} q {cs} {f} {r} b =
-    let l : line (joined 9 cs) f r ≡ line t e rest = sym (begins-line b) ∙ q in
+    let l : line (joined 9 cs) f r ≡ line t e rest = sym (shaped-line (b .shaped)) ∙ q in
     let x : joined 9 cs ≡ t = cc in
-    (sym (begins-split b) ∙ ap (split 9) x, (cc), (cc))
+    (sym (shaped-split (b .shaped)) ∙ ap (split 9) x, (cc), (cc))
 
 -- the answer is 0 only from a place in the input
 pub zero-within : (s : List ℕ) (at : ℕ) → numberOf (readAnswer s at) ≡ 0 → at < length s
