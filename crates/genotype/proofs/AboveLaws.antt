@@ -49,7 +49,7 @@ module _ (t : List ℕ) (count at k : ℕ) (x : Step) (g : Finding t count at k)
     unfolding firstAbove
     find-turn h = record { ahead = ahead-turn (g .ahead) e q; same = rw (left, where-later _ k a (leftOf t next (k + 1)) (le-ltb _ _ h)) at (g .same) }
 
-  pub find-none : OneOf (1 ∷ 2 ∷ 3 ∷ []) (tagOf T.the-type x) → abovePaper O.Nothing ≡ firstAbove count 0 (listOf (readingOf t))
+  pub find-none : OneOf (1 ∷ 2 ∷ 3 ∷ 4 ∷ []) (tagOf T.the-type x) → abovePaper O.Nothing ≡ firstAbove count 0 (listOf (readingOf t))
   unfolding abovePaper firstAbove
   find-none h = rw (left-end t at k x (g .ahead) e h, where-none _ k) at (g .same)
 

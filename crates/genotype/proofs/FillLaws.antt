@@ -103,7 +103,7 @@ module _ (t n₀ m₀ p₀ n m p : List ℕ) (at k : ℕ) (x : Step) (g : Fillin
           phases = column-turn (rw left at (g .phases));
         })
 
-  module _ (h : OneOf (1 ∷ 2 ∷ 3 ∷ []) (tagOf T.the-type x)) where
+  module _ (h : OneOf (1 ∷ 2 ∷ 3 ∷ 4 ∷ []) (tagOf T.the-type x)) where
     none-left : leftOf t at k ≡ []
     none-left = left-end t at k x (g .ahead) e h
 

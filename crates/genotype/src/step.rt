@@ -19,6 +19,8 @@ pub enum Step {
     Beyond,
     // 10: the place is the text's end.
     Nothing,
+    // 11: the text is empty.
+    Empty,
     // 12: what stands there is no allele.
     Bad,
 }
@@ -87,6 +89,9 @@ pub fn step_at(text: &[u8], at: usize) -> Step
 {
     if at > text.len() {
         return Step::Beyond;
+    }
+    if text.len() == 0 {
+        return Step::Empty;
     }
     if at == text.len() {
         return Step::Nothing;
