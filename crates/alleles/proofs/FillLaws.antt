@@ -14,7 +14,8 @@ use Rattle.text.specs.Answer.{Answer, numberOf}
 use Rattle.text.specs.Over.{laid, over}
 use Rattle.text.proofs.Lists.{sets-over}
 use Rattle.lists.specs.AlternateBases.{altCount}
-use Rattle.genotype.specs.Reading.{readingOf, listOf, ListMeant}
+use Rattle.genotype.specs.Reading.{readingOf, listOf}
+use Rattle.genotype.specs.Inner.{ListMeant}
 use Rattle.genotype.specs.Answers.{readAnswer, checkedAnswer}
 use Rattle.genotype.specs.Paper.{readPaper}
 use Rattle.genotype.specs.declared.allele.Allele.{Allele}

@@ -9,7 +9,7 @@ use borrow.Author.Tests.{lt-ltb, le-ltb}
 use Rattle.text.specs.Answer.{numberOf}
 use Rattle.text.proofs.FirstLaws.{where-none, where-here, where-later}
 use Rattle.lists.specs.AlternateBases.{altCount}
-use Rattle.genotype.specs.Reading.{Reading, list, bad, empty, readingOf, stepAnswer, listOf, ListMeant}
+use Rattle.genotype.specs.Reading.{Reading, list, bad, empty, readingOf, stepAnswer, listOf}
 use Rattle.genotype.specs.Answers.{firstAbove, aboveAnswer, checkedAnswer}
 use Rattle.genotype.specs.Paper.{stepPaper, readPaper}
 use Rattle.genotype.specs.declared.allele.Allele.{Allele}
@@ -19,7 +19,7 @@ use Rattle.genotype.specs.declared.read.Read.{Read}
 use Rattle.genotype.specs.declared.read.Read.the-variants as R
 use Rattle.genotype.specs.declared.read.Above.{Above}
 use Rattle.genotype.specs.declared.read.Above.the-variants as O
-use Rattle.genotype.specs.Inner.{wholeAnswer, fitAnswer, abovePaper}
+use Rattle.genotype.specs.Inner.{ListMeant, wholeAnswer, fitAnswer, abovePaper}
 use Rattle.genotype.proofs.step.Step as T
 use Rattle.genotype.proofs.read.Read as D
 use Rattle.genotype.proofs.StepLaws.{found-less}

@@ -10,7 +10,8 @@ use denote.Enum.Declared.{tagOf}
 use lib.ListN.{length, drop}
 use lib.Dec.{ltb}
 use borrow.Author.Tests.{ltb-true, ltb-false}
-use Rattle.genotype.specs.Reading.{list, empty, gathered, readingOf, partsOf, stepAnswer, listOf, ListMeant}
+use Rattle.genotype.specs.Reading.{list, empty, gathered, readingOf, partsOf, stepAnswer, listOf}
+use Rattle.genotype.specs.Inner.{ListMeant}
 use Rattle.genotype.specs.Paper.{stepPaper}
 use Rattle.genotype.specs.declared.allele.Allele.{Allele}
 use Rattle.genotype.specs.declared.step.Step.{Step}

@@ -3,7 +3,6 @@
 use Prim.Native.Nat.{ℕ, _+_, _<_}
 use mathlib.Core.Path.{_≡_, refl, sym, ap, _∙_}
 use mathlib.Core.Bool.{Bool, true, false, _&&_, false≢true}
-use mathlib.Core.Logic.{_↔_}
 use mathlib.Core.List.{List, [], _∷_, _++_, map}
 use mathlib.Core.Option.{Option, some, none}
 use native.Mathlib.Omega.{arith}
@@ -23,6 +22,7 @@ use Rattle.pieces.proofs.CountLaws.{lacks-none, lacks-here, lacks-other}
 use Rattle.genotype.specs.Reading.{isMark, headOf, markedPieces, numbered, bodied, alleleIn, impliedBy, partsOf, list, with, gathered, readingOf, listOf}
 use Rattle.genotype.specs.Means.{markByte, Body, dot, number, Later, allPhased, Means, marked}
 use Rattle.genotype.specs.Means as M
+use Rattle.genotype.specs.Demands.{ReadsMeans, MeansOne}
 use Rattle.genotype.specs.declared.allele.Allele.{Allele}
 use Rattle.genotype.proofs.PieceLaws.{mark-bar, mark-slash, mark-none, in-bar, in-slash, in-plain, head-none, head-mark, head-more, parts-first}
 use Rattle.genotype.proofs.JudgeLaws.{reading-some, reading-none, with-list, with-cons}
@@ -239,9 +239,9 @@ read-means (b ∷ s) as′ e = by as′ (sym (parts-first b s) ∙ gathered-some
     by (a ∷ bs) e = first (allele-piece i b (headOf s) a (cc)) (parted i s bs (cc))
 
 -- a text reads as a list exactly when it means that list
-pub reads-means : (t : List ℕ) (as′ : List Allele) → (readingOf t ≡ list as′) ↔ Means t as′
+pub reads-means : ReadsMeans readingOf
 reads-means t as′ = (read-means t as′, means-read)
 
 -- so it means one list at most
-pub means-one : {t : List ℕ} {as′ bs : List Allele} → Means t as′ → Means t bs → as′ ≡ bs
-means-one m n = let e = means-read m in let f = means-read n in cc
+pub means-one : MeansOne
+means-one t as′ bs m n = let e = means-read m in let f = means-read n in cc

@@ -90,10 +90,6 @@ listOf (list as′) = as′
 listOf (bad k) = []
 listOf empty = []
 
--- the text reads as a list
-pub record ListMeant (t : List ℕ) : Type 0 where
-  pub is : readingOf t ≡ list (listOf (readingOf t))
-
 -- ---- one step
 
 -- the next place, and the allele; or 12
