@@ -13,7 +13,8 @@ use Rattle.genotype.specs.Means.{none, Means, bare}
 use Rattle.genotype.specs.Demands.{Reader, reader, Stands, ExactAt, Exact}
 use Rattle.genotype.specs.declared.allele.Allele.{Allele}
 use Rattle.genotype.proofs.PhasedLaws.{phased-none}
-use Rattle.genotype.proofs.MeansLaws.{digit-body, means-one}
+use Rattle.genotype.proofs.MeansLaws.{means-one}
+use Rattle.genotype.proofs.BodyLaws.{digit-body}
 use Rattle.genotype.proofs.Exact.{exact}
 
 -- an allele alone is phased, since no mark follows

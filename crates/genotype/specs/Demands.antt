@@ -7,11 +7,11 @@ use mathlib.Core.List.{List, [], _∷_}
 use lib.ListN.{length}
 use Rattle.text.specs.Answer.{Answer, says, numberOf}
 use Rattle.text.specs.Over.{over}
-use Rattle.genotype.specs.Reading.{Reading, list, readingOf}
+use Rattle.genotype.specs.Reading.{Reading, list, bad, readingOf}
 use Rattle.genotype.specs.Row.{rowOf}
 use Rattle.genotype.specs.Paper.{readPaper}
 use Rattle.genotype.specs.Answers.{readAnswer, rowRead, Parallel, ReadsText}
-use Rattle.genotype.specs.Means.{Means}
+use Rattle.genotype.specs.Means.{Means, Broken}
 use Rattle.genotype.specs.declared.allele.Allele.{Allele}
 use Rattle.genotype.specs.declared.read.Read.{Read}
 
@@ -20,6 +20,10 @@ use Rattle.genotype.specs.declared.read.Read.{Read}
 -- a text reads as a list exactly when it means that list
 abbrev pub ReadsMeans : (List ℕ → Reading) → Type 0
 ReadsMeans reading = (t : List ℕ) (as′ : List Allele) → (reading t ≡ list as′) ↔ Means t as′
+
+-- and as bad at k exactly when the piece with index k is the first that is no allele
+abbrev pub ReadsBroken : (List ℕ → Reading) → Type 0
+ReadsBroken reading = (t : List ℕ) (k : ℕ) → (reading t ≡ bad k) ↔ Broken t k
 
 -- it means one list at most
 abbrev pub MeansOne : Type 0
