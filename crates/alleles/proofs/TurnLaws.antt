@@ -20,7 +20,7 @@ use Rattle.genotype.specs.declared.read.Read.the-variants as R
 use Rattle.genotype.proofs.step.Step as T
 use Rattle.genotype.proofs.read.Read as D
 use Rattle.genotype.proofs.StepLaws.{Further, step-means}
-use Rattle.alleles.specs.Turn.{ended, laidTurn, lays, turnAt}
+use Rattle.alleles.specs.Inner.{ended, laidTurn, lays, turnAt}
 use Rattle.alleles.specs.declared.read.Turn.{Turn}
 
 -- ---- the first allele from a place on
