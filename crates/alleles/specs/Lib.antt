@@ -3,3 +3,6 @@ pub mod Read
 pub mod Write
 pub mod OwnRead
 pub mod OwnWrite
+pub mod Promises
+pub mod Demands
+pub mod EndToEnd
