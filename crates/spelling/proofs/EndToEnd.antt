@@ -12,7 +12,6 @@ use Rattle.text.proofs.Lists.{take-over}
 use Rattle.genotype.specs.Row.{numbersOf, missingOf, phasedOf, alleleOf, rowOf}
 use Rattle.genotype.specs.Answers.{Parallel}
 use Rattle.genotype.specs.declared.allele.Allele.{Allele}
-use Rattle.genotype.specs.declared.read.Read.{Read}
 use Rattle.genotype.proofs.MeansLaws.{reads-means}
 use Rattle.genotype.proofs.ColumnLaws.{numbersOf-length, missingOf-length, phasedOf-length}
 use Rattle.genotype.proofs.AnswerLaws.{Holds, reads-list}

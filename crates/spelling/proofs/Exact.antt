@@ -3,7 +3,6 @@
 use Prim.Native.Nat.{ℕ, _+_, _≤_, _<_}
 use mathlib.Core.Path.{_≡_, refl, sym, ap, _∙_}
 use mathlib.Core.Bool.{Bool}
-use mathlib.Core.Logic.{_⊎_, inl, inr}
 use mathlib.Core.List.{List, [], _∷_}
 use native.Mathlib.Omega.{arith}
 use native.Mathlib.Decide.{decLe, decLt}
@@ -16,10 +15,10 @@ use Rattle.genotype.specs.declared.allele.Allele.{Allele}
 use Rattle.spelling.specs.Spelling.{from44, Spelled, text, bad, phasing, empty, spell}
 use Rattle.spelling.specs.Permitted.{Permitted}
 use Rattle.spelling.specs.Write.{spelledAnswer, listAnswer, textOf}
-use Rattle.spelling.specs.Demands.{Writer, writer, WritesShortest, Unspelled, Refused, beyond, unspelled, short, Refusals, Untouched, Meets, Exact}
+use Rattle.spelling.specs.Demands.{Writer, writer, WritesShortest, Refused, beyond, unspelled, short, Refusals, Untouched, Meets, Exact}
 use Rattle.spelling.proofs.WriteLaws.{list-inside, list-beyond}
 use Rattle.spelling.proofs.Shortest.{one-text, spelled-shortest, every-spelling}
-use Rattle.spelling.proofs.RefusalLaws.{view, unspelled-answer, unspelled-none}
+use Rattle.spelling.proofs.RefusalLaws.{Judged, is-spelled, is-not, judged, unspelled-answer, unspelled-none}
 
 -- ---- an answer that is done, and the text of it
 
@@ -87,7 +86,7 @@ refusals major minor as′ out at a n = (given, due)
     rest = drop at out
 
     given : listAnswer as′ late out at ≡ a → Refused major minor as′ out at a
-    given e = by (decLe at (length out)) (view late as′)
+    given e = by (decLe at (length out)) (judged late as′)
       where
         inside : at ≤ length out → spelledAnswer (spell late as′) rest ≡ a
         inside h = sym (list-inside as′ late out at h) ∙ e
@@ -101,15 +100,13 @@ refusals major minor as′ out at a n = (given, due)
             let q : says 0 (length t ∷ []) ≡ a = sym (room-fits t rest (omega arith)) ∙ (rw s at (inside h)) in
             absurd (n (ap numberOf (sym q)))
 
-        by : Dec (at ≤ length out) → ((t : List ℕ) × (spell late as′ ≡ text t)) ⊎ ((b : Answer) × Unspelled late as′ b) → Refused major minor as′ out at a
+        by : Dec (at ≤ length out) → Judged late as′ → Refused major minor as′ out at a
         by (no h) v =
             let l : length out < at = omega arith in
             let q : says 6 [] ≡ a = sym (list-beyond as′ late out at l) ∙ e in
             rw (← q) (beyond l)
-        by (yes h) (inl v) = roomy h (v .0) (v .1) (decLt (length rest) (length (v .0)))
-        by (yes h) (inr v) =
-            let q : v .0 ≡ a = sym (unspelled-answer (v .1) rest) ∙ inside h in
-            rw (← q) (unspelled h (v .1))
+        by (yes h) (is-spelled t s) = roomy h t s (decLt (length rest) (length t))
+        by (yes h) (is-not u) = let q = sym (unspelled-answer u rest) ∙ inside h in rw (← q) (unspelled h u)
 
     due : {a : Answer} → Refused major minor as′ out at a → listAnswer as′ late out at ≡ a
     due (beyond h) = list-beyond as′ late out at h

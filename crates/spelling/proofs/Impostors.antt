@@ -14,7 +14,7 @@ use Rattle.genotype.specs.declared.allele.Allele.{Allele}
 use Rattle.genotype.proofs.PhasedLaws.{phased-none}
 use Rattle.spelling.specs.Spelling.{shaped}
 use Rattle.spelling.specs.Permitted.{Permitted, TheShortest}
-use Rattle.spelling.specs.Demands.{Writer, WritesShortest, empty, beyond, unspelled, Refusals, Exact}
+use Rattle.spelling.specs.Demands.{Writer, WritesShortest, empty, beyond, unspelled, Refusals, Exact, RoundTrip}
 use Rattle.genotype.proofs.RowLaws.{sound-there, unsound-none, unsound-more}
 use Rattle.spelling.proofs.SpellLaws.{body-number, list-none, list-bare, spell-sound}
 use Rattle.spelling.proofs.Shortest.{one-text, spelled-shortest}
@@ -49,6 +49,12 @@ must-write write e refused =
 pub refuses-all-writer : (write : Writer) → ((major minor : ℕ) (as′ : List Allele) (out : List ℕ) (at : ℕ) → numberOf (write major minor as′ out at .answer) ≡ 0 → ⊥)
     → Exact write → ⊥
 refuses-all-writer write refuses e = must-write write e (refuses 4 4 phased-zero blank 0)
+
+-- the round trip alone lets it in, since it speaks only of what was written
+pub refuses-all-trips : (write : Writer) → ((major minor : ℕ) (as′ : List Allele) (out : List ℕ) (at : ℕ) → numberOf (write major minor as′ out at .answer) ≡ 0 → ⊥)
+    → RoundTrip write
+unfolding RoundTrip
+refuses-all-trips write refuses major minor as′ out at n f e = absurd (refuses major minor as′ out at (ap numberOf e))
 
 -- ---- one number for all refusals
 

@@ -3,13 +3,12 @@
 use Prim.Native.Nat.{ℕ, suc, _+_}
 use mathlib.Core.Path.{_≡_, refl, sym, ap, _∙_}
 use mathlib.Core.Bool.{Bool, true, false, Bool·beq, false≢true}
-use mathlib.Core.Logic.{_⊎_, inl, inr}
 use mathlib.Core.List.{List, [], _∷_}
 use mathlib.Core.Option.{Option, some, none}
 use native.Mathlib.Omega.{arith}
 use native.Mathlib.Nat.{zero-add}
 use borrow.Author.Tests.{eqb-true, eq-eqb, ne-eqb}
-use Rattle.text.specs.Answer.{Answer, says, numberOf}
+use Rattle.text.specs.Answer.{Answer, says}
 use Rattle.genotype.specs.Means.{allPhased}
 use Rattle.genotype.specs.Row.{isSound, firstUnsound}
 use Rattle.genotype.specs.declared.allele.Allele.{Allele}
@@ -35,7 +34,7 @@ module _ (a : Allele) where
       by true e = sym (sound-missing a e) ∙ eq-eqb _ 0 (h e)
       by false e = sym (sound-there a e)
 
-pub unsound-first : (k : ℕ) {as′ : List Allele} {j : ℕ} → Unsound as′ j → firstUnsound k as′ ≡ some (k + j)
+unsound-first : (k : ℕ) {as′ : List Allele} {j : ℕ} → Unsound as′ j → firstUnsound k as′ ≡ some (k + j)
 unsound-first k (here {a} {as′} m n) = unsound-here k a as′ (unsound-is a m n) ∙ ap some (omega arith)
 unsound-first k (later {a} {as′} h u) = unsound-more k a as′ (sound-is a h) ∙ unsound-first (k + 1) u ∙ ap some (omega arith)
 
@@ -58,20 +57,23 @@ none-unsound e k u = let f = unsound-first 0 u in let z : _≡_ {A = ℕ} 0 1 = 
 
 -- ---- a list that is spelled, or has no spelling
 
-pub view : (late : Bool) (as′ : List Allele) → ((t : List ℕ) × (spell late as′ ≡ text t)) ⊎ ((a : Answer) × Unspelled late as′ a)
-unfolding shaped
-view late [] = inr (_, D.empty)
-view late (a ∷ as′) = judged-by (firstUnsound 0 (a ∷ as′)) refl
-  where
-    shaped-by : firstUnsound 0 (a ∷ as′) ≡ none → (q : Bool) → Bool·beq (a .phased) (allPhased as′) ≡ q → (late : Bool)
-        → ((t : List ℕ) × (spell late (a ∷ as′) ≡ text t)) ⊎ ((b : Answer) × Unspelled late (a ∷ as′) b)
-    shaped-by h true s late = inl (listText true (a ∷ as′), spell-sound late a as′ h ∙ rw s)
-    shaped-by h false s true = inl (listText false (a ∷ as′), spell-sound true a as′ h ∙ rw s)
-    shaped-by h false s false = inr (_, D.phasing refl (none-unsound h) (same-no _ _ s))
+pub data Judged (late : Bool) (as′ : List Allele) : Type 0 where
+  is-spelled : (t : List ℕ) → spell late as′ ≡ text t → Judged late as′
+  is-not : {a : Answer} → Unspelled late as′ a → Judged late as′
 
-    judged-by : (o : Option ℕ) → firstUnsound 0 (a ∷ as′) ≡ o → ((t : List ℕ) × (spell late (a ∷ as′) ≡ text t)) ⊎ ((b : Answer) × Unspelled late (a ∷ as′) b)
-    judged-by (some k) h = let g = first-unsound 0 (a ∷ as′) h in inr (_, D.bad (g .1))
-    judged-by none h = shaped-by h (Bool·beq (a .phased) (allPhased as′)) refl late
+pub judged : (late : Bool) (as′ : List Allele) → Judged late as′
+unfolding shaped
+judged late [] = is-not D.empty
+judged late (a ∷ as′) = unsound-by (firstUnsound 0 (a ∷ as′)) refl
+  where
+    shaped-by : firstUnsound 0 (a ∷ as′) ≡ none → (q : Bool) → Bool·beq (a .phased) (allPhased as′) ≡ q → (late : Bool) → Judged late (a ∷ as′)
+    shaped-by h true s late = is-spelled (listText true (a ∷ as′)) (spell-sound late a as′ h ∙ rw s)
+    shaped-by h false s true = is-spelled (listText false (a ∷ as′)) (spell-sound true a as′ h ∙ rw s)
+    shaped-by h false s false = is-not (D.phasing refl (none-unsound h) (same-no _ _ s))
+
+    unsound-by : (o : Option ℕ) → firstUnsound 0 (a ∷ as′) ≡ o → Judged late (a ∷ as′)
+    unsound-by (some k) h = is-not (D.bad (first-unsound 0 (a ∷ as′) h .1))
+    unsound-by none h = shaped-by h (Bool·beq (a .phased) (allPhased as′)) refl late
 
 -- ---- one that has no spelling
 
@@ -98,11 +100,6 @@ module _ {late : Bool} where
       by [] u = absurd (elim u [ ])
       by (a ∷ as′) {k} u = rw (spell-bad late a as′ (unsound-first 0 u), zero-add k)
   unspelled-answer (D.phasing {a} {as′} e n d) l = rw (spell-sound late a as′ (sound-first (a ∷ as′) n), differ _ _ d, e)
-
-  pub unspelled-number : {as′ : List Allele} {a : Answer} → Unspelled late as′ a → numberOf a ≡ 0 → ⊥
-  unspelled-number D.empty z = omega arith
-  unspelled-number (D.bad u) z = omega arith
-  unspelled-number (D.phasing e n d) z = omega arith
 
   pub unspelled-none : {as′ : List Allele} {a : Answer} {t : List ℕ} → Unspelled late as′ a → Permitted late as′ t → ⊥
   unspelled-none D.empty p = elim p [ ]

@@ -59,8 +59,8 @@ pub data Unsound : List Allele → ℕ → Type 0 where
   here : {a : Allele} {as′ : List Allele} → a .missing ≡ true → (a .number ≡ 0 → ⊥) → Unsound (a ∷ as′) 0
   later : {a : Allele} {as′ : List Allele} {k : ℕ} → (a .missing ≡ true → a .number ≡ 0) → Unsound as′ k → Unsound (a ∷ as′) (suc k)
 
--- a list that has no spelling: 11 where it is empty; 12 with that index; 13 below 4.4 where no allele is so, and the first phasing is
--- not the implied one
+-- a list that has no spelling: 11 where it is empty; 12 with that index; 13 where no allele is so, the file format is below 4.4 and the
+-- first phasing is not the implied one
 pub data Unspelled (late : Bool) : List Allele → Answer → Type 0 where
   empty : Unspelled late [] (says 11 [])
   bad : {as′ : List Allele} {k : ℕ} → Unsound as′ k → Unspelled late as′ (says 12 (k ∷ []))
