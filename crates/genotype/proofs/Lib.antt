@@ -16,6 +16,7 @@ pub mod BodyLaws
 pub mod MeansLaws
 pub mod BrokenLaws
 pub mod Exact
+pub mod Refusals
 pub mod Impostors
 pub mod Nearest
 pub mod ReaderLaws

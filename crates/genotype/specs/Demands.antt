@@ -1,6 +1,6 @@
 -- What demand 3 asks of any genotype reader, as a function on lists (docs/RULES.md, "Genotypes"; docs/STATEMENTS.md). Assumes
 -- nothing.
-use Prim.Native.Nat.{ℕ, _≤_}
+use Prim.Native.Nat.{ℕ, _≤_, _<_}
 use mathlib.Core.Path.{_≡_}
 use mathlib.Core.Logic.{_↔_}
 use mathlib.Core.List.{List, [], _∷_}
@@ -28,6 +28,11 @@ ReadsBroken reading = (t : List ℕ) (k : ℕ) → (reading t ≡ bad k) ↔ Bro
 -- it means one list at most
 abbrev pub MeansOne : Type 0
 MeansOne = (t : List ℕ) (as′ bs : List Allele) → Means t as′ → Means t bs → as′ ≡ bs
+
+-- a text that is not empty means a list, or has a first piece that is no allele, and never both
+pub record MeansOrBroken : Type 0 where
+  pub either : (t : List ℕ) → (t ≡ [] → ⊥) → ((as′ : List Allele) → Means t as′ → ⊥) → ((k : ℕ) → Broken t k → ⊥) → ⊥
+  pub never-both : (t : List ℕ) (as′ : List Allele) (k : ℕ) → Means t as′ → Broken t k → ⊥
 
 -- ---- readers
 
@@ -66,6 +71,30 @@ Exact read = (t : List ℕ) (row : List Allele) → ((as′ : List Allele) → M
 -- a refusal leaves the row as it was
 unfoldable pub Untouched : Reader → Type 0
 Untouched read = (t : List ℕ) (row : List Allele) → (numberOf (read t row .answer) ≡ 0 → ⊥) → read t row .row ≡ row
+
+-- the text means a list that is longer than the row
+pub record Longer (t : List ℕ) (row : List Allele) : Type 0 where
+  pub list : List Allele
+  pub means : Means t list
+  pub longer : length row < length list
+
+-- 11 exactly for the empty text; 12, with its index, exactly for the first piece that is no allele; 17 exactly for too long a list
+pub record RefusedAt (t : List ℕ) (row : List Allele) (a : Answer) : Type 0 where
+  pub empty : (a ≡ says 11 []) ↔ (t ≡ [])
+  pub broken : (k : ℕ) → (a ≡ says 12 (k ∷ [])) ↔ Broken t k
+  pub short : (a ≡ says 17 []) ↔ Longer t row
+
+unfoldable pub Refusals : Reader → Type 0
+Refusals read = (t : List ℕ) (row : List Allele) → RefusedAt t row (read t row .answer)
+
+pub record Meets (read : Reader) : Type 0 where
+  pub exact : Exact read
+  pub refusals : Refusals read
+  pub untouched : Untouched read
+
+-- two readers that meet these three give one answer and leave one row, for every text and row
+unfoldable pub OneReader : Type 0
+OneReader = (read other : Reader) → Meets read → Meets other → (t : List ℕ) (row : List Allele) → read t row ≡ other t row
 
 -- ---- the reader over slices
 
