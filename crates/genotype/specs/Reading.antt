@@ -92,9 +92,13 @@ listOf empty = []
 
 -- ---- one step
 
--- the next place, and the allele; or 12
+-- the next place, and the allele
+abbrev pub foundAnswer : ℕ → Allele → Answer
+foundAnswer next a = says 0 (next ∷ a .number ∷ oneIf (a .missing) ∷ oneIf (a .phased) ∷ [])
+
+-- or 12
 unfoldable pub alleleAnswer : ℕ → Option Allele → Answer
-alleleAnswer next (some a) = says 0 (next ∷ a .number ∷ oneIf (a .missing) ∷ oneIf (a .phased) ∷ [])
+alleleAnswer next (some a) = foundAnswer next a
 alleleAnswer next none = says 12 []
 
 -- the first allele of a text, and the place past it where the text stands at the place `at`
