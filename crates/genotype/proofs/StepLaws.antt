@@ -34,7 +34,7 @@ use Rattle.genotype.specs.declared.allele.Allele.{Allele}
 use Rattle.genotype.specs.declared.step.Step.{Step}
 use Rattle.genotype.specs.declared.step.Step.the-variants as S
 use Rattle.genotype.proofs.PaperLaws.{step-paper-injective}
-use Rattle.genotype.proofs.PieceLaws.{mark-bar, mark-slash, mark-none, in-bar, in-slash, in-plain, head-none, head-mark, head-more, head-le, head-take, parts-at}
+use Rattle.genotype.proofs.PieceLaws.{mark-bar, mark-slash, mark-none, in-bar, in-slash, in-plain, head-none, head-mark, head-more, head-le, head-take, parts-at, parts-end}
 
 -- ---- the next mark
 
@@ -216,6 +216,18 @@ module _ {t : List ℕ} {at : ℕ} where
   unfolding alleleAnswer
   wrong-says f = step-here t at (f .before) ∙ rw (f .first)
 
+-- where parts begin with one from a place on, it is that of the place
+pub record Opens (t : List ℕ) (at : ℕ) (o : Option Allele) : Type 0 where
+  pub before : at < length t
+  pub first : firstAt t at ≡ o
+
+pub parts-open : (t : List ℕ) (at : ℕ) {o : Option Allele} {ps : List (Option Allele)} → partsOf (drop at t) ≡ o ∷ ps → Opens t at o
+parts-open t at {o} {ps} e = by (ltb at (length t)) refl
+  where
+    by : (c : Bool) → ltb at (length t) ≡ c → Opens t at o
+    by true h = let l = ltb-true _ _ h in record { before = l; first = let q = sym (parts-at t at l) ∙ e in cc }
+    by false h = let q = sym (parts-end t at (ltb-false _ _ h)) ∙ e in let z : _≡_ {A = ℕ} 0 1 = cc in absurd (omega arith)
+
 -- every place has an answer
 pub record Answered (t : List ℕ) (at : ℕ) : Type 0 where
   pub step : Step
@@ -245,6 +257,16 @@ answered t at = placed (ltb (length t) at) refl
 -- an answer tells what the definition, whose paper it has, says
 pub step-means : (t : List ℕ) (at : ℕ) (x : Step) → stepPaper x ≡ stepAnswer t at → StepTells t at x
 step-means t at x e = let g = answered t at in rw (step-paper-injective x (g .step) (e ∙ sym (g .is))) (g .tells)
+
+-- the same of an answer on paper
+module _ (t : List ℕ) (at : ℕ) where
+  pub says-found : (a : Allele) (to : ℕ) → stepAnswer t at ≡ foundAnswer to a → Further t at a to
+  unfolding stepPaper
+  says-found a to e = step-means t at (S.Found a to) (sym e)
+
+  pub says-bad : stepAnswer t at ≡ says 12 [] → Wrong t at
+  unfolding stepPaper
+  says-bad e = step-means t at S.Bad (sym e)
 
 -- a step that finds an allele moves on
 module _ (t : List ℕ) (at : ℕ) (x : Step) (e : stepPaper x ≡ stepAnswer t at) (a : Allele) (next : ℕ) (q : x ≡ S.Found a next) where
