@@ -1,5 +1,5 @@
--- What demand 3 asks of any genotype reader, as a function on lists (docs/RULES.md, "Genotypes"; docs/STATEMENTS.md). Assumes
--- nothing.
+-- What demand 3 asks of any genotype reader, and what is asked of any step, as functions on lists (docs/RULES.md, "Genotypes";
+-- docs/STATEMENTS.md). Assumes nothing.
 use Prim.Native.Nat.{ℕ, _+_, _≤_, _<_}
 use mathlib.Core.Path.{_≡_}
 use mathlib.Core.Logic.{_↔_}
