@@ -12,7 +12,7 @@ use Rattle.text.specs.Pick.{pick}
 use Rattle.pieces.specs.Demands.{Free}
 use Rattle.pieces.proofs.PieceLaws.{free-nil, free-cons, free-head, free-tail}
 use Rattle.genotype.specs.Reading.{isMark, headOf, markedPieces, bodied, alleleIn, impliedBy, impliedOf, partsOf, Reading, list, bad, empty, with, gathered, readingOf}
-use Rattle.genotype.specs.Means.{markByte, Body, Ends, at-end, at-mark, Bad, BrokenLater, bad-here, bad-later, Broken, bad-marked, bad-bare, bad-after}
+use Rattle.genotype.specs.Means.{Ends, at-end, at-mark, Bad, BrokenLater, bad-here, bad-later, Broken, bad-marked, bad-bare, bad-after}
 use Rattle.genotype.specs.Demands.{ReadsBroken}
 use Rattle.genotype.specs.declared.allele.Allele.{Allele}
 use Rattle.genotype.proofs.PieceLaws.{mark-none, head-none, head-mark, head-more, head-take, parts-none, parts-first, parts-marked}
@@ -69,7 +69,7 @@ none-read (b ∷ s) k n = let z : 0 + k ≡ k = omega arith in reading-some (b �
 
 -- ---- where a piece ends
 
-ends-head : {s : List ℕ} → Ends s → headOf s ≡ []
+pub ends-head : {s : List ℕ} → Ends s → headOf s ≡ []
 ends-head at-end = head-none
 ends-head (at-mark {b} {rest} p m) = head-mark b rest (mark-is p m)
 
@@ -78,10 +78,10 @@ broken-head (bad-here {b} {t} {rest} p m g) = head-mark b (t ++ rest) (mark-is p
 broken-head (bad-later {b} {t} {rest} {a} m c l) = head-mark b (t ++ rest) (mark-is (a .phased) m)
 
 -- behind the bytes before the first mark
-abbrev behind : List ℕ → List ℕ
+abbrev pub behind : List ℕ → List ℕ
 behind s = drop (length (headOf s)) s
 
-head-ends : (s : List ℕ) → Ends (behind s)
+pub head-ends : (s : List ℕ) → Ends (behind s)
 head-ends [] = rw head-none at-end
 head-ends (b ∷ s) = by (isMark b) refl (head-ends s)
   where
@@ -89,7 +89,7 @@ head-ends (b ∷ s) = by (isMark b) refl (head-ends s)
     by true m h = let k = mark-of b m in rw (head-mark b s m) (at-mark (k .phasing) (k .is))
     by false m h = rw (head-more b s m) h
 
-head-whole : (s : List ℕ) → headOf s ++ behind s ≡ s
+pub head-whole : (s : List ℕ) → headOf s ++ behind s ≡ s
 head-whole s = rw (head-take s) at (take-append-drop (length (headOf s)) s)
 
 free-quiet : (t : List ℕ) → Free 124 t → Free 47 t → Quiet t
@@ -121,7 +121,7 @@ later-none i (bad-later {b} {t} {rest} {a} m c l) =
     rw (mark-is (a .phased) m, head-quiet rest (body-quiet c) (broken-head l), pieces-quiet rest (body-quiet c), marked-allele i m c) (later (later-none i l))
 
 -- a first piece without its mark, and what is behind it
-bare-parts : (t rest : List ℕ) → Quiet t → 0 < length t → headOf rest ≡ []
+pub bare-parts : (t rest : List ℕ) → Quiet t → 0 < length t → headOf rest ≡ []
     → partsOf (t ++ rest) ≡ bodied (impliedOf (t ++ rest)) t ∷ map (alleleIn (impliedOf (t ++ rest))) (markedPieces rest)
 unfolding impliedOf
 bare-parts [] rest q h e = absurd (omega arith)

@@ -1,7 +1,7 @@
--- Readers that nobody would accept do not meet demand 3: each is found out by texts of one digit and a row of one. Assumes
+-- Readers and steppers that nobody would accept do not meet what is asked: each is found out by texts of one or two digits. Assumes
 -- nothing.
 use Prim.Native.Nat.{ℕ, _+_, _<_}
-use mathlib.Core.Path.{_≡_, sym, ap, _∙_}
+use mathlib.Core.Path.{_≡_, refl, sym, ap, _∙_}
 use mathlib.Core.Bool.{true, false}
 use mathlib.Core.List.{List, [], _∷_}
 use native.Mathlib.Omega.{arith}
@@ -9,13 +9,18 @@ use native.Mathlib.Decide.{ℕ-discrete}
 use Rattle.text.specs.Answer.{says, numberOf}
 use Rattle.text.specs.Over.{over}
 use Rattle.text.proofs.Lists.{over-is}
-use Rattle.genotype.specs.Means.{none, Means, bare}
-use Rattle.genotype.specs.Demands.{Reader, reader, Stands, ExactAt, Exact}
+use Rattle.pieces.proofs.PieceLaws.{free-nil}
+use Rattle.pieces.proofs.CountLaws.{lacks-none}
+use Rattle.genotype.specs.Reading.{foundAnswer, stepAnswer}
+use Rattle.genotype.specs.Means.{none, more, Means, bare, at-end, without, bad-here, Broken, bad-after}
+use Rattle.genotype.specs.Demands.{Reader, reader, Stands, ExactAt, Exact, Refusals, Stepper, Walk, next, Visits, Steps, OneStepper}
 use Rattle.genotype.specs.declared.allele.Allele.{Allele}
-use Rattle.genotype.proofs.PhasedLaws.{phased-none}
+use Rattle.genotype.proofs.PhasedLaws.{phased-none, phased-more}
 use Rattle.genotype.proofs.MeansLaws.{means-one}
-use Rattle.genotype.proofs.BodyLaws.{digit-body}
+use Rattle.genotype.proofs.BodyLaws.{body-some, digit-body}
 use Rattle.genotype.proofs.Exact.{exact}
+use Rattle.genotype.proofs.Refusals.{refusals}
+use Rattle.genotype.proofs.Steps.{steps, one-stepper}
 
 -- an allele alone is phased, since no mark follows
 abbrev lone : ℕ → Allele
@@ -23,6 +28,10 @@ lone n = record { number = n; missing = false; phased = true }
 
 digit-means : (n : ℕ) → n < 10 → Means ((48 + n) ∷ []) (lone n ∷ [])
 digit-means n h = bare (sym phased-none) (digit-body n true h) none
+
+-- `0|1`, by which steps are tried
+pair-means : Means (48 ∷ 124 ∷ 49 ∷ []) (lone 0 ∷ lone 1 ∷ [])
+pair-means = bare (sym (phased-more _ _ ∙ phased-none)) (digit-body 0 true (omega arith)) (more refl (digit-body 1 true (omega arith)) none)
 
 -- an exact reader, given one digit and a row of one
 module _ (read : Reader) (x : Exact read) (n : ℕ) (h : n < 10) where
@@ -76,3 +85,42 @@ invented-count read f x =
     let b = digit-count read x 0 (omega arith) in
     let z : _≡_ {A = ℕ} 2 1 = cc in
     omega arith
+
+-- `0|` is broken at its second piece
+cut-broken : Broken (48 ∷ 124 ∷ []) 1
+cut-broken =
+    bad-after (digit-body 0 true (omega arith))
+    (bad-here true refl (record { no-bar = free-nil; no-slash = free-nil; ends = at-end; no-body = λ a c. absurd (omega (arith, body-some c)) }))
+
+-- one that says of every bad text that its first piece is bad
+pub invented-index : (read : Reader)
+    → ((t : List ℕ) (row : List Allele) (k : ℕ) → reader t row .answer ≡ says 12 (k ∷ []) → read t row .answer ≡ says 12 (0 ∷ []))
+    → Refusals read → ⊥
+unfolding Refusals
+invented-index read f x =
+    let a = f _ [] 1 (refusals _ [] .broken 1 .1 cut-broken) in
+    let b = x _ [] .broken 1 .1 cut-broken in
+    let z : _≡_ {A = ℕ} 0 1 = cc in
+    omega arith
+
+-- ---- steppers
+
+-- one whose next place lies too far by one
+pub invented-next : (step : Stepper)
+    → ((t : List ℕ) (at next : ℕ) (a : Allele) → stepAnswer t at ≡ foundAnswer next a → step t at ≡ foundAnswer (next + 1) a)
+    → Steps step → ⊥
+unfolding Steps OneStepper
+invented-next step f x =
+    let g = without {rest = []} (sym (lacks-none 47)) (digit-body 0 true (omega arith)) at-end in
+    let e = steps (48 ∷ []) 0 .found (lone 0) 1 .1 g in
+    let a = f (48 ∷ []) 0 1 (lone 0) e in
+    let b = one-stepper step stepAnswer x steps (48 ∷ []) 0 in
+    let z : _≡_ {A = ℕ} 2 1 = cc in
+    omega arith
+
+-- one that is right at the first step and then answers 10
+pub stops-early : (step : Stepper) → ((t : List ℕ) (at : ℕ) → 0 < at → step t at ≡ says 10 []) → Visits step → ⊥
+stops-early step f x = by (x .means _ _ .0 pair-means)
+  where
+    by : Walk step (48 ∷ 124 ∷ 49 ∷ []) 0 (lone 0 ∷ lone 1 ∷ []) → ⊥
+    by (next e h (next {at = at} g i w)) = let z = ap numberOf (sym g ∙ f _ at (omega arith)) in omega arith

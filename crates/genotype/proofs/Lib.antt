@@ -16,6 +16,9 @@ pub mod BodyLaws
 pub mod MeansLaws
 pub mod BrokenLaws
 pub mod Exact
+pub mod Refusals
+pub mod Visits
+pub mod Steps
 pub mod Impostors
 pub mod Nearest
 pub mod ReaderLaws

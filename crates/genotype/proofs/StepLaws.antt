@@ -11,6 +11,7 @@ use denote.Enum.Declared.{tagOf}
 use lib.ListN.{length, getD, take, drop, drop-of-length-le, length-drop}
 use lib.Dec.{ltb}
 use borrow.Author.Tests.{ltb-true, ltb-false, le-leb, lt-leb}
+use Rattle.text.specs.Answer.{says}
 use Rattle.text.specs.Same.{same}
 use Rattle.text.specs.declared.range.Range.{Range}
 use Rattle.text.proofs.Lists.{here}
@@ -27,13 +28,13 @@ use Rattle.pieces.proofs.step.Step as E
 use Rattle.pieces.proofs.PieceLaws.{split-count, split-some}
 use Rattle.pieces.proofs.CountLaws.{lacks-none, lacks-yes, lacks-no}
 use Rattle.pieces.proofs.StepLaws.{step-tells}
-use Rattle.genotype.specs.Reading.{isMark, headOf, numbered, bodied, alleleIn, impliedBy, partsOf, alleleAnswer, firstAnswer, fromAnswer, stepAnswer}
+use Rattle.genotype.specs.Reading.{isMark, headOf, numbered, bodied, alleleIn, impliedBy, partsOf, foundAnswer, alleleAnswer, firstAnswer, fromAnswer, stepAnswer}
 use Rattle.genotype.specs.Paper.{stepPaper}
 use Rattle.genotype.specs.declared.allele.Allele.{Allele}
 use Rattle.genotype.specs.declared.step.Step.{Step}
 use Rattle.genotype.specs.declared.step.Step.the-variants as S
 use Rattle.genotype.proofs.PaperLaws.{step-paper-injective}
-use Rattle.genotype.proofs.PieceLaws.{mark-bar, mark-slash, mark-none, in-bar, in-slash, in-plain, head-none, head-mark, head-more, head-le, head-take, parts-at}
+use Rattle.genotype.proofs.PieceLaws.{mark-bar, mark-slash, mark-none, in-bar, in-slash, in-plain, head-none, head-mark, head-more, head-le, head-take, parts-at, parts-end}
 
 -- ---- the next mark
 
@@ -178,12 +179,22 @@ pub record Wrong (t : List ℕ) (at : ℕ) : Type 0 where
   pub others : List (Option Allele)
   pub parts : partsOf (drop at t) ≡ none ∷ others
 
+-- the end of a text that is not empty
+pub record AtEnd (t : List ℕ) (at : ℕ) : Type 0 where
+  pub is : at ≡ length t
+  pub some : length t ≡ 0 → ⊥
+
+-- the empty text
+pub record NoText (t : List ℕ) (at : ℕ) : Type 0 where
+  pub none : length t ≡ 0
+  pub start : at ≡ 0
+
 -- what each answer of a step tells
 abbrev pub StepTells : List ℕ → ℕ → Step → Type 0
 StepTells t at (S.Found a next) = Further t at a next
 StepTells t at S.Beyond = length t < at
-StepTells t at S.Nothing = at ≡ length t
-StepTells t at S.Empty = length t ≡ 0
+StepTells t at S.Nothing = AtEnd t at
+StepTells t at S.Empty = NoText t at
 StepTells t at S.Bad = Wrong t at
 
 module _ (t : List ℕ) (at : ℕ) (h : at < length t) where
@@ -196,30 +207,66 @@ module _ (t : List ℕ) (at : ℕ) (h : at < length t) where
   pub wrong-at : firstAt t at ≡ none → Wrong t at
   wrong-at q = record { first = q; before = h; others = _; parts = rw q at (parts-at t at h) }
 
--- an answer tells what the definition, whose paper it has, says
-pub step-means : (t : List ℕ) (at : ℕ) (x : Step) → stepPaper x ≡ stepAnswer t at → StepTells t at x
-unfolding stepPaper alleleAnswer
-step-means t at x e = placed (ltb (length t) at) refl
+module _ {t : List ℕ} {at : ℕ} where
+  pub further-says : {a : Allele} {next : ℕ} → Further t at a next → stepAnswer t at ≡ foundAnswer next a
+  unfolding alleleAnswer
+  further-says f = step-here t at (omega (arith, f .past, f .within)) ∙ rw (f .first, f .ends)
+
+  pub wrong-says : Wrong t at → stepAnswer t at ≡ says 12 []
+  unfolding alleleAnswer
+  wrong-says f = step-here t at (f .before) ∙ rw (f .first)
+
+-- where parts begin with one from a place on, it is that of the place
+pub record Opens (t : List ℕ) (at : ℕ) (o : Option Allele) : Type 0 where
+  pub before : at < length t
+  pub first : firstAt t at ≡ o
+
+pub parts-open : (t : List ℕ) (at : ℕ) {o : Option Allele} {ps : List (Option Allele)} → partsOf (drop at t) ≡ o ∷ ps → Opens t at o
+parts-open t at {o} {ps} e = by (ltb at (length t)) refl
   where
-    -- x is y, where y has that paper too
-    is : (y : Step) → stepPaper y ≡ stepAnswer t at → StepTells t at y → StepTells t at x
-    is y f d = rw (step-paper-injective x y (e ∙ sym f)) d
+    by : (c : Bool) → ltb at (length t) ≡ c → Opens t at o
+    by true h = let l = ltb-true _ _ h in record { before = l; first = let q = sym (parts-at t at l) ∙ e in cc }
+    by false h = let q = sym (parts-end t at (ltb-false _ _ h)) ∙ e in let z : _≡_ {A = ℕ} 0 1 = cc in absurd (omega arith)
 
-    some-left : at < length t → (o : Option Allele) → firstAt t at ≡ o → StepTells t at x
-    some-left h (some a) q = is (S.Found a (pastAt t at)) (sym (step-here t at h ∙ rw q)) (further-at t at h a q)
-    some-left h none q = is S.Bad (sym (step-here t at h ∙ rw q)) (wrong-at t at h q)
+-- every place has an answer
+pub record Answered (t : List ℕ) (at : ℕ) : Type 0 where
+  pub step : Step
+  pub is : stepPaper step ≡ stepAnswer t at
+  pub tells : StepTells t at step
 
-    ended : at ≡ length t → Dec (length t ≡ 0) → StepTells t at x
-    ended z (yes n) = is S.Empty (step-empty t at (omega arith) n) n
-    ended z (no n) = is S.Nothing (step-nothing t at n z) z
+pub answered : (t : List ℕ) (at : ℕ) → Answered t at
+unfolding stepPaper
+answered t at = placed (ltb (length t) at) refl
+  where
+    some-left : at < length t → (o : Option Allele) → firstAt t at ≡ o → Answered t at
+    some-left h (some a) q = let f = further-at t at h a q in record { step = S.Found a (pastAt t at); is = sym (further-says f); tells = f }
+    some-left h none q = let f = wrong-at t at h q in record { step = S.Bad; is = sym (wrong-says f); tells = f }
 
-    reached : at ≤ length t → (c : Bool) → ltb at (length t) ≡ c → StepTells t at x
+    ended : at ≡ length t → Dec (length t ≡ 0) → Answered t at
+    ended z (yes n) = record { step = S.Empty; is = step-empty t at (omega arith) n; tells = record { none = n; start = omega arith } }
+    ended z (no n) = record { step = S.Nothing; is = step-nothing t at n z; tells = record { is = z; some = n } }
+
+    reached : at ≤ length t → (c : Bool) → ltb at (length t) ≡ c → Answered t at
     reached w true h = some-left (ltb-true _ _ h) (firstAt t at) refl
     reached w false h = let l = ltb-false at (length t) h in ended (omega arith) (ℕ-discrete (length t) 0)
 
-    placed : (c : Bool) → ltb (length t) at ≡ c → StepTells t at x
-    placed true h = let l = ltb-true _ _ h in is S.Beyond (step-beyond t at l) l
+    placed : (c : Bool) → ltb (length t) at ≡ c → Answered t at
+    placed true h = let l = ltb-true _ _ h in record { step = S.Beyond; is = step-beyond t at l; tells = l }
     placed false h = reached (ltb-false _ _ h) (ltb at (length t)) refl
+
+-- an answer tells what the definition, whose paper it has, says
+pub step-means : (t : List ℕ) (at : ℕ) (x : Step) → stepPaper x ≡ stepAnswer t at → StepTells t at x
+step-means t at x e = let g = answered t at in rw (step-paper-injective x (g .step) (e ∙ sym (g .is))) (g .tells)
+
+-- the same of an answer on paper
+module _ (t : List ℕ) (at : ℕ) where
+  pub says-found : (a : Allele) (to : ℕ) → stepAnswer t at ≡ foundAnswer to a → Further t at a to
+  unfolding stepPaper
+  says-found a to e = step-means t at (S.Found a to) (sym e)
+
+  pub says-bad : stepAnswer t at ≡ says 12 [] → Wrong t at
+  unfolding stepPaper
+  says-bad e = step-means t at S.Bad (sym e)
 
 -- a step that finds an allele moves on
 module _ (t : List ℕ) (at : ℕ) (x : Step) (e : stepPaper x ≡ stepAnswer t at) (a : Allele) (next : ℕ) (q : x ≡ S.Found a next) where

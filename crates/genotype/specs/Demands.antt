@@ -1,17 +1,17 @@
--- What demand 3 asks of any genotype reader, as a function on lists (docs/RULES.md, "Genotypes"; docs/STATEMENTS.md). Assumes
--- nothing.
-use Prim.Native.Nat.{ℕ, _≤_}
+-- What demand 3 asks of any genotype reader, and what is asked of any step, as functions on lists (docs/RULES.md, "Genotypes";
+-- docs/STATEMENTS.md). Assumes nothing.
+use Prim.Native.Nat.{ℕ, _+_, _≤_, _<_}
 use mathlib.Core.Path.{_≡_}
 use mathlib.Core.Logic.{_↔_}
 use mathlib.Core.List.{List, [], _∷_}
-use lib.ListN.{length}
+use lib.ListN.{length, drop}
 use Rattle.text.specs.Answer.{Answer, says, numberOf}
 use Rattle.text.specs.Over.{over}
-use Rattle.genotype.specs.Reading.{Reading, list, bad, readingOf}
+use Rattle.genotype.specs.Reading.{Reading, list, bad, readingOf, foundAnswer}
 use Rattle.genotype.specs.Row.{rowOf}
 use Rattle.genotype.specs.Paper.{readPaper}
 use Rattle.genotype.specs.Answers.{readAnswer, rowRead, Parallel, ReadsText}
-use Rattle.genotype.specs.Means.{Means, Broken}
+use Rattle.genotype.specs.Means.{Means, Begins, Broken}
 use Rattle.genotype.specs.declared.allele.Allele.{Allele}
 use Rattle.genotype.specs.declared.read.Read.{Read}
 
@@ -28,6 +28,11 @@ ReadsBroken reading = (t : List ℕ) (k : ℕ) → (reading t ≡ bad k) ↔ Bro
 -- it means one list at most
 abbrev pub MeansOne : Type 0
 MeansOne = (t : List ℕ) (as′ bs : List Allele) → Means t as′ → Means t bs → as′ ≡ bs
+
+-- a text that is not empty means a list, or has a first piece that is no allele, and never both
+pub record MeansOrBroken : Type 0 where
+  pub either : (t : List ℕ) → (t ≡ [] → ⊥) → ((as′ : List Allele) → Means t as′ → ⊥) → ((k : ℕ) → Broken t k → ⊥) → ⊥
+  pub never-both : (t : List ℕ) (as′ : List Allele) (k : ℕ) → Means t as′ → Broken t k → ⊥
 
 -- ---- readers
 
@@ -66,6 +71,68 @@ Exact read = (t : List ℕ) (row : List Allele) → ((as′ : List Allele) → M
 -- a refusal leaves the row as it was
 unfoldable pub Untouched : Reader → Type 0
 Untouched read = (t : List ℕ) (row : List Allele) → (numberOf (read t row .answer) ≡ 0 → ⊥) → read t row .row ≡ row
+
+-- the text means a list that is longer than the row
+pub record Longer (t : List ℕ) (row : List Allele) : Type 0 where
+  pub list : List Allele
+  pub means : Means t list
+  pub longer : length row < length list
+
+-- 11 exactly for the empty text; 12, with its index, exactly for the first piece that is no allele; 17 exactly for too long a list
+pub record RefusedAt (t : List ℕ) (row : List Allele) (a : Answer) : Type 0 where
+  pub empty : (a ≡ says 11 []) ↔ (t ≡ [])
+  pub broken : (k : ℕ) → (a ≡ says 12 (k ∷ [])) ↔ Broken t k
+  pub short : (a ≡ says 17 []) ↔ Longer t row
+
+unfoldable pub Refusals : Reader → Type 0
+Refusals read = (t : List ℕ) (row : List Allele) → RefusedAt t row (read t row .answer)
+
+pub record Meets (read : Reader) : Type 0 where
+  pub exact : Exact read
+  pub refusals : Refusals read
+  pub untouched : Untouched read
+
+-- two readers that meet these three give one answer and leave one row, for every text and row
+unfoldable pub OneReader : Type 0
+OneReader = (read other : Reader) → Meets read → Meets other → (t : List ℕ) (row : List Allele) → read t row ≡ other t row
+
+-- ---- steps
+
+-- a stepper is given a text and a place, and answers on paper
+abbrev pub Stepper : Type 0
+Stepper = List ℕ → ℕ → Answer
+
+-- steps from a place on give these alleles, one after the other, and then 10
+pub data Walk (step : Stepper) (t : List ℕ) : ℕ → List Allele → Type 0 where
+  end : {at : ℕ} → step t at ≡ says 10 [] → Walk step t at []
+  next : {at to : ℕ} {a : Allele} {as′ : List Allele} → step t at ≡ foundAnswer to a → at < to → Walk step t to as′ → Walk step t at (a ∷ as′)
+
+-- k steps from a place on give an allele, and then comes 12
+pub data Breaks (step : Stepper) (t : List ℕ) : ℕ → ℕ → Type 0 where
+  stop : {at : ℕ} → step t at ≡ says 12 [] → Breaks step t at 0
+  past : {at to k : ℕ} (a : Allele) → step t at ≡ foundAnswer to a → at < to → Breaks step t to k → Breaks step t at (k + 1)
+
+-- from place 0 the steps give the alleles of the list that the text means, each once and in order, and then 10; a text that means
+-- none is refused at its first piece that is no allele, and the empty text at once
+pub record Visits (step : Stepper) : Type 0 where
+  pub means : (t : List ℕ) (as′ : List Allele) → Means t as′ ↔ Walk step t 0 as′
+  pub broken : (t : List ℕ) (k : ℕ) → Broken t k ↔ Breaks step t 0 k
+  pub empty : step [] 0 ≡ says 11 []
+
+-- what each number says of the text from the place on
+pub record StepsAt (t : List ℕ) (at : ℕ) (s : Answer) : Type 0 where
+  pub found : (a : Allele) (n : ℕ) → (s ≡ foundAnswer (at + n) a) ↔ Begins (drop at t) a n
+  pub beyond : (s ≡ says 6 []) ↔ (length t < at)
+  pub ended : (s ≡ says 10 []) ↔ ((0 < length t) × (at ≡ length t))
+  pub empty : (s ≡ says 11 []) ↔ ((length t ≡ 0) × (at ≡ 0))
+  pub bad : (s ≡ says 12 []) ↔ Broken (drop at t) 0
+
+unfoldable pub Steps : Stepper → Type 0
+Steps step = (t : List ℕ) (at : ℕ) → StepsAt t at (step t at)
+
+-- two steppers that meet this give one answer from every place of every text
+unfoldable pub OneStepper : Type 0
+OneStepper = (step other : Stepper) → Steps step → Steps other → (t : List ℕ) (at : ℕ) → step t at ≡ other t at
 
 -- ---- the reader over slices
 

@@ -5,6 +5,7 @@ use mathlib.Core.Bool.{Bool, true, false, _&&_}
 use mathlib.Core.List.{List, [], _∷_, _++_}
 use lib.ListN.{length}
 use Rattle.decimal.specs.Demands.{Decimal}
+use Rattle.pieces.specs.Pieces.{lacks}
 use Rattle.pieces.specs.Demands.{Free}
 use Rattle.genotype.specs.declared.allele.Allele.{Allele}
 
@@ -33,12 +34,19 @@ pub data Means : List ℕ → List Allele → Type 0 where
   marked : {b : ℕ} {t rest : List ℕ} {a : Allele} {as′ : List Allele} → b ≡ markByte (a .phased) → Body t a → Later rest as′ → Means (b ∷ t ++ rest) (a ∷ as′)
   bare : {t rest : List ℕ} {a : Allele} {as′ : List Allele} → a .phased ≡ allPhased as′ → Body t a → Later rest as′ → Means (t ++ rest) (a ∷ as′)
 
--- ---- texts that mean none
+-- ---- one piece
 
 -- where a piece ends: at the text's end, or before a mark
 pub data Ends : List ℕ → Type 0 where
   at-end : Ends []
   at-mark : {b : ℕ} {rest : List ℕ} (phased : Bool) → b ≡ markByte phased → Ends (b ∷ rest)
+
+-- the allele that begins a text, and how many bytes it takes: with its mark; or without, and then phased where the rest has no `/`
+pub data Begins : List ℕ → Allele → ℕ → Type 0 where
+  with-mark : {b : ℕ} {t rest : List ℕ} {a : Allele} → b ≡ markByte (a .phased) → Body t a → Ends rest → Begins (b ∷ t ++ rest) a (length (b ∷ t))
+  without : {t rest : List ℕ} {a : Allele} → a .phased ≡ lacks 47 rest → Body t a → Ends rest → Begins (t ++ rest) a (length t)
+
+-- ---- texts that mean none
 
 -- what is left of a piece is no allele
 pub record Bad (t rest : List ℕ) : Type 0 where

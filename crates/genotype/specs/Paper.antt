@@ -1,15 +1,14 @@
 -- The number on paper, and the values, of each answer of this crate (docs/RULES.md, "Numbers answered"). Assumes nothing.
 use mathlib.Core.List.{[], _∷_}
 use Rattle.text.specs.Answer.{Answer, says}
-use Rattle.text.specs.Pick.{oneIf}
+use Rattle.genotype.specs.Reading.{foundAnswer}
 use Rattle.genotype.specs.declared.step.Step.{Step}
 use Rattle.genotype.specs.declared.step.Step.the-variants as S
 use Rattle.genotype.specs.declared.read.Read.{Read}
 use Rattle.genotype.specs.declared.read.Read.the-variants as R
 
--- the next place, and the allele
 unfoldable pub stepPaper : Step → Answer
-stepPaper (S.Found a next) = says 0 (next ∷ a .number ∷ oneIf (a .missing) ∷ oneIf (a .phased) ∷ [])
+stepPaper (S.Found a next) = foundAnswer next a
 stepPaper S.Beyond = says 6 []
 stepPaper S.Nothing = says 10 []
 stepPaper S.Empty = says 11 []

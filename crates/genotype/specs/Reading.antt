@@ -1,6 +1,5 @@
 -- What a genotype text reads as (docs/RULES.md, "Genotypes"): cut it, read each piece. Assumes nothing.
 use Prim.Native.Nat.{ℕ, _+_}
-use mathlib.Core.Path.{_≡_}
 use mathlib.Core.Bool.{Bool, true, false, _||_}
 use mathlib.Core.List.{List, [], _∷_, map}
 use mathlib.Core.Option.{Option, some, none}
@@ -92,9 +91,13 @@ listOf empty = []
 
 -- ---- one step
 
--- the next place, and the allele; or 12
+-- the next place, and the allele
+abbrev pub foundAnswer : ℕ → Allele → Answer
+foundAnswer next a = says 0 (next ∷ a .number ∷ oneIf (a .missing) ∷ oneIf (a .phased) ∷ [])
+
+-- or 12
 unfoldable pub alleleAnswer : ℕ → Option Allele → Answer
-alleleAnswer next (some a) = says 0 (next ∷ a .number ∷ oneIf (a .missing) ∷ oneIf (a .phased) ∷ [])
+alleleAnswer next (some a) = foundAnswer next a
 alleleAnswer next none = says 12 []
 
 -- the first allele of a text, and the place past it where the text stands at the place `at`

@@ -1,0 +1,159 @@
+-- Our reader refuses with the number and index that the demands say, by what the text reads as; and demands that say so much leave
+-- one reader. Assumes nothing.
+use Prim.Native.Nat.{ℕ, _+_, _≤_}
+use mathlib.Core.Path.{_≡_, refl, sym, ap, _∙_}
+use mathlib.Core.List.{List, [], _∷_}
+use mathlib.Core.Option.{Option, some, none}
+use native.Mathlib.Omega.{arith}
+use native.Mathlib.Decide.{ℕ-discrete, decLe}
+use lib.ListN.{length}
+use Rattle.text.specs.Answer.{Answer, says, numberOf}
+use Rattle.genotype.specs.Reading.{Reading, list, bad, empty, with, gathered, readingOf, partsOf}
+use Rattle.genotype.specs.Answers.{readAnswer}
+use Rattle.genotype.specs.Means.{Means, Broken}
+use Rattle.genotype.specs.Demands.{MeansOrBroken, Outcome, Reader, reader, Stands, ExactAt, Exact, Untouched, Longer, RefusedAt, Refusals, Meets, OneReader}
+use Rattle.genotype.specs.declared.allele.Allele.{Allele}
+use Rattle.genotype.proofs.JudgeLaws.{reading-some, reading-none}
+use Rattle.genotype.proofs.AnswerLaws.{answer-list, answer-short, answer-bad, answer-empty}
+use Rattle.genotype.proofs.MeansLaws.{reads-means, means-one}
+use Rattle.genotype.proofs.BrokenLaws.{reads-broken}
+
+-- ---- a text is empty, or means a list, or is broken
+
+gathered-some : (k : ℕ) (ps : List (Option Allele)) → gathered k ps ≡ empty → ⊥
+unfolding gathered with
+gathered-some k [] e = let z : _≡_ {A = ℕ} 0 1 = cc in omega arith
+gathered-some k (none ∷ ps) e = let z : _≡_ {A = ℕ} 0 1 = cc in omega arith
+gathered-some k (some a ∷ ps) e = by (gathered (k + 1) ps) refl e (gathered-some (k + 1) ps)
+  where
+    by : (r : Reading) → gathered (k + 1) ps ≡ r → with a r ≡ empty → (gathered (k + 1) ps ≡ empty → ⊥) → ⊥
+    by (list as′) g e n = let z : _≡_ {A = ℕ} 0 1 = cc in omega arith
+    by (bad j) g e n = let z : _≡_ {A = ℕ} 0 1 = cc in omega arith
+    by empty g e n = n g
+
+reading-empty : (t : List ℕ) → readingOf t ≡ empty → t ≡ []
+reading-empty [] e = refl
+reading-empty (b ∷ s) e = absurd (gathered-some 0 (partsOf (b ∷ s)) (sym (reading-some (b ∷ s) (λ z. omega arith)) ∙ e))
+
+module _ (t : List ℕ) where
+  means-some : {as′ : List Allele} → Means t as′ → t ≡ [] → ⊥
+  means-some {as′} m e =
+      let r = reads-means t as′ .1 m in
+      let n = reading-none t (ap length e) in
+      let z : _≡_ {A = ℕ} 0 1 = cc in
+      omega arith
+
+  broken-some : {k : ℕ} → Broken t k → t ≡ [] → ⊥
+  broken-some {k} g e =
+      let r = reads-broken t k .1 g in
+      let n = reading-none t (ap length e) in
+      let z : _≡_ {A = ℕ} 0 1 = cc in
+      omega arith
+
+  means-whole : {as′ : List Allele} {k : ℕ} → Means t as′ → Broken t k → ⊥
+  means-whole {as′} {k} m g =
+      let r = reads-means t as′ .1 m in
+      let n = reads-broken t k .1 g in
+      let z : _≡_ {A = ℕ} 0 1 = cc in
+      omega arith
+
+  broken-one : {j k : ℕ} → Broken t j → Broken t k → j ≡ k
+  broken-one {j} {k} g h =
+      let r = reads-broken t j .1 g in
+      let n = reads-broken t k .1 h in
+      cc
+
+pub means-or-broken : MeansOrBroken
+means-or-broken = record { either = λ t e m g. by t e m g (readingOf t) refl; never-both = λ t as′ k. means-whole t }
+  where
+    by : (t : List ℕ) → (t ≡ [] → ⊥) → ((as′ : List Allele) → Means t as′ → ⊥) → ((k : ℕ) → Broken t k → ⊥) → (r : Reading) → readingOf t ≡ r → ⊥
+    by t e m g (list as′) q = m as′ (reads-means t as′ .0 q)
+    by t e m g (bad k) q = g k (reads-broken t k .0 q)
+    by t e m g empty q = e (reading-empty t q)
+
+-- ---- which number, and when
+
+pub refusals : Refusals reader
+unfolding Refusals reader
+refusals t row = by (readingOf t) refl
+  where
+    held : (as′ : List Allele) → Means t as′ → Dec (length as′ ≤ length row) → RefusedAt t row (readAnswer (list as′) (length row))
+    held as′ m (yes h) =
+        rw (answer-list (length row) as′ h)
+        (record {
+          empty = (λ z. absurd (omega (arith, ap numberOf z)), λ z. absurd (means-some t m z));
+          broken = λ k. (λ z. absurd (omega (arith, ap numberOf z)), λ g. absurd (means-whole t m g));
+          short = (λ z. absurd (omega (arith, ap numberOf z)), λ g. absurd (let q = ap length (means-one t (g .list) as′ (g .means) m) in omega arith));
+        })
+    held as′ m (no h) =
+        rw (answer-short (length row) as′ (omega arith))
+        (record {
+          empty = (λ z. absurd (omega (arith, ap numberOf z)), λ z. absurd (means-some t m z));
+          broken = λ k. (λ z. absurd (omega (arith, ap numberOf z)), λ g. absurd (means-whole t m g));
+          short = (λ z. record { list = as′; means = m; longer = omega arith }, λ g. refl);
+        })
+
+    by : (r : Reading) → readingOf t ≡ r → RefusedAt t row (readAnswer r (length row))
+    by (list as′) e = held as′ (reads-means t as′ .0 e) (decLe (length as′) (length row))
+    by (bad k) e =
+        let g = reads-broken t k .0 e in
+        rw (answer-bad (length row) k)
+        (record {
+          empty = (λ z. absurd (omega (arith, ap numberOf z)), λ z. absurd (broken-some t g z));
+          broken = λ j. (λ z. let q : k ≡ j = cc in rw q at g, λ h. rw (broken-one t g h));
+          short = (λ z. absurd (omega (arith, ap numberOf z)), λ h. absurd (means-whole t (h .means) g));
+        })
+    by empty e =
+        let n = reading-empty t e in
+        rw (answer-empty (length row))
+        (record {
+          empty = (λ z. n, λ z. refl);
+          broken = λ k. (λ z. absurd (omega (arith, ap numberOf z)), λ g. absurd (broken-some t g n));
+          short = (λ z. absurd (omega (arith, ap numberOf z)), λ g. absurd (means-some t (g .means) n));
+        })
+
+-- ---- one reader
+
+one-outcome : (o o′ : Outcome) → o .answer ≡ o′ .answer → o .row ≡ o′ .row → o ≡ o′
+one-outcome o o′ e f =
+    let z : _≡_ {A = Outcome} (record { answer = o .answer; row = o .row }) (record { answer = o′ .answer; row = o′ .row }) = cc in
+    z
+
+-- a list that fits stands in the row
+stands : (read : Reader) → Meets read → (t : List ℕ) (row : List Allele) (as′ : List Allele) → Means t as′ → length as′ ≤ length row → Stands t row (read t row)
+unfolding Exact
+stands read w t row as′ m h = x .one (elim (ℕ-discrete (numberOf (read t row .answer)) 0) [ yes z ↦ z | no z ↦ absurd (x .refused .0 z as′ m) ])
+  where
+    x : ExactAt t row (read t row)
+    x = w .exact t row (λ bs k. rw (means-one t bs as′ k m) h)
+
+pub one-reader : OneReader
+unfolding OneReader Refusals Untouched
+one-reader read other w v t row = by (readingOf t) refl
+  where
+    -- refused by both with one answer
+    same : (a : Answer) → (numberOf a ≡ 0 → ⊥) → read t row .answer ≡ a → other t row .answer ≡ a → read t row ≡ other t row
+    same a n e f =
+        let p = w .untouched t row (λ z. n (rw e at z)) in
+        let q = v .untouched t row (λ z. n (rw f at z)) in
+        one-outcome (read t row) (other t row) (e ∙ sym f) (p ∙ sym q)
+
+    held : (as′ : List Allele) → Means t as′ → Dec (length as′ ≤ length row) → read t row ≡ other t row
+    held as′ m (yes h) =
+        let s = stands read w t row as′ m h in
+        let r = stands other v t row as′ m h in
+        let p = s .only as′ m in
+        let q = r .only as′ m in
+        one-outcome (read t row) (other t row) (cc) (cc)
+    held as′ m (no h) =
+        let l : Longer t row = record { list = as′; means = m; longer = omega arith } in
+        same (says 17 []) (λ z. omega arith) (w .refusals t row .short .1 l) (v .refusals t row .short .1 l)
+
+    by : (r : Reading) → readingOf t ≡ r → read t row ≡ other t row
+    by (list as′) e = held as′ (reads-means t as′ .0 e) (decLe (length as′) (length row))
+    by (bad k) e =
+        let g = reads-broken t k .0 e in
+        same (says 12 (k ∷ [])) (λ z. omega arith) (w .refusals t row .broken k .1 g) (v .refusals t row .broken k .1 g)
+    by empty e =
+        let n = reading-empty t e in
+        same (says 11 []) (λ z. omega arith) (w .refusals t row .empty .1 n) (v .refusals t row .empty .1 n)
