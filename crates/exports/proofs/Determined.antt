@@ -11,13 +11,13 @@ determined =
       writes = λ k a left out l r₁ r₂ out₁ out₂ l₁ l₂ w w′. (
         w .told .number ∙ sym (w′ .told .number),
         w .output ∙ sym (w′ .output),
-        w .told .values ∙ sym (w′ .told .values)
+        w .told .values ∙ sym (w′ .told .values),
       );
       reads = λ k a as′ n m p l r₁ r₂ n₁ n₂ m₁ m₂ p₁ p₂ l₁ l₂ g g′. (
         g .told .number ∙ sym (g′ .told .number),
         g .numbers ∙ sym (g′ .numbers),
         g .missing ∙ sym (g′ .missing),
         g .phased ∙ sym (g′ .phased),
-        g .told .values ∙ sym (g′ .told .values)
+        g .told .values ∙ sym (g′ .told .values),
       );
     }

@@ -24,7 +24,7 @@ pub record Determined : Type 0 where
   pub counts : (n : ℕ) → OneAnswer (Counts n)
   pub tells : (k : ℕ) (a : Answer) (l : List ℕ) → OneOutcome (Tells k a l)
   pub writes : (k : ℕ) (a : Answer) (left out l : List ℕ) (r₁ r₂ : ℕ) (out₁ out₂ l₁ l₂ : List ℕ) → TellsWriting k a left out l r₁ out₁ l₁
-    → TellsWriting k a left out l r₂ out₂ l₂ → (r₁ ≡ r₂) × (out₁ ≡ out₂) × (l₁ ≡ l₂)
+      → TellsWriting k a left out l r₂ out₂ l₂ → (r₁ ≡ r₂) × (out₁ ≡ out₂) × (l₁ ≡ l₂)
   pub reads : (k : ℕ) (a : Answer) (as′ : List Allele) (n m p l : List ℕ) (r₁ r₂ : ℕ) (n₁ n₂ m₁ m₂ p₁ p₂ l₁ l₂ : List ℕ)
-    → TellsReading k a as′ n m p l r₁ n₁ m₁ p₁ l₁ → TellsReading k a as′ n m p l r₂ n₂ m₂ p₂ l₂
-    → (r₁ ≡ r₂) × (n₁ ≡ n₂) × (m₁ ≡ m₂) × (p₁ ≡ p₂) × (l₁ ≡ l₂)
+      → TellsReading k a as′ n m p l r₁ n₁ m₁ p₁ l₁ → TellsReading k a as′ n m p l r₂ n₂ m₂ p₂ l₂
+      → (r₁ ≡ r₂) × (n₁ ≡ n₂) × (m₁ ≡ m₂) × (p₁ ≡ p₂) × (l₁ ≡ l₂)
