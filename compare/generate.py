@@ -986,14 +986,19 @@ def random_allele(dice):
     return dice.pick((b".", b"0", b"1", b"2", b"10", b"+1", b"007", b"%d" % LARGEST, b"%d" % dice.roll(10**9)))
 
 
+def random_genotype(dice):
+    """A good text, and how many alleles it has after the first."""
+    first = random_allele(dice)
+    later = [dice.pick((b"|", b"|", b"/")) + random_allele(dice) for _ in range(dice.roll(6))]
+    return dice.pick((b"", b"", b"/", b"|")) + first + b"".join(later), len(later)
+
+
 def random_genotypes(large, dice):
     for _ in range(10_000 if large else 100):
-        first = random_allele(dice)
-        later = [dice.pick((b"|", b"|", b"/")) + random_allele(dice) for _ in range(dice.roll(6))]
-        good = dice.pick((b"", b"", b"/", b"|")) + first + b"".join(later)
+        good, later = random_genotype(dice)
         for text in (good, damaged(dice, good), damaged(dice, good, b"|/.+0")):
-            yield from both_readers(len(later) + dice.roll(3), text)
-            yield from both_checked(len(later) + dice.roll(3), text, b"," * dice.roll(12))
+            yield from both_readers(later + dice.roll(3), text)
+            yield from both_checked(later + dice.roll(3), text, b"," * dice.roll(12))
 
 
 def genotypes(large, dice):
@@ -1001,6 +1006,54 @@ def genotypes(large, dice):
     yield from with_alts(large)
     yield from unequal_reads()
     yield from random_genotypes(large, dice)
+
+
+# ---- gtstep
+
+STEP_BYTES = b"|/.019+a"
+
+
+def steps_over(text):
+    """From every place, and from one past the end."""
+    for at in range(len(text) + 2):
+        yield ask("gtstep", text, at)
+
+
+def steps_at_limits():
+    """Each allele's text at the start, from its mark on and from past its mark."""
+    for body in allele_texts():
+        yield ask("gtstep", body, 0)
+        yield ask("gtstep", b"0|" + body, 1)
+        yield ask("gtstep", b".|" + body + b"/1", 2)
+
+
+def steps_by_bytes(large):
+    """Each byte within an allele and in place of its mark."""
+    for byte in range(256):
+        text = b"0|1" + bytes([byte]) + b"2/3"
+        for at in range(len(text) + 2) if large else (1, 3):
+            yield ask("gtstep", text, at)
+
+
+def random_steps(large, dice):
+    for _ in range(10_000 if large else 80):
+        good, _ = random_genotype(dice)
+        for text in (good, damaged(dice, good), damaged(dice, good, b"|/.+0")):
+            yield ask("gtstep", text, dice.roll(len(text) + 2))
+
+
+def genotype_steps(large, dice):
+    for text in (*short_texts(STEP_BYTES, 4 if large else 3), *GENOTYPES):
+        yield from steps_over(text)
+    yield from steps_at_limits()
+    yield from steps_by_bytes(large)
+    for text in ("\u00e9", "0|\u00e9/1", "\u8a9e|0", "1/0\U000233b4"):
+        yield from steps_over(text.encode())
+    for mark, last in ((b"|", b"/."), (b"/", b"|."), (b"|", b"|.")):
+        yield from steps_over(mark.join(b"%d" % number for number in range(300 if large else 40)) + last)
+    for text, at in itertools.product((b"", b"0", b"0|1"), FAR):
+        yield ask("gtstep", text, at)
+    yield from random_steps(large, dice)
 
 
 # ---- write, writealleles and writeunequal
@@ -1487,6 +1540,21 @@ NO_LIST_CASES = (
 )
 
 
+# The same of gtstep.
+NO_STEP_CASES = (
+    # an unknown verb, an argument too few or too many, spaces
+    b"gtste 30 0", b"gtsteps 30 0", b"GTSTEP 30 0", b"gt 30 0", b"step 30 0", b"gtstep", b"gtstep ", b"gtstep 30",
+    b"gtstep 30 ", b"gtstep 0", b"gtstep 30 0 0", b"gtstep 30 0 ", b"gtstep  30 0", b"gtstep 30  0", b" gtstep 30 0",
+    b"gtstep 30 0\r", b"gtstep\t30 0", b"gtstep 0 30 30",
+    # hex that is odd, upper case or none
+    b"gtstep 3 0", b"gtstep 307C31 0", b"gtstep 0|1 0", b"gtstep -- 0", b"gtstep 0x30 0", b"gtstep 30- 0", b"gtstep . 0",
+    # a number that is empty, has a sign or a leading zero, passes its type, or is none
+    b"gtstep 30 00", b"gtstep 30 01", b"gtstep 30 +0", b"gtstep 30 -0", b"gtstep 30 -", b"gtstep 30 -1", b"gtstep 30 a",
+    b"gtstep 30 0a", b"gtstep 30 0,0", b"gtstep - 18446744073709551616", b"gtstep 30 18446744073709551616",
+    b"gtstep 30 18446744073709551625", b"gtstep 30 99999999999999999999", b"gtstep 30 36893488147419103232",
+)
+
+
 def spoilt(lines, large):
     """Good lines with one byte put in, in every place, that makes each of them none."""
     for line, byte in itertools.product(lines, b"\x00\t\r \x7f\x80\xffxG" if large else b"\x00 x"):
@@ -1609,6 +1677,20 @@ def long_list_lines():
         yield ask(verb, 4_096, 0, b"a" * 30_000, (*range(1, 1_024), 3_074))
 
 
+def long_step_lines():
+    """The same of gtstep, at large only."""
+    yield ask("gtstep", b"0" * 32_762 + b"1", 0)
+    yield ask("gtstep", b"0" * 32_762 + b"1", 10)
+    yield none(ask("gtstep", b"0" * 32_762 + b"1", 100)[0])
+    yield none(ask("gtstep", b"0" * 32_763 + b"1", 0)[0])
+    yield ask("gtstep", b"0" + b"|" * 32_760, 0)
+    yield ask("gtstep", b"0" + b"|1" * 16_379 + b"/", 0)
+    yield ask("gtstep", b"|1" * 16_380, 32_758)
+    yield ask("gtstep", b"|1" * 16_380, 32_759)
+    yield ask("gtstep", b"|1" * 16_380, 32_760)
+    yield ask("gtstep", b"|1" * 16_380, 32_761)
+
+
 def form(large):
     """Lines that are none and long lines, each before a case with an answer of its own: a shift shows at once."""
     good = (b"utf8 41", b"print 5 70", b"space -", b"decimal 2b37") if large else (b"utf8 41", b"print 5 70")
@@ -1616,12 +1698,14 @@ def form(large):
     steps = (b"info 61 0", b"key 61 61", *((b"scan 61", b"value 613d 61", b"sample 61 0") if large else ()))
     calls = (b"read 2 30", b"write 4 4 2 0 0:0:1", *((b"readalt 2 30 41", b"unequal 1 1 1 30") if large else ()))
     lists = (b"filters 2 0 61 1", *((b"alts 2 0 61 1",) if large else ()))
+    one_step = (b"gtstep 30 0",)
     lines = (
         *map(none, (*NO_CASES, *spoilt(good, large))), *long_lines(large),
         *map(none, (*NO_RECORD_CASES, *spoilt(more, large))), *long_record_lines(large),
         *map(none, (*NO_INFO_CASES, *spoilt(steps, large))), *long_info_lines(large),
         *map(none, (*NO_GENOTYPE_CASES, *spoilt(calls, large))), *(long_genotype_lines() if large else ()),
         *map(none, (*NO_LIST_CASES, *spoilt(lists, large))), *(long_list_lines() if large else ()),
+        *map(none, (*NO_STEP_CASES, *spoilt(one_step, large))), *(long_step_lines() if large else ()),
     )
     for index, case in enumerate(lines):
         yield case
@@ -1634,7 +1718,7 @@ def areas(large):
         texts(large, Dice(1)), decimals(large, Dice(2)), prints(large, Dice(3)), lines(large, Dice(4)),
         fields(large, Dice(5)), places(large), positions(large, Dice(6)), joins(large, Dice(7)),
         infos(large, Dice(8)), samples(large, Dice(9)), genotypes(large, Dice(10)), written_genotypes(large, Dice(11)),
-        entry_lists(large, Dice(12)),
+        entry_lists(large, Dice(12)), genotype_steps(large, Dice(13)),
     )
 
 

@@ -311,20 +311,25 @@ def implied(later_marks):
     return b"/" if b"/" in later_marks else b"|"
 
 
-def read_genotype(text):
-    """The list that a text means, (number, missing, phased) each; or the numbers of a refusal."""
-    if not text:
-        return (NO_ALLELES,)
+def piece_meanings(pieces):
+    """What each piece means, (number, missing, phased); None where it means nothing."""
     marks, bodies = [], []
-    for piece in genotype_pieces(text):
+    for piece in pieces:
         marked = piece[:1] in MARKS
         marks.append(piece[:marked])
         bodies.append(piece[marked:])
     marks[0] = marks[0] or implied(marks[1:])
     values = [0 if body == b"." else decimal_value(body) for body in bodies]
-    if None in values:
-        return BAD_NUMBER, values.index(None)
-    return [(value, int(body == b"."), int(mark == b"|")) for value, body, mark in zip(values, bodies, marks)]
+    found = zip(values, bodies, marks)
+    return [None if value is None else (value, int(body == b"."), int(mark == b"|")) for value, body, mark in found]
+
+
+def read_genotype(text):
+    """The list that a text means; or the numbers of a refusal."""
+    if not text:
+        return (NO_ALLELES,)
+    made = piece_meanings(genotype_pieces(text))
+    return (BAD_NUMBER, made.index(None)) if None in made else made
 
 
 def checked_genotype(text, alt):
@@ -530,9 +535,12 @@ def laid_in_row(length, start, made):
 ROW_START, STRUCTS_START = (7, 7, 7), (7, 1, 1)
 
 
+def allele_shown(one):
+    return ":".join(map(str, one))
+
+
 def row_words(made, row):
-    shown_row = [":".join(map(str, one)) for one in row]
-    return words(*made, *(shown_row or "-"))
+    return words(*made, *(map(allele_shown, row) if row else "-"))
 
 
 def slice_words(made, slices):
@@ -552,6 +560,18 @@ def unequal(numbers, missing, phased, text):
         return slice_words((UNEQUAL,), ([7] * length for length in (numbers, missing, phased)))
     made, row = laid_in_row(numbers, ROW_START, read_genotype(text))
     return slice_words(made, zip(*row) if row else ((), (), ()))
+
+
+def gtstep(text, at):
+    if at > len(text):
+        return words(BEYOND)
+    if not text:
+        return words(NO_ALLELES)
+    if at == len(text):
+        return words(NONE_SUCH)
+    pieces = genotype_pieces(text[at:])
+    first = piece_meanings(pieces)[0]
+    return words(BAD_NUMBER) if first is None else words(DONE, at + len(pieces[0]), allele_shown(first))
 
 
 def alleles(length, text):
@@ -604,6 +624,7 @@ VERBS = {
     b"read": (read, (row_length, hexed)),
     b"readalt": (read_alt, (row_length, hexed, hexed)),
     b"unequal": (unequal, (row_length, row_length, row_length, hexed)),
+    b"gtstep": (gtstep, (hexed, number)),
     b"alleles": (alleles, (row_length, hexed)),
     b"allelesalt": (alleles_alt, (row_length, hexed, hexed)),
     b"write": (write, (version, version, room, number), alleles_of_bytes),

@@ -152,6 +152,11 @@ def short_phasings():
         yield from generate.both_readers(4, text)
 
 
+def short_genotype_steps():
+    for text in short_texts(b"0|/.+", 6):
+        yield from generate.steps_over(text)
+
+
 def short_checked():
     for text, alt in itertools.product(short_texts(b"012|/.", 5), (b"A", b"A,C")):
         yield from generate.both_checked(5, text, alt)
@@ -211,7 +216,9 @@ def near_numbers(dice):
         text = dice.pick((b"", b"+", b"0", b"+00", b"-")) + b"%d" % value
         yield ask("decimal", text)
         yield ask("pos", text)
-        yield from generate.both_readers(1 + dice.roll(2), dice.pick((b"", b"0/", b"|", b".|")) + text)
+        row, before = 1 + dice.roll(2), dice.pick((b"", b"0/", b"|", b".|"))
+        yield from generate.both_readers(row, before + text)
+        yield ask("gtstep", before + text, len(before) // 2)
         if value <= LARGEST:
             yield ask("print", max(0, len(str(value)) + dice.roll(3) - 1), value)
             alleles = [(value, 0, dice.roll(2)), (near(dice, 10), 0, dice.roll(2))]
@@ -344,6 +351,7 @@ def harmed_genotypes(dice):
         text = harmed(dice, dice.pick(generate.GENOTYPES), 1 + dice.roll(3), dice.pick((range(256), b"|/.+019")))
         yield from generate.both_readers(dice.roll(5), text)
         yield from generate.both_checked(dice.roll(5), text, b"," * dice.roll(3))
+        yield from generate.steps_over(text)
 
 
 def harmed_entries(dice):
@@ -362,9 +370,10 @@ GOOD_CASES = (
     b"field samples - 0", b"place 616263 1 2", b"pos 2b31", b"join 40 0 6162636465666768 1,2,3,4,5,6,7,8",
     b"info 613d313b62 0", b"find 613d313b62 62", b"value 613d313b62 61", b"scan 613d313b62", b"count 613b62",
     b"samples 610962", b"walk 610962", b"sample 610962 1", b"key 47543a4450 4450", b"subfield 303a35 1",
-    b"read 3 307c31", b"readalt 3 307c31 412c43", b"unequal 2 2 2 302f31", b"alleles 3 2f307c31",
-    b"allelesalt 3 307c31 41", b"write 4 4 9 0 0:0:0 1:0:1", b"write 4 3 9 0 0:1:0", b"writeunequal 1 1 1 9",
-    b"writealleles 4 4 9 1 10:0:1 0:256:0", b"filters 9 0 71313073 3,4", b"alts 9 1 413c433e 1,4", b"alts 2 0 - -",
+    b"read 3 307c31", b"readalt 3 307c31 412c43", b"unequal 2 2 2 302f31", b"gtstep 307c31 1",
+    b"alleles 3 2f307c31", b"allelesalt 3 307c31 41", b"write 4 4 9 0 0:0:0 1:0:1", b"write 4 3 9 0 0:1:0",
+    b"writeunequal 1 1 1 9", b"writealleles 4 4 9 1 10:0:1 0:256:0", b"filters 9 0 71313073 3,4",
+    b"alts 9 1 413c433e 1,4", b"alts 2 0 - -",
 )
 
 
@@ -383,8 +392,8 @@ def harmed_cases(dice):
 AGAIN = (more_texts, more_lines, more_fields, more_columns, more_samples, more_genotypes, more_lists)
 EXHAUSTIVE = (
     short_characters, short_numbers, short_line_ends, short_line_tails, columns_of_every_kind, dots_of_every_kind,
-    short_info_steps, short_info_keys, short_samples, short_genotypes, short_phasings, short_checked, short_slices,
-    short_lists_of_alleles, short_entries, short_joins,
+    short_info_steps, short_info_keys, short_samples, short_genotypes, short_phasings, short_genotype_steps,
+    short_checked, short_slices, short_lists_of_alleles, short_entries, short_joins,
 )
 NEAR = (near_numbers, near_places, near_line_ends, near_rooms, near_alt_counts)
 HARMED = (harmed_lines, harmed_columns, harmed_samples, harmed_genotypes, harmed_entries, harmed_cases)

@@ -47,7 +47,7 @@ enum bruncadorza_number {
     BRUNCADORZA_INFO_AFTER_KEY = 7,   /* INFO: the `;` after a key is the last byte */
     BRUNCADORZA_INFO_NO_KEY = 8,      /* INFO: an empty key */
     BRUNCADORZA_INFO_AFTER_VALUE = 9, /* INFO: the `;` after a value is the last byte */
-    BRUNCADORZA_NOTHING = 10,         /* no such entry, sample, key, subfield or field; the INFO scan is finished */
+    BRUNCADORZA_NOTHING = 10,         /* no such entry, sample, key, subfield or field; the steps over INFO or a genotype are done */
     BRUNCADORZA_GENOTYPE_EMPTY = 11,  /* the genotype text or list is empty */
     BRUNCADORZA_BAD_NUMBER = 12,      /* a number is bad, or an allele's is not 0 beside a missing mark */
     BRUNCADORZA_BAD_PHASING = 13,     /* the file format is below 4.4 and the first phasing is not the implied one */

@@ -22,7 +22,7 @@ pub enum Step {
     Found(Allele, usize),
     /// 6: the place lies beyond the text.
     Beyond,
-    /// 10: the place is the text's end.
+    /// 10: the place is the end of a text that is not empty.
     Nothing,
     /// 11: the text is empty.
     Empty,

@@ -1,8 +1,8 @@
 //! Holds the wrapper to the stored cases of the program `cases`: crates/cases/stdin and crates/cases/stdout, whose form
 //! docs/RULES.md, section 15, gives. The answers stored come from the Rust or a model of the rules, none from the library.
 //!
-//! Functions that no verb asks for (one allele at a time, the judges of a genotype and of an entry, the ALT count, the iterators)
-//! are held to the answers of the verbs beside them.
+//! Functions that no verb asks for (the judges of a genotype and of an entry, the ALT count, the iterators) are held to the answers
+//! of the verbs beside them, and so are all steps over a genotype together.
 
 use std::collections::BTreeMap;
 use std::fmt::Write as _;
@@ -16,7 +16,7 @@ use bruncadorza::{
 use genotype::Allele;
 
 /// Every verb that a case can have.
-const VERBS: [&str; 29] = [
+const VERBS: [&str; 30] = [
     "utf8",
     "space",
     "decimal",
@@ -38,6 +38,7 @@ const VERBS: [&str; 29] = [
     "read",
     "readalt",
     "unequal",
+    "gtstep",
     "alleles",
     "allelesalt",
     "write",
@@ -96,6 +97,7 @@ fn a_wrong_answer_is_seen() {
         ("read 1 31", "0 1 1:0:0"),
         ("readalt 1 32 41", "0 1 2:0:1"),
         ("unequal 1 2 1 31", "16 7 7 7"),
+        ("gtstep - 0", "10"),
         ("alleles 1 -", "11 7:7:7"),
         ("allelesalt 1 32 41", "20 1 7:1:1"),
         ("write 4 4 1 0 1:0:1", "0 1 30"),
@@ -176,6 +178,7 @@ fn answer(words: &[&str]) -> String {
         ["read", row, s] => read(size(row), &bytes(s), None),
         ["readalt", row, s, alt] => read(size(row), &bytes(s), Some(&bytes(alt))),
         ["unequal", n, m, p, s] => unequal(size(n), size(m), size(p), &bytes(s)),
+        ["gtstep", s, at] => genotype_step(&bytes(s), size(at)),
         ["alleles", row, s] => read_alleles(size(row), &bytes(s), None),
         ["allelesalt", row, s, alt] => read_alleles(size(row), &bytes(s), Some(&bytes(alt))),
         ["write", major, minor, room, at, ref list @ ..] => {
@@ -502,8 +505,17 @@ fn held_by_steps(
         genotype::Read::Short => ended && above.is_none() && steps.len() > room,
         genotype::Read::Above(k) => ended && above == Some(k),
     });
-    let past = genotype::step_at(s, s.len() + 1);
-    assert_eq!((past, past.number()), (genotype::Step::Beyond, 6));
+}
+
+fn genotype_step(s: &[u8], at: usize) -> String {
+    let step = genotype::step_at(s, at);
+    match step {
+        genotype::Step::Found(a, next) => {
+            let row = rows_of([(a.number, a.missing, a.phased)].into_iter());
+            format!("{} {row}", said(step.number(), Some(next)))
+        }
+        _ => said(step.number(), None),
+    }
 }
 
 fn unequal(n: usize, m: usize, p: usize, s: &[u8]) -> String {

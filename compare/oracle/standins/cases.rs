@@ -317,10 +317,12 @@ fn sample(src: &[u8], index: usize) -> Answer {
 
 // ---- genotypes
 
+fn allele_shown((number, phasing): &Allele) -> String {
+    format!("{}:{}:{}", number.unwrap_or(0), number.is_none() as u8, (*phasing == Phasing::Phased) as u8)
+}
+
 fn row(fill: &str, room: usize, list: &[Allele]) -> String {
-    let mut row: Vec<_> = list.iter()
-        .map(|(n, p)| format!("{}:{}:{}", n.unwrap_or(0), n.is_none() as u8, (*p == Phasing::Phased) as u8))
-        .collect();
+    let mut row: Vec<_> = list.iter().map(allele_shown).collect();
     while row.len() < room {
         row.push(fill.into());
     }
@@ -341,6 +343,28 @@ fn genotype(fill: &str, room: usize, src: &[u8]) -> Answer {
         return Ok(format!("17 {}", row(fill, room, &[])));
     }
     Ok(format!("0 {} {}", list.len(), row(fill, room, &list)))
+}
+
+/// The place past so many alleles, good or bad, which no item tells: the longest front of the text that gives no more.
+fn past(s: &str, count: usize) -> usize {
+    let fronts: Vec<_> = (1..=s.len()).filter(|&n| s.is_char_boundary(n)).collect();
+    let fitting = fronts.partition_point(|&n| Genotype::new(&s[..n]).alleles().count() <= count);
+    fronts[..fitting].last().copied().unwrap_or(0)
+}
+
+/// One step. A place that the iterator over the whole text comes to is answered by its item there, any other by the
+/// first item of an iterator over the text from there on.
+fn gtstep(src: &[u8], at: usize) -> Answer {
+    let Some(s) = text(src).filter(|s| s.is_char_boundary(at)) else { return no_question() };
+    let steps = if at == 0 { 0 } else { Genotype::new(&s[..at]).alleles().count() };
+    let (start, steps) = if past(s, steps) == at { (0, steps) } else { (at, 0) };
+    let rest = &s[start..];
+    Ok(match Genotype::new(rest).alleles().nth(steps) {
+        Some(Ok(allele)) => format!("0 {} {}", start + past(rest, steps + 1), allele_shown(&allele)),
+        Some(Err(e)) if e.kind() == io::ErrorKind::UnexpectedEof => "11".into(),
+        Some(Err(_)) => "12".into(),
+        None => "10".into(),
+    })
 }
 
 #[derive(Debug)]
@@ -481,6 +505,7 @@ pub fn answer(case: &str) -> Answer {
         "walk" => walk(&bytes(1)?),
         "sample" => sample(&bytes(1)?, number(2)?),
         "read" => genotype("7:7:7", number(1)?, &bytes(2)?),
+        "gtstep" => gtstep(&bytes(1)?, number(2)?),
         "alleles" => genotype("7:1:1", number(1)?, &bytes(2)?),
         "write" | "writealleles" => {
             let file_format = FileFormat::new(number(1)? as u32, number(2)? as u32);

@@ -1,4 +1,4 @@
-// The verbs of the genotype readers over parallel slices.
+// The verbs of the genotype readers over parallel slices, and of one step.
 use crate::output::Answer;
 use crate::output::Buffer;
 use crate::output::Place;
@@ -14,16 +14,21 @@ use crate::parts::front_numbers;
 use crate::parts::part;
 use crate::words::Decoded;
 use crate::words::Pairs;
+use crate::words::Placed;
 use crate::words::Text;
 use crate::words::decode;
+use crate::words::decode_and_number;
 use crate::words::decode_two;
 use crate::words::index_in;
 use crate::words::number;
 use crate::words::word;
 use decimal::read::Number;
+use genotype::allele::Allele;
 use genotype::read::Read;
 use genotype::read::read_checked;
 use genotype::read::read_genotype;
+use genotype::step::Step;
+use genotype::step::step_at;
 
 // The most alleles of a row.
 pub const ROW: u64 = 64;
@@ -35,7 +40,7 @@ pub fn answer(
     out: &mut Buffer,
     at: Place,
 ) -> Answer {
-    let verb = index_in(b"read readalt unequal", 3, word(case, 0));
+    let verb = index_in(b"read readalt unequal gtstep", 4, word(case, 0));
     if arguments != takes(verb) {
         return Answer::NoCase;
     }
@@ -43,6 +48,7 @@ pub fn answer(
         0 => answer_read(case, text, out, at),
         1 => answer_readalt(case, text, out, at),
         2 => answer_unequal(case, text, out, at),
+        3 => answer_gtstep(case, text, out, at),
         _ => Answer::NoCase,
     }
 }
@@ -50,7 +56,7 @@ pub fn answer(
 // How many arguments a verb has.
 fn takes(verb: usize) -> usize {
     match verb {
-        0 => 2,
+        0 | 3 => 2,
         1 => 3,
         _ => 4,
     }
@@ -164,12 +170,20 @@ fn then_row(numbers: &[u64], missing: &[u8], phased: &[u8], out: &mut Buffer, at
     next
 }
 
-pub fn then_allele(number: u64, missing: u8, phased: u8, out: &mut Buffer, at: Place) -> Place {
+fn then_allele(number: u64, missing: u8, phased: u8, out: &mut Buffer, at: Place) -> Place {
     let next = then_number(out, at, number);
     let next = put_byte(out, next, b':');
     let next = put_number(out, next, wide(missing));
     let next = put_byte(out, next, b':');
     put_number(out, next, wide(phased))
+}
+
+pub fn then_record(a: Allele, out: &mut Buffer, at: Place) -> Place {
+    then_allele(a.number, as_mark(a.missing), as_mark(a.phased), out, at)
+}
+
+fn as_mark(b: bool) -> u8 {
+    if b { 1 } else { 0 }
 }
 
 fn answer_unequal(case: &[u8], text: &mut Text, out: &mut Buffer, at: Place) -> Answer {
@@ -244,4 +258,24 @@ fn then_marks(marks: &[u8], out: &mut Buffer, at: Place) -> Place {
         k += 1;
     }
     next
+}
+
+fn answer_gtstep(case: &[u8], text: &mut Text, out: &mut Buffer, at: Place) -> Answer {
+    let Placed::At(end, from) = decode_and_number(case, 1, text) else {
+        return Answer::NoCase;
+    };
+    Answer::Given(put_step(step_at(part(text, 0, end), from), out, at))
+}
+
+fn put_step(step: Step, out: &mut Buffer, at: Place) -> Place {
+    match step {
+        Step::Found(allele, past) => {
+            let next = put_said(out, at, Said::With(0, past as u64));
+            then_record(allele, out, next)
+        }
+        Step::Beyond => put_number(out, at, 6),
+        Step::Nothing => put_number(out, at, 10),
+        Step::Empty => put_number(out, at, 11),
+        Step::Bad => put_number(out, at, 12),
+    }
 }

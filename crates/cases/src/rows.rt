@@ -1,7 +1,7 @@
 // The verbs of the crate alleles, by rows of 64 records of which a case uses the last.
 use crate::genotypes;
 use crate::genotypes::ROW;
-use crate::genotypes::then_allele;
+use crate::genotypes::then_record;
 use crate::output::Answer;
 use crate::output::Buffer;
 use crate::output::Place;
@@ -138,14 +138,6 @@ fn then_row(row: [Allele; 64], from: usize, out: &mut Buffer, at: Place) -> Plac
         k += 1;
     }
     next
-}
-
-fn then_record(a: Allele, out: &mut Buffer, at: Place) -> Place {
-    then_allele(a.number, as_mark(a.missing), as_mark(a.phased), out, at)
-}
-
-fn as_mark(b: bool) -> u8 {
-    if b { 1 } else { 0 }
 }
 
 fn answer_write(case: &[u8], arguments: usize, out: &mut Buffer, at: Place) -> Answer {

@@ -2,3 +2,4 @@ pub mod Told
 pub mod Places
 pub mod Writing
 pub mod Reading
+pub mod Promises

@@ -14,7 +14,6 @@ use lists::write::Kind;
 use lists::write::Verdict;
 use lists::write::Write;
 ghost use mathlib.Core.Path.{_≡_};
-ghost use Rattle.text.specs.Answer.{numberOf};
 ghost use Rattle.lists.specs.AlternateBases.{altCount};
 ghost use Rattle.lists.specs.Kind.{invalidOf};
 ghost use Rattle.lists.specs.Judge.{entryAnswer};
@@ -23,6 +22,7 @@ ghost use Rattle.lists.specs.declared.write.Kind.the-variants.{Filters, Alts};
 ghost use Rattle.join.specs.Paper.{joinedPaper};
 ghost use Rattle.exports.specs.Told.{Tells};
 ghost use Rattle.exports.specs.Writing.{WritesEntries, JoinsColumns};
+ghost use Rattle.exports.specs.Promises.{Judges, Counts};
 
 // The number of an invalid entry.
 fn invalid(kind: Kind) -> u64
@@ -35,7 +35,7 @@ fn invalid(kind: Kind) -> u64
 }
 
 fn verdict_number(kind: Kind, verdict: Verdict) -> u64
-    ensures { λ r. ⌜ r ≡ numberOf (verdictPaper kind verdict) ⌝ }
+    ensures { λ r. ⌜ Judges (verdictPaper kind verdict) r ⌝ }
 {
     match verdict {
         Verdict::Fine => 0,
@@ -47,7 +47,7 @@ fn verdict_number(kind: Kind, verdict: Verdict) -> u64
 // Whether a filter is valid: 0, 5 or 14. It has no values.
 #[no_mangle]
 pub extern "C" fn bruncadorza_judge_filter(filter: &[u8]) -> u64
-    ensures { λ r. ⌜ r ≡ numberOf (entryAnswer Filters (now (filter .entry))) ⌝ }
+    ensures { λ r. ⌜ Judges (entryAnswer Filters (now (filter .entry))) r ⌝ }
 {
     verdict_number(Kind::Filters, judge_filter(filter))
 }
@@ -55,7 +55,7 @@ pub extern "C" fn bruncadorza_judge_filter(filter: &[u8]) -> u64
 // Whether an ALT entry is valid: 0, 5 or 15. It has no values.
 #[no_mangle]
 pub extern "C" fn bruncadorza_judge_alt(alt: &[u8]) -> u64
-    ensures { λ r. ⌜ r ≡ numberOf (entryAnswer Alts (now (alt .entry))) ⌝ }
+    ensures { λ r. ⌜ Judges (entryAnswer Alts (now (alt .entry))) r ⌝ }
 {
     verdict_number(Kind::Alts, judge_alt(alt))
 }
@@ -63,7 +63,7 @@ pub extern "C" fn bruncadorza_judge_alt(alt: &[u8]) -> u64
 // How many alternate alleles an ALT column has: the count itself.
 #[no_mangle]
 pub extern "C" fn bruncadorza_alt_count(column: &[u8]) -> u64
-    ensures { λ r. ⌜ r ≡ altCount (now (column .entry)) ⌝ }
+    ensures { λ r. ⌜ Counts (altCount (now (column .entry))) r ⌝ }
 {
     wide(alternate_bases::alt_count(column))
 }

@@ -55,8 +55,8 @@ fn tell_step(step: Step, values: &mut [u64]) -> u64
     }
 }
 
-// The allele at the place `at`, as the first of the text from there on: 0, 6, 10, 11 or 12. Four values at most: the next place, and the
-// allele's number, missing mark and phasing.
+// The allele at the place `at`, as the first of the text from there on: 0, 6, 10, 11 or 12. Four values at most: the next place, and
+// the allele's number, missing mark and phasing.
 #[no_mangle]
 pub extern "C" fn bruncadorza_genotype_step(text: &[u8], at: usize, values: &mut [u64]) -> u64
     ensures { λ r. ⌜ Tells 4 (stepAnswer (now (text .entry)) at) (now (values .entry)) r (now (values .exit)) ⌝ }

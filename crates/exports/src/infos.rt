@@ -19,6 +19,7 @@ ghost use Rattle.info.specs.Value.{shown};
 ghost use Rattle.info.specs.Paper.{stepPaper};
 ghost use Rattle.info.specs.declared.step.Step.the-variants as S;
 ghost use Rattle.exports.specs.Told.{Tells};
+ghost use Rattle.exports.specs.Promises.{Counts};
 
 // The next place, the key's place, and the value's where it has one.
 fn tell_entry(entry: Entry, next: usize, values: &mut [u64]) -> u64
@@ -98,7 +99,7 @@ pub extern "C" fn bruncadorza_info_value(column: &[u8], key: &[u8], values: &mut
 // How many entries the column claims: the count itself.
 #[no_mangle]
 pub extern "C" fn bruncadorza_info_count(column: &[u8]) -> u64
-    ensures { λ r. ⌜ r ≡ infoCount (now (column .entry)) ⌝ }
+    ensures { λ r. ⌜ Counts (infoCount (now (column .entry))) r ⌝ }
 {
     wide(count(column))
 }

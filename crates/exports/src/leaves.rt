@@ -10,8 +10,6 @@ use text::space::Space;
 use text::space::find_space;
 use text::utf8::Utf8;
 use text::utf8::check_utf8;
-ghost use mathlib.Core.Path.{_≡_};
-ghost use Rattle.text.specs.Answer.{numberOf};
 ghost use Rattle.text.specs.Utf8.{utf8Answer};
 ghost use Rattle.text.specs.Space.{spaceAnswer};
 ghost use Rattle.text.specs.Paper.{writtenPaper, spacePaper};
@@ -19,11 +17,12 @@ ghost use Rattle.decimal.specs.Decimal.{decimalAnswer};
 ghost use Rattle.decimal.specs.Paper.{numberPaper};
 ghost use Rattle.exports.specs.Told.{Tells};
 ghost use Rattle.exports.specs.Writing.{PrintsDecimal};
+ghost use Rattle.exports.specs.Promises.{Judges};
 
 // Whether the text is UTF-8: 0, or 5. It has no values.
 #[no_mangle]
 pub extern "C" fn bruncadorza_check_utf8(text: &[u8]) -> u64
-    ensures { λ r. ⌜ r ≡ numberOf (utf8Answer (now (text .entry))) ⌝ }
+    ensures { λ r. ⌜ Judges (utf8Answer (now (text .entry))) r ⌝ }
 {
     match check_utf8(text) {
         Utf8::Text => 0,

@@ -12,18 +12,18 @@ use samples::columns::sample_at;
 use samples::columns::subfield;
 use samples::keys::Key;
 use samples::keys::key_index;
-ghost use mathlib.Core.Path.{_≡_};
 ghost use lib.ListN.{length};
 ghost use Rattle.pieces.specs.Paper.{stepPaper, nthPaper};
 ghost use Rattle.samples.specs.Samples.{samplesOf, sampleStep, sampleAnswer, subfieldAnswer};
 ghost use Rattle.samples.specs.Keys.{keyAnswer};
 ghost use Rattle.samples.specs.Paper.{keyPaper};
 ghost use Rattle.exports.specs.Told.{Tells};
+ghost use Rattle.exports.specs.Promises.{Counts};
 
 // How many samples there are: the count itself.
 #[no_mangle]
 pub extern "C" fn bruncadorza_samples_count(samples: &[u8]) -> u64
-    ensures { λ r. ⌜ r ≡ length (samplesOf (now (samples .entry))) ⌝ }
+    ensures { λ r. ⌜ Counts (length (samplesOf (now (samples .entry)))) r ⌝ }
 {
     wide(count(samples))
 }
