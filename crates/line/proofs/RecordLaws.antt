@@ -20,7 +20,7 @@ use Rattle.pieces.proofs.PieceLaws.{split-back, joined-none, joined-one, joined
 use Rattle.line.specs.Line.{Ending, endingBytes, line, lineOf, readAnswer}
 use Rattle.line.specs.Place.{rangeOf, columnNumber, columnOf, columnStart}
 use Rattle.line.specs.Paper.{recordPlaces}
-use Rattle.line.specs.Demands.{Begins, startIn, Lies, TenPlaces, Stands, One}
+use Rattle.line.specs.Demands.{Column, Begins, startIn, Lies, TenPlaces, Stands, One}
 use Rattle.line.specs.declared.read.Record.{Record}
 use Rattle.line.specs.declared.place.Name.{Name}
 use Rattle.line.specs.declared.place.Name.the-variants as N
@@ -133,9 +133,12 @@ module _ {s : List ℕ} {at : ℕ} {r : Record} (g : Recorded s at r) where
   eight : 8 ≤ length (g .columns)
   eight = ⊎-elim (λ h. omega arith) (λ h. omega arith) count
 
+  each : (i : ℕ) → i < length (g .columns) → Column (getD (g .columns) i [])
+  each = g .begin .each
+
   -- and none is empty
   full : (i : ℕ) → i < length (g .columns) → 0 < length (getD (g .columns) i [])
-  full i l = g .begin .each i l .some
+  full i l = each i l .some
 
   whole : joined 9 (g .columns) ++ (endingBytes (g .ending) ++ g .rest) ≡ drop at s
   whole = g .begin .whole
@@ -255,7 +258,7 @@ module _ {s : List ℕ} {at : ℕ} {r : Record} (g : Recorded s at r) where
   unfolding columnOf
   samples-back =
       joined-back 9 (drop 9 (g .columns)) samples-full
-      (λ i l. rw (getD-drop 9 (g .columns) i []) (g .begin .each (9 + i) (further i l) .no-tab))
+      (λ i l. rw (getD-drop 9 (g .columns) i []) (each (9 + i) (further i l) .no-tab))
 
   -- the buffer has no fewer bytes than there are columns
   pub columns-within : length (g .columns) ≤ length s
