@@ -1,17 +1,12 @@
 -- Two outcomes that a contract of this crate allows are equal: each can be read back from its paper, so no two have one paper. Assumes nothing.
-use Prim.Native.Nat.{ℕ}
 use mathlib.Core.Path.{_≡_, refl, sym, _∙_}
-use mathlib.Core.List.{List, [], _∷_}
+use mathlib.Core.List.{[], _∷_}
 use mathlib.Mathlib.Logic.Function.Defs.{LeftInverse·injective}
 use lib.Dec.{eqb}
 use Rattle.text.specs.Pick.{pick}
 use Rattle.text.specs.Answer.{Answer, says}
-use Rattle.text.specs.declared.range.Range.{Range}
-use Rattle.line.specs.declared.read.Record.{Record}
-use Rattle.line.specs.declared.place.Name.{Name}
-use Rattle.fields.specs.Fields.{placeAnswer, textAnswer, fieldAnswer}
-use Rattle.fields.specs.Pos.{posAnswer}
 use Rattle.fields.specs.Paper.{fieldPaper, positionPaper}
+use Rattle.fields.specs.Promises.{Determined}
 use Rattle.fields.specs.declared.field.Text.{Text}
 use Rattle.fields.specs.declared.field.Text.the-variants as F
 use Rattle.fields.specs.declared.pos.Position.{Position}
@@ -33,15 +28,6 @@ text-back F.Beyond = refl
 pub field-paper-injective : (x y : Text) → fieldPaper x ≡ fieldPaper y → x ≡ y
 field-paper-injective = LeftInverse·injective textOf fieldPaper text-back
 
-pub place-determined : (s : List ℕ) (range : Range) (r r′ : Text) → fieldPaper r ≡ placeAnswer s range → fieldPaper r′ ≡ placeAnswer s range → r ≡ r′
-place-determined s range r r′ p q = field-paper-injective r r′ (p ∙ sym q)
-
-pub text-determined : (s : List ℕ) (name : Name) (range : Range) (r r′ : Text) → fieldPaper r ≡ textAnswer s name range → fieldPaper r′ ≡ textAnswer s name range → r ≡ r′
-text-determined s name range r r′ p q = field-paper-injective r r′ (p ∙ sym q)
-
-pub field-determined : (s : List ℕ) (line : Record) (name : Name) (r r′ : Text) → fieldPaper r ≡ fieldAnswer s line name → fieldPaper r′ ≡ fieldAnswer s line name → r ≡ r′
-field-determined s line name r r′ p q = field-paper-injective r r′ (p ∙ sym q)
-
 -- ---- POS
 
 positionOf : Answer → Position
@@ -57,5 +43,13 @@ position-back P.Bad = refl
 pub position-paper-injective : (x y : Position) → positionPaper x ≡ positionPaper y → x ≡ y
 position-paper-injective = LeftInverse·injective positionOf positionPaper position-back
 
-pub pos-determined : (s : List ℕ) (r r′ : Position) → positionPaper r ≡ posAnswer s → positionPaper r′ ≡ posAnswer s → r ≡ r′
-pos-determined s r r′ p q = position-paper-injective r r′ (p ∙ sym q)
+-- ---- the promises
+
+pub determined : Determined
+determined =
+    record {
+      place-in = λ s range r r′ e e′. field-paper-injective r r′ (e ∙ sym e′);
+      text-in = λ s name range r r′ e e′. field-paper-injective r r′ (e ∙ sym e′);
+      field = λ s line name r r′ e e′. field-paper-injective r r′ (e ∙ sym e′);
+      read-pos = λ s r r′ e e′. position-paper-injective r r′ (e ∙ sym e′);
+    }

@@ -17,8 +17,7 @@ use Rattle.text.proofs.SameLaws.{same-self, same-not, same-byte}
 use Rattle.line.specs.Place.{rangeOf}
 use Rattle.line.specs.declared.read.Record.{Record}
 use Rattle.line.specs.declared.place.Name.{Name}
-use Rattle.line.specs.declared.place.Name.the-variants as N
-use Rattle.fields.specs.Fields.{fitsIn, placeAnswer, dotAnswer, textAnswer, fieldAnswer}
+use Rattle.fields.specs.Fields.{fitsIn, placeAnswer, dotOf, dotPlaces, dotAnswer, textAnswer, fieldAnswer}
 use Rattle.fields.specs.Paper.{fieldPaper}
 use Rattle.fields.specs.declared.field.Text.{Text}
 use Rattle.fields.specs.declared.field.Text.the-variants as F
@@ -111,38 +110,17 @@ dot-within s r d t =
     let i = fits-inside s r f in
     omega arith
 
--- ---- the rules for a field
+-- ---- a field of a record, by its text
 
--- the fields of which a `.` is empty
-pub data Emptied : Name → Type 0 where
-  id : Emptied N.Id
-  alt : Emptied N.Alt
-  filter : Emptied N.Filter
-  info : Emptied N.Info
+module _ (s : List ℕ) (line : Record) (name : Name) (f : fitsIn (rangeOf line name) s ≡ true) where
+  -- a `.` reads as the table says
+  pub field-dot : cut (rangeOf line name) s ≡ 46 ∷ [] → fieldAnswer s line name ≡ says 0 (dotPlaces (dotOf name) (rangeOf line name))
+  unfolding fieldAnswer textAnswer dotAnswer
+  field-dot e = rw (f, e, same-self (46 ∷ []))
 
-module _ (s : List ℕ) (line : Record) where
-  field-reads : (name : Name) → fitsIn (rangeOf line name) s ≡ true → cut (rangeOf line name) s ≡ 46 ∷ [] → fieldAnswer s line name ≡ dotAnswer name (rangeOf line name)
-  unfolding fieldAnswer textAnswer
-  field-reads name f e = rw (f, e, same-self (46 ∷ []))
-
-  -- a `.` in ID, ALT, FILTER or INFO is the empty text at its column's end
-  pub dot-empty : {name : Name} → Emptied name → fitsIn (rangeOf line name) s ≡ true → cut (rangeOf line name) s ≡ 46 ∷ []
-      → fieldAnswer s line name ≡ says 0 ((rangeOf line name .start + rangeOf line name .len) ∷ 0 ∷ [])
-  unfolding dotAnswer
-  dot-empty id f e = field-reads N.Id f e
-  dot-empty alt f e = field-reads N.Alt f e
-  dot-empty filter f e = field-reads N.Filter f e
-  dot-empty info f e = field-reads N.Info f e
-
-  -- in QUAL it is absent
-  pub dot-absent : fitsIn (rangeOf line N.Qual) s ≡ true → cut (rangeOf line N.Qual) s ≡ 46 ∷ [] → fieldAnswer s line N.Qual ≡ says 0 []
-  unfolding dotAnswer
-  dot-absent f e = field-reads N.Qual f e
-
-  -- any text but a `.` stands as it is
-  pub field-stands : (name : Name) → fitsIn (rangeOf line name) s ≡ true → (cut (rangeOf line name) s ≡ 46 ∷ [] → ⊥)
-      → fieldAnswer s line name ≡ says 0 (rangeOf line name .start ∷ rangeOf line name .len ∷ [])
+  -- any other text stands as it is
+  pub field-stands : (cut (rangeOf line name) s ≡ 46 ∷ [] → ⊥) → fieldAnswer s line name ≡ says 0 (rangeOf line name .start ∷ rangeOf line name .len ∷ [])
   unfolding fieldAnswer textAnswer placeAnswer
-  field-stands name f h = rw (f, same-not (cut (rangeOf line name) s) (46 ∷ []) h)
+  field-stands h = rw (f, same-not (cut (rangeOf line name) s) (46 ∷ []) h)
 
 pub ruleset laws = (place-far, place-long, place-fits, dot-not-one, dot-past, dot-at, text-dot, text-place, field-text)

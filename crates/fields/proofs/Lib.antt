@@ -3,3 +3,4 @@ pub mod FieldLaws
 pub mod Determined
 pub mod RecordLaws
 pub mod CaseLaws
+pub mod Demands

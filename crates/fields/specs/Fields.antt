@@ -2,6 +2,7 @@
 use Prim.Native.Nat.{ℕ, _+_, _-_}
 use mathlib.Core.Bool.{Bool, _&&_}
 use mathlib.Core.List.{List, [], _∷_}
+use mathlib.Core.Option.{Option, some, none}
 use lib.ListN.{length}
 use lib.Dec.{leb}
 use Rattle.text.specs.Pick.{pick}
@@ -47,17 +48,17 @@ dotPlaces absent r = []
 dotPlaces itself r = rangePlaces r
 
 -- and as a text
-abbrev pub dotText : Dot → List ℕ
-dotText empty = []
-dotText absent = []
-dotText itself = 46 ∷ []
+abbrev pub dotText : Dot → Option (List ℕ)
+dotText empty = some []
+dotText absent = none
+dotText itself = some (46 ∷ [])
 
 unfoldable pub dotAnswer : Name → Range → Answer
 dotAnswer n r = says 0 (dotPlaces (dotOf n) r)
 
--- the text that a column of a field reads as
-abbrev pub readText : Name → List ℕ → List ℕ
-readText n c = pick (same c (46 ∷ [])) (dotText (dotOf n)) c
+-- the text that a column of a field reads as, if any
+abbrev pub readText : Name → List ℕ → Option (List ℕ)
+readText n c = pick (same c (46 ∷ [])) (dotText (dotOf n)) (some c)
 
 -- a range's text that is a `.` reads as its field says; any other stands as it is
 unfoldable pub textAnswer : List ℕ → Name → Range → Answer

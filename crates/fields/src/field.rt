@@ -9,8 +9,9 @@ ghost use mathlib.Core.Bool.{_&&_};
 ghost use mathlib.Core.List.{[], _∷_};
 ghost use Rattle.text.specs.Same.{same};
 ghost use Rattle.text.specs.Range.{cut};
-ghost use Rattle.fields.specs.Fields.{placeAnswer, textAnswer, fieldAnswer, dotAnswer, fitsIn};
+ghost use Rattle.fields.specs.Fields.{dotAnswer, fitsIn};
 ghost use Rattle.fields.specs.Paper.{fieldPaper};
+ghost use Rattle.fields.specs.Promises.{FindsPlace, FindsText, FindsField};
 
 // What a field's text is.
 pub enum Text {
@@ -24,7 +25,7 @@ pub enum Text {
 
 // A place from anywhere, whatever its numbers: it fits the buffer, or gets 6.
 pub fn place_in(s: &[u8], range: Range) -> Text
-    ensures { λ r. ⌜ fieldPaper r ≡ placeAnswer (now (s .entry)) range ⌝ }
+    ensures { λ r. ⌜ FindsPlace (now (s .entry)) range r ⌝ }
 {
     let start = range.start;
     let len = range.len;
@@ -80,7 +81,7 @@ fn dot(name: Name, range: Range) -> Text
 // The text of a field that stands at a place of the buffer. A `.` is empty at its column's end for ID, ALT, FILTER and INFO,
 // and absent for QUAL.
 pub fn text_in(s: &[u8], name: Name, range: Range) -> Text
-    ensures { λ r. ⌜ fieldPaper r ≡ textAnswer (now (s .entry)) name range ⌝ }
+    ensures { λ r. ⌜ FindsText (now (s .entry)) name range r ⌝ }
 {
     if is_dot(s, range) {
         return dot(name, range);
@@ -90,7 +91,7 @@ pub fn text_in(s: &[u8], name: Name, range: Range) -> Text
 
 // The text of a field of the record's line, in the buffer that the line was read from.
 pub fn field(s: &[u8], line: Record, name: Name) -> Text
-    ensures { λ r. ⌜ fieldPaper r ≡ fieldAnswer (now (s .entry)) line name ⌝ }
+    ensures { λ r. ⌜ FindsField (now (s .entry)) line name r ⌝ }
 {
     text_in(s, name, place_of(line, name))
 }

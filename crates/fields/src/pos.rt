@@ -1,9 +1,7 @@
 // POS: a position from 1 on, or none.
 use decimal::read::Number;
 use decimal::read::read_decimal;
-ghost use mathlib.Core.Path.{_≡_};
-ghost use Rattle.fields.specs.Pos.{posAnswer};
-ghost use Rattle.fields.specs.Paper.{positionPaper};
+ghost use Rattle.fields.specs.Promises.{ReadsPos};
 
 // What a POS text says.
 pub enum Position {
@@ -17,7 +15,7 @@ pub enum Position {
 
 // Reads a POS text.
 pub fn read_pos(s: &[u8]) -> Position
-    ensures { λ r. ⌜ positionPaper r ≡ posAnswer (now (s .entry)) ⌝ }
+    ensures { λ r. ⌜ ReadsPos (now (s .entry)) r ⌝ }
 {
     let read = read_decimal(s);
     let Number::Value(n) = read else {

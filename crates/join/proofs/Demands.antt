@@ -19,7 +19,7 @@ use Rattle.pieces.proofs.PieceLaws.{joined-one, joined-more}
 use Rattle.line.specs.Line.{feed, endingBytes, readAnswer}
 use Rattle.line.specs.Demands.{Column, Ended, by-feed, Stands}
 use Rattle.line.proofs.ColumnLaws.{return-tab, feed-bytes, utf8-each, utf8-all, or-none, required-count, count-required}
-use Rattle.line.proofs.Exact.{begins-read}
+use Rattle.line.proofs.ShapeLaws.{begins-read}
 use Rattle.join.specs.Join.{isBad, columnJudged, columnsJudged, lineText}
 use Rattle.join.specs.Demands.{Taken, Forth, Back}
 use Rattle.join.proofs.JoinLaws.{isLast, judged-cons}

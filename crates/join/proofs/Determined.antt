@@ -1,13 +1,12 @@
 -- The joiner's contract allows one outcome only: no two answers have one paper, since each can be read back from its own. Assumes nothing.
-use Prim.Native.Nat.{ℕ}
 use mathlib.Core.Path.{_≡_, refl, sym, _∙_}
-use mathlib.Core.List.{List, [], _∷_}
+use mathlib.Core.List.{[], _∷_}
 use mathlib.Mathlib.Logic.Function.Defs.{LeftInverse·injective}
 use lib.Dec.{eqb}
 use Rattle.text.specs.Pick.{pick}
 use Rattle.text.specs.Answer.{Answer, says}
-use Rattle.join.specs.Join.{JoinsAt}
 use Rattle.join.specs.Paper.{joinedPaper}
+use Rattle.join.specs.Promises.{Determined}
 use Rattle.join.specs.declared.columns.Joined.{Joined}
 use Rattle.join.specs.declared.columns.Joined.the-variants as J
 
@@ -28,5 +27,8 @@ joined-back J.Few = refl
 pub joined-paper-injective : (x y : Joined) → joinedPaper x ≡ joinedPaper y → x ≡ y
 joined-paper-injective = LeftInverse·injective joinedOf joinedPaper joined-back
 
-pub join-determined : {t ends : List ℕ} {at : ℕ} {out out′ out″ : List ℕ} {r r′ : Joined} → JoinsAt t ends at out r out′ → JoinsAt t ends at out r′ out″ → (r ≡ r′) × (out′ ≡ out″)
-join-determined {r = r} {r′ = r′} g h = (joined-paper-injective r r′ (g .answer ∙ sym (h .answer)), g .bytes ∙ sym (h .bytes))
+pub determined : Determined
+determined =
+    record {
+      join = λ t ends at out r r′ l l′ g h. (joined-paper-injective r r′ (g .answer ∙ sym (h .answer)), g .bytes ∙ sym (h .bytes));
+    }

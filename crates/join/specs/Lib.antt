@@ -1,3 +1,4 @@
 pub mod Paper
 pub mod Join
+pub mod Promises
 pub mod Demands

@@ -271,11 +271,6 @@ fine-count from cs e past n h =
     let z : 1 + length cs - 1 ≡ length cs = omega arith in
     required-count (length cs) (rw z at (fine-order 1 from cs e past n h .last))
 
--- and none is empty
-pub fine-full : (from : ℕ) (cs : List (List ℕ)) (e : Ending) (past : ℕ) → 0 < length cs → verdict 1 from cs e past ≡ fine
-    → (i : ℕ) → i < length cs → 0 < length (getD cs i [])
-fine-full from cs e past n h = fine-order 1 from cs e past n h .full
-
 -- so many columns, of which none is empty, have the verdict fine
 pub count-fine : (from : ℕ) (cs : List (List ℕ)) (e : Ending) (past : ℕ) → (length cs ≡ 8) ⊎ (10 ≤ length cs)
     → ((i : ℕ) → i < length cs → 0 < length (getD cs i [])) → verdict 1 from cs e past ≡ fine

@@ -12,14 +12,15 @@ use Rattle.text.specs.Answer.{says}
 use Rattle.text.specs.Verdict.{Verdict, refused}
 use Rattle.text.proofs.ByteLaws.{some-empty}
 use Rattle.pieces.specs.Pieces.{split, joined}
-use Rattle.pieces.specs.Demands.{Free}
+use Rattle.pieces.specs.Demands.{Free, startIn}
 use Rattle.pieces.proofs.PieceLaws.{free-nil, free-cons, free-append, free-left, split-some, split-whole, split-free, split-append, split-joined, joined-one, joined-more}
+use Rattle.pieces.proofs.NumberLaws.{start-first, start-later}
 use Rattle.line.specs.Line.{Ending, nothing, feed, return-feed, endingBytes, Line, line, lineOf, required, lastVerdict, verdict, fieldPlaces, allUtf8, judgedAnswer, lineAnswer, readAnswer}
-use Rattle.line.specs.Demands.{MayEnd, Column, Ended, by-nothing, by-feed, by-return-feed, Shaped, Begins, startIn, Bad, empty-tabbed, empty-fed, empty-returned, early-fed, early-cut, empty-cut, Behind, Faulty, bad-column, not-text, Faults}
+use Rattle.line.specs.Demands.{MayEnd, Column, Ended, by-nothing, by-feed, by-return-feed, Shaped, Begins, Refuses, Bad, empty-tabbed, empty-fed, empty-returned, early-fed, early-cut, empty-cut, Behind, Faulty, bad-column, not-text, Faults}
 use Rattle.line.proofs.LineLaws.{read-line, BeforeFeed, plain, returned, before-feed}
 use Rattle.line.proofs.ColumnLaws.{free-each, line-whole, line-tab, line-feed, line-end, fed-plain, fed-return, InOrder, order-one, order-more, count-required, required-count}
-use Rattle.line.proofs.Exact.{shaped-line, shaped-split, shaped-fine, shaped-answer, cut-shaped, begins-answer}
-use Rattle.line.proofs.One.{start-first, start-later, places-lie}
+use Rattle.line.proofs.ShapeLaws.{shaped-line, shaped-split, shaped-fine, shaped-answer, cut-shaped, begins-answer}
+use Rattle.line.proofs.TenPlaces.{places-lie}
 
 -- ---- the verdict of a line
 
@@ -231,6 +232,19 @@ module _ (s : List ℕ) (at : ℕ) (h : at < length s) where
           let z = begins-answer s at h b in
           let x : fieldPlaces at cs (at + length (joined 9 cs)) ≡ [] = cc in
           absurd (omega (arith, places-lie at cs (b .shaped .count) .ten, ap length x))
+
+-- so from 2 to 5
+bad-refuses : {k : ℕ} {left : List ℕ} {n m next : ℕ} → Bad k left n m → Refuses (says n (next ∷ []))
+bad-refuses empty-tabbed = record { two = omega arith; five = omega arith }
+bad-refuses (empty-fed x) = record { two = omega arith; five = omega arith }
+bad-refuses (empty-returned x) = record { two = omega arith; five = omega arith }
+bad-refuses (early-fed c r x f g) = record { two = omega arith; five = omega arith }
+bad-refuses (early-cut x f g) = record { two = omega arith; five = omega arith }
+bad-refuses empty-cut = record { two = omega arith; five = omega arith }
+
+pub faulty-refuses : {s : List ℕ} {at n next : ℕ} → Faulty s at n next → Refuses (says n (next ∷ []))
+faulty-refuses (bad-column b x) = bad-refuses x
+faulty-refuses (not-text b u) = record { two = omega arith; five = omega arith }
 
 pub faults : Faults readAnswer
 unfolding Faults

@@ -2,18 +2,20 @@
 use Prim.Native.Nat.{ℕ, _+_, _<_}
 use mathlib.Core.Path.{_≡_, refl, sym, ap, _∙_}
 use mathlib.Core.Logic.{inl}
-use mathlib.Core.List.{List, [], _∷_, flatten, append-nil}
+use mathlib.Core.List.{List, [], _∷_, append-nil}
 use native.Mathlib.Omega.{arith}
 use lib.ListN.{length, getD, set, replicate, getD-replicate}
 use lib.Seq.{getD-set-same}
 use Rattle.text.specs.Answer.{Answer, says, numberOf, valuesOf}
 use Rattle.text.proofs.Demands.{byte-text}
 use Rattle.pieces.specs.Pieces.{joined}
+use Rattle.pieces.specs.Demands.{startIn}
 use Rattle.pieces.proofs.PieceLaws.{free-nil, free-cons, joined-one, joined-more}
+use Rattle.pieces.proofs.NumberLaws.{start-first, start-later}
 use Rattle.line.specs.Line.{nothing, endingBytes, readAnswer}
-use Rattle.line.specs.Demands.{by-nothing, Begins, Reader, Refuses, Exact, startIn, Stands, One, empty-tabbed, Faulty, bad-column, Faults}
+use Rattle.line.specs.Demands.{by-nothing, Begins, Reader, Refuses, Exact, Stands, One, empty-tabbed, Faulty, bad-column, Faults}
 use Rattle.line.proofs.ColumnLaws.{utf8-all}
-use Rattle.line.proofs.Exact.{begins-read}
+use Rattle.line.proofs.ShapeLaws.{begins-read}
 use Rattle.line.proofs.One.{one}
 use Rattle.line.proofs.Faults.{faulty-answer}
 use Rattle.line.proofs.Meets.{stands-same}
@@ -98,20 +100,22 @@ invented-length claim = let e = not-altered 16 (λ vs. getD vs 16 0 + 1) (omega 
 
 -- and one that gives the start of CHROM for that of ALT, where the same byte stands
 pub invented-place : One (λ s at. altered 9 (λ vs. getD vs 1 0) (readAnswer s at)) → ⊥
-unfolding values startIn flatten ones
+unfolding values ones
 invented-place claim =
     let e = not-altered 9 (λ vs. getD vs 1 0) (omega arith) claim in
     let c : stands .columns ≡ ones = sym (stands .only ones nothing [] ones-begin .0) in
-    let chrom : getD values 1 0 ≡ 0 = rw (stands .values) (stands .lie .eight 0 (omega arith) .starts) in
-    let alt : getD values 9 0 ≡ 8 = rw (stands .values) (stands .lie .eight 4 (omega arith) .starts ∙ rw c) in
-    omega arith
+    let chrom : getD values 1 0 ≡ 0 + startIn ones 0 = rw (stands .values) (stands .lie .eight 0 (omega arith) .starts ∙ rw c) in
+    let alt : getD values 9 0 ≡ 0 + startIn ones 4 = rw (stands .values) (stands .lie .eight 4 (omega arith) .starts ∙ rw c) in
+    omega (arith, start-first ones, start-later (49 ∷ []) (replicate 7 (49 ∷ [])) 3)
 
 -- ---- an empty column
 
 -- an input that begins with a tab is refused by 2, and goes on behind it
 empty-faulty : (rest : List ℕ) → Faulty (9 ∷ rest) 0 2 1
-unfolding startIn flatten
-empty-faulty rest = bad-column {cs = []} (record { each = λ i l. absurd (omega arith); whole = joined-one 9 (9 ∷ rest) }) empty-tabbed
+empty-faulty rest =
+    let f : Faulty (9 ∷ rest) 0 2 (0 + startIn [] 0 + 1) =
+    bad-column {cs = []} (record { each = λ i l. absurd (omega arith); whole = joined-one 9 (9 ∷ rest) }) empty-tabbed in
+    rw start-first at f
 
 -- so a reader that answers one line, from whatever place of whatever input, is refused
 pub fixed-line : (read : Reader) (a : Answer) → numberOf a ≡ 0 → ((s : List ℕ) (at : ℕ) → at < length s → read s at ≡ a) → One read → ⊥

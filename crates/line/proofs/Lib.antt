@@ -4,6 +4,8 @@ pub mod ReadLaws
 pub mod PlaceLaws
 pub mod AnswerLaws
 pub mod MarkLaws
+pub mod ShapeLaws
+pub mod TenPlaces
 pub mod Exact
 pub mod One
 pub mod WindowLaws

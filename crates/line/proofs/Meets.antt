@@ -3,18 +3,19 @@ use Prim.Native.Nat.{ℕ, zero, suc, _+_, _*_, _<_, _≤_}
 use mathlib.Core.Path.{_≡_, refl, sym, ap, _∙_}
 use mathlib.Core.Bool.{Bool, true, false}
 use mathlib.Core.Logic.{⊎-elim}
-use mathlib.Core.List.{List, [], _∷_}
+use mathlib.Core.List.{List}
 use native.Mathlib.Omega.{arith}
 use native.Mathlib.Decide.{decLt}
 use lib.ListN.{length, getD, drop}
 use lib.Seq.{getD-drop, ext-getD}
 use lib.Dec.{ltb}
 use borrow.Author.Tests.{ltb-true, ltb-false}
-use Rattle.text.specs.Answer.{Answer, says, numberOf, valuesOf}
+use Rattle.text.specs.Answer.{Answer, numberOf, valuesOf}
 use Rattle.line.specs.Line.{Ending, readAnswer}
-use Rattle.line.specs.Demands.{MayEnd, Begins, Reader, Refuses, Exact, Lies, TenPlaces, Stands, One, Bad, empty-tabbed, empty-fed, empty-returned, early-fed, early-cut, empty-cut, Faulty, bad-column, not-text, Faults, Moved, MovesOn, Meets, OneReader}
+use Rattle.line.specs.Demands.{MayEnd, Begins, Reader, Exact, Lies, TenPlaces, Stands, One, Faults, Moved, MovesOn, Meets, OneReader}
 use Rattle.line.proofs.LineLaws.{read-end, read-beyond}
-use Rattle.line.proofs.Exact.{begins-read, exact}
+use Rattle.line.proofs.ShapeLaws.{begins-read}
+use Rattle.line.proofs.Exact.{answer-is, alone-is, exact}
 use Rattle.line.proofs.One.{one}
 use Rattle.line.proofs.MovesOn.{moves-on, Way, ended, beyond, inside, way}
 use Rattle.line.proofs.Faults.{Told, faulty, begun, told, faulty-answer, faults}
@@ -75,44 +76,6 @@ stands-same {at = at} x y =
     let l : TenPlaces (y .places) at (x .columns) = rw (q .0) at (y .lie) in
     let p : x .places ≡ y .places = places-same (x .begin .shaped .count) (x .lie) l in
     x .values ∙ rw (p, ← q .0, ← q .1) (sym (y .values))
-
--- ---- what the answer is
-
-answer-is : (a : Answer) {n : ℕ} {vs : List ℕ} → numberOf a ≡ n → valuesOf a ≡ vs → a ≡ says n vs
-answer-is (says n vs) p q = rw (p, q)
-
--- one that moves on, and is not 0, has its next place and nothing more
-alone-is : {s : List ℕ} {at : ℕ} (a : Answer) {n : ℕ} (m : Moved s at a) → numberOf a ≡ n → (n ≡ 0 → ⊥) → a ≡ says n (m .next ∷ [])
-alone-is a m e h = answer-is a e (m .values ∙ ap (λ (l : List ℕ). m .next ∷ l) (m .alone (λ z. h (sym e ∙ z))))
-
--- ---- exact follows
-
-bad-refuses : {k : ℕ} {left : List ℕ} {n m next : ℕ} → Bad k left n m → Refuses (says n (next ∷ []))
-bad-refuses empty-tabbed = record { two = omega arith; five = omega arith }
-bad-refuses (empty-fed x) = record { two = omega arith; five = omega arith }
-bad-refuses (empty-returned x) = record { two = omega arith; five = omega arith }
-bad-refuses (early-fed c r x f g) = record { two = omega arith; five = omega arith }
-bad-refuses (early-cut x f g) = record { two = omega arith; five = omega arith }
-bad-refuses empty-cut = record { two = omega arith; five = omega arith }
-
-faulty-refuses : {s : List ℕ} {at n next : ℕ} → Faulty s at n next → Refuses (says n (next ∷ []))
-faulty-refuses (bad-column b x) = bad-refuses x
-faulty-refuses (not-text b u) = record { two = omega arith; five = omega arith }
-
--- a reader that refuses just the faulty lines, and moves on, is exact
-pub faults-exact : (read : Reader) → Faults read → MovesOn read → Exact read
-unfolding Faults MovesOn Exact
-faults-exact read f m s at h = (λ r cs e rest b. refused r b, λ none. by none (told s at))
-  where
-    refused : Refuses (read s at) → {cs : List (List ℕ)} {e : Ending} {rest : List ℕ} → Begins (drop at s) cs e rest → ⊥
-    refused r b =
-        let a = faulty-answer s at h (f s at h _ _ .0 (alone-is (read s at) (m s at) refl (λ z. omega (arith, r .two)))) in
-        let n = ap numberOf a in
-        omega (arith, r .two, begins-read s at h b)
-
-    by : ((cs : List (List ℕ)) (e : Ending) (rest : List ℕ) → Begins (drop at s) cs e rest → ⊥) → Told s at → Refuses (read s at)
-    by none (faulty n next x) = rw (f s at h n next .1 x) (faulty-refuses x)
-    by none (begun {cs} {e} {rest} b) = absurd (none cs e rest b)
 
 -- ---- ours meets them
 

@@ -1,114 +1,61 @@
--- A record that was read has the places of its line's good columns; as none of them is empty, each lies in the buffer. Assumes nothing.
-use Prim.Native.Nat.{ℕ, zero, suc, _+_, _*_, _<_, _≤_, suc-le-suc}
+-- A record that was read has the ten places of its line's columns; as none of them is empty, each lies in the buffer. Assumes nothing.
+use Prim.Native.Nat.{ℕ, suc, _+_, _<_, _≤_, suc-le-suc}
 use mathlib.Core.Path.{_≡_, refl, sym, ap, _∙_}
+use mathlib.Core.Bool.{Bool, true, false}
 use mathlib.Core.Logic.{_⊎_, ⊎-elim}
 use mathlib.Core.List.{List, [], _∷_, _++_}
 use native.Mathlib.Omega.{arith}
-use lib.ListN.{length, getD, drop, length-drop, length-take, length-append, drop-of-length-le, List·getD-append}
+use lib.ListN.{length, getD, drop, length-drop, length-take, length-append, drop-of-length-le, List·getD-eq-default}
 use lib.Seq.{getD-drop}
-use borrow.Author.Tests.{eq-eqb, ne-eqb}
-use Rattle.text.specs.Answer.{says}
+use lib.Dec.{eqb}
+use borrow.Author.Tests.{lt-ltb, le-ltb, ne-eqb}
+use Rattle.text.specs.Pick.{pick}
+use Rattle.text.specs.Answer.{says, valuesOf}
 use Rattle.text.specs.Range.{cut}
 use Rattle.text.specs.declared.range.Range.{Range}
 use Rattle.text.proofs.Lists.{cut-is}
 use Rattle.pieces.specs.Pieces.{split, pieces, joined}
-use Rattle.pieces.specs.Demands.{Free}
-use Rattle.pieces.proofs.PieceLaws.{split-joined, split-free, split-back, joined-none, joined-one, joined-more, pieces-none, pieces-some}
-use Rattle.line.specs.Line.{Ending, endingBytes, Line, line, lineOf, columnPlaces, leadingPlaces, fieldPlaces, lineAnswer, readAnswer}
-use Rattle.line.specs.Place.{rangeOf}
+use Rattle.pieces.specs.Demands.{Free, startIn}
+use Rattle.pieces.proofs.PieceLaws.{split-back, joined-none, joined-one, joined-more, pieces-none, pieces-some}
+use Rattle.line.specs.Line.{Ending, endingBytes, line, lineOf, readAnswer}
+use Rattle.line.specs.Place.{rangeOf, columnNumber, columnOf, columnStart}
 use Rattle.line.specs.Paper.{recordPlaces}
-use Rattle.line.specs.Demands.{Refuses}
+use Rattle.line.specs.Demands.{Column, Begins, Lies, TenPlaces, Stands, One}
 use Rattle.line.specs.declared.read.Record.{Record}
+use Rattle.line.specs.declared.place.Name.{Name}
 use Rattle.line.specs.declared.place.Name.the-variants as N
-use Rattle.line.proofs.ColumnLaws.{line-whole}
-use Rattle.line.proofs.LineLaws.{read-line}
-use Rattle.line.proofs.Exact.{Good, good-read, read-good}
-use Rattle.line.proofs.One.{column-leading, column-length, zero-within, cuts-out, fieldOf, CutsOut}
-
--- ---- the lengths of places
-
--- a leading place has the length of its column
-leading-size : (n from : ℕ) (cs : List (List ℕ)) (i : ℕ) → i < n → i < length cs → getD (leadingPlaces n from cs) (2 * i + 1) 0 ≡ length (getD cs i [])
-unfolding leadingPlaces
-leading-size n from [] i h l = absurd (omega arith)
-leading-size zero from (c ∷ cs) i h l = absurd (omega arith)
-leading-size (suc n) from (c ∷ cs) zero h l = refl
-leading-size (suc n) from (c ∷ cs) (suc i) h l =
-    let q : 2 * suc i + 1 ≡ suc (suc (2 * i + 1)) = omega arith in
-    rw q (leading-size n (from + length c + 1) cs i (omega arith) (omega arith))
-
--- and the place behind them that of the other columns, joined
-others-size : (n from : ℕ) (cs : List (List ℕ)) → n < length cs → getD (leadingPlaces n from cs) (2 * n + 1) 0 ≡ length (joined 9 (drop n cs))
-unfolding leadingPlaces
-others-size n from [] l = absurd (omega arith)
-others-size zero from (c ∷ cs) l = refl
-others-size (suc n) from (c ∷ cs) l =
-    let q : 2 * suc n + 1 ≡ suc (suc (2 * n + 1)) = omega arith in
-    rw q (others-size n (from + length c + 1) cs (omega arith))
-
--- INFO has the length of column 7, counted from 0
-info-size : (from : ℕ) (cs : List (List ℕ)) (end : ℕ) → (length cs ≡ 8) ⊎ (10 ≤ length cs) → getD (fieldPlaces from cs end) 15 0 ≡ length (getD cs 7 [])
-unfolding fieldPlaces
-info-size from cs end n = ⊎-elim eight ten n
-  where
-    eight : length cs ≡ 8 → getD (fieldPlaces from cs end) 15 0 ≡ length (getD cs 7 [])
-    eight h =
-        let l = column-length from cs in
-        rw (eq-eqb (length cs) 8 h, List·getD-append (columnPlaces from cs) (end ∷ 0 ∷ end ∷ 0 ∷ []) 0 15 (omega arith), column-leading from cs)
-        (leading-size (length cs) from cs 7 (omega arith) (omega arith))
-
-    ten : 10 ≤ length cs → getD (fieldPlaces from cs end) 15 0 ≡ length (getD cs 7 [])
-    ten h = rw (ne-eqb (length cs) 8 (λ z. omega arith)) (leading-size 9 from cs 7 (omega arith) (omega arith))
-
--- the samples that of the columns from 9 on, joined
-samples-size : (from : ℕ) (cs : List (List ℕ)) (end : ℕ) → 10 ≤ length cs → getD (fieldPlaces from cs end) 19 0 ≡ length (joined 9 (drop 9 cs))
-unfolding fieldPlaces
-samples-size from cs end h = rw (ne-eqb (length cs) 8 (λ z. omega arith)) (others-size 9 from cs (omega arith))
+use Rattle.line.proofs.ShapeLaws.{shaped-line, shaped-split}
+use Rattle.line.proofs.One.{one, lie-cuts, fieldOf, CutsOut}
 
 -- ---- what was read
 
--- the line at the place, its good columns, and their places
+-- the columns that begin the buffer at the place, and no others; the record's places are theirs
 pub record Recorded (s : List ℕ) (at : ℕ) (r : Record) : Type 0 where
-  pub text : List ℕ
+  pub columns : List (List ℕ)
   pub ending : Ending
   pub rest : List ℕ
-  pub within : at < length s
-  pub is : lineOf (drop at s) ≡ line text ending rest
-  pub good : Good (split 9 text)
-  pub places : recordPlaces r ≡ fieldPlaces at (split 9 text) (at + length text)
+  pub begin : Begins (drop at s) columns ending rest
+  pub only : (cs : List (List ℕ)) (e : Ending) (u : List ℕ) → Begins (drop at s) cs e u → cs ≡ columns
+  pub lie : TenPlaces (recordPlaces r) at columns
 
 pub recorded : (s : List ℕ) (at : ℕ) {next : ℕ} {r : Record} → readAnswer s at ≡ says 0 (next ∷ recordPlaces r) → Recorded s at r
-recorded s at {next} {r} h = by (lineOf (drop at s)) refl
-  where
-    by : (l : Line) → lineOf (drop at s) ≡ l → Recorded s at r
-    by (line t e rest) q = ⊎-elim refuted stands (read-good at t e rest)
-      where
-        within : at < length s
-        within = zero-within s at (rw h)
+unfolding One
+recorded s at {next} {r} h =
+    let o : Stands s at (readAnswer s at) = one s at (rw h) in
+    let v : next ∷ recordPlaces r ≡ valuesOf (readAnswer s at) = rw h in
+    let p : o .places ≡ recordPlaces r = cc (v ∙ o .values) in
+    record {
+      columns = o .columns;
+      ending = o .ending;
+      rest = o .rest;
+      begin = o .begin;
+      only = λ cs e u b. o .only cs e u b .0;
+      lie = rw p at (o .lie);
+    }
 
-        read : says 0 (next ∷ recordPlaces r) ≡ lineAnswer at (line t e rest)
-        read = sym h ∙ read-line s at within ∙ ap (lineAnswer at) q
+-- ---- pieces that are not empty
 
-        refuted : Refuses (lineAnswer at (line t e rest)) → Recorded s at r
-        refuted x = absurd (let k = rw (← read) at x in omega arith)
-
-        stands : Good (split 9 t) → Recorded s at r
-        stands g = let z = read ∙ good-read at t e rest g in record { text = t; ending = e; rest = rest; within = within; is = q; good = g; places = cc }
-
--- a place that lies in a buffer, and cuts a text out of it
-pub record Lies (s : List ℕ) (x : Range) (c : List ℕ) : Type 0 where
-  pub fits : x .start + x .len ≤ length s
-  pub text : cut x s ≡ c
-
--- a place that cuts a text that is not empty out of a buffer, and has its length, lies in the buffer
-cut-fits : (s : List ℕ) (x : Range) (c : List ℕ) → cut x s ≡ c → x .len ≡ length c → 0 < length c → x .start + x .len ≤ length s
-cut-fits s x c e l n =
-    let m = ap length (sym (cut-is (x .start) (x .len) s) ∙ e) in
-    let t = length-take (x .len) (drop (x .start) s) in
-    let d = length-drop (x .start) s in
-    omega arith
-
--- pieces of which none is empty, joined, have no fewer bytes than there are pieces
+-- joined, they have no fewer bytes than there are pieces
 joined-length : (b : ℕ) (ps : List (List ℕ)) → ((i : ℕ) → i < length ps → 0 < length (getD ps i [])) → length ps ≤ length (joined b ps)
 joined-length b [] h = rw (joined-none b) (omega arith)
 joined-length b (p ∷ []) h = rw (joined-one b p) (h 0 (omega arith))
@@ -117,7 +64,7 @@ joined-length b (p ∷ q ∷ ps) h =
     let k = joined-length b (q ∷ ps) (λ i m. h (suc i) (suc-le-suc m)) in
     rw (joined-more b p q ps, l) (omega arith)
 
--- pieces free of a byte, none of them empty, come back when they are joined by it
+-- and come back, where they are free of the byte between them
 joined-back : (b : ℕ) (ps : List (List ℕ)) → ((i : ℕ) → i < length ps → 0 < length (getD ps i [])) → ((i : ℕ) → i < length ps → Free b (getD ps i []))
     → pieces b (joined b ps) ≡ ps
 joined-back b [] h f = rw (joined-none b) (pieces-none b [] refl)
@@ -125,77 +72,194 @@ joined-back b (p ∷ ps) h f =
     let l = joined-length b (p ∷ ps) h in
     pieces-some b (joined b (p ∷ ps)) (omega arith) ∙ split-back b (p ∷ ps) (omega arith) f
 
+-- ---- a place in a buffer
+
+-- it lies in the buffer, and cuts a text out of it
+pub record LiesIn (s : List ℕ) (x : Range) (c : List ℕ) : Type 0 where
+  pub fits : x .start + x .len ≤ length s
+  pub text : cut x s ≡ c
+
+-- so it does where it cuts a text that is not empty out, and has its length
+cut-lies : {s : List ℕ} {x : Range} {c : List ℕ} → cut x s ≡ c → x .len ≡ length c → 0 < length c → LiesIn s x c
+cut-lies {s} {x} {c} e l n =
+    let m = ap length (sym (cut-is (x .start) (x .len) s) ∙ e) in
+    let t = length-take (x .len) (drop (x .start) s) in
+    let d = length-drop (x .start) s in
+    record { fits = omega arith; text = e }
+
+-- and where it is empty
+empty-lies : {s : List ℕ} {x : Range} → x .start ≤ length s → x .len ≡ 0 → LiesIn s x []
+empty-lies {s} {x} h z = record { fits = omega arith; text = cut-is (x .start) (x .len) s ∙ rw z }
+
+-- ---- the fields of a record
+
+-- a field is the place of its column's number
+range-place : (r : Record) (n : Name) → Lies (recordPlaces r) (columnNumber n) (rangeOf r n .start) (rangeOf r n .len)
+unfolding recordPlaces rangeOf
+range-place r N.Chrom = record { starts = refl; sized = refl }
+range-place r N.Pos = record { starts = refl; sized = refl }
+range-place r N.Id = record { starts = refl; sized = refl }
+range-place r N.Reference = record { starts = refl; sized = refl }
+range-place r N.Alt = record { starts = refl; sized = refl }
+range-place r N.Qual = record { starts = refl; sized = refl }
+range-place r N.Filter = record { starts = refl; sized = refl }
+range-place r N.Info = record { starts = refl; sized = refl }
+range-place r N.Format = record { starts = refl; sized = refl }
+range-place r N.Samples = record { starts = refl; sized = refl }
+
+-- what stands behind the first eight places
+behind : (places : List ℕ) {l : List ℕ} → drop 16 places ≡ l → (j : ℕ) → getD places (16 + j) 0 ≡ getD l j 0
+behind places e j = sym (getD-drop 16 places j 0) ∙ ap (λ (l : List ℕ). getD l j 0) e
+
+-- the column of a field but the samples
+column-is : (n : Name) (cs : List (List ℕ)) → columnNumber n < 9 → columnOf n cs ≡ getD cs (columnNumber n) []
+unfolding columnOf
+column-is n cs h = rw (ne-eqb (columnNumber n) 9 (λ z. omega arith))
+
+-- that is not among the columns
+column-none : (n : Name) (cs : List (List ℕ)) → length cs ≤ columnNumber n → length cs ≡ 8 → columnOf n cs ≡ []
+unfolding columnOf
+column-none n cs h e = by (eqb (columnNumber n) 9)
+  where
+    by : (b : Bool) → pick b (joined 9 (drop 9 cs)) (getD cs (columnNumber n) []) ≡ []
+    by true = rw (drop-of-length-le cs {i = 9} (omega arith)) (joined-none 9)
+    by false = List·getD-eq-default cs [] h
+
 module _ {s : List ℕ} {at : ℕ} {r : Record} (g : Recorded s at r) where
-  whole : g .text ++ (endingBytes (g .ending) ++ g .rest) ≡ drop at s
-  whole = line-whole (drop at s) (g .is) .whole
+  -- there are eight columns, or at least ten
+  pub count : (length (g .columns) ≡ 8) ⊎ (10 ≤ length (g .columns))
+  count = g .begin .shaped .count
 
-  cuts : CutsOut (recordPlaces r) s (split 9 (g .text)) (at + length (g .text))
-  cuts =
-      rw (g .places)
-      (cuts-out s (endingBytes (g .ending) ++ g .rest) at (split 9 (g .text)) (at + length (g .text)) (rw (split-joined 9 (g .text)) (sym whole)) (rw (split-joined 9 (g .text))) (g .good .count))
+  eight : 8 ≤ length (g .columns)
+  eight = ⊎-elim (λ h. omega arith) (λ h. omega arith) count
 
-  eight : 8 ≤ length (split 9 (g .text))
-  eight = ⊎-elim (λ h. omega arith) (λ h. omega arith) (g .good .count)
+  each : (i : ℕ) → i < length (g .columns) → Column (getD (g .columns) i [])
+  each = g .begin .shaped .each
 
-  ends : at + length (g .text) ≤ length s
+  -- and none is empty
+  full : (i : ℕ) → i < length (g .columns) → 0 < length (getD (g .columns) i [])
+  full i l = each i l .some
+
+  whole : joined 9 (g .columns) ++ (endingBytes (g .ending) ++ g .rest) ≡ drop at s
+  whole = g .begin .shaped .whole
+
+  -- they are the line's, between tabs
+  pub line-is : lineOf (drop at s) ≡ line (joined 9 (g .columns)) (g .ending) (g .rest)
+  line-is = shaped-line (g .begin .shaped)
+
+  pub columns-split : split 9 (joined 9 (g .columns)) ≡ g .columns
+  columns-split = shaped-split (g .begin .shaped)
+
+  -- there are no fewer bytes than columns
+  text-long : length (g .columns) ≤ length (joined 9 (g .columns))
+  text-long = joined-length 9 (g .columns) full
+
+  ends : at + length (joined 9 (g .columns)) ≤ length s
   ends =
-      let l = length-append (g .text) (endingBytes (g .ending) ++ g .rest) in
+      let l = length-append (joined 9 (g .columns)) (endingBytes (g .ending) ++ g .rest) in
       let m = ap length whole in
       let d = length-drop at s in
-      let w = g .within in
+      let t = text-long in
+      let n = eight in
       omega arith
 
-  -- INFO is column 7
-  pub info-lies : Lies s (rangeOf r N.Info) (getD (split 9 (g .text)) 7 [])
-  unfolding rangeOf recordPlaces fieldOf
-  info-lies =
-      let n = eight in
-      let c = cuts .eight 7 (omega arith) in
-      let e : getD (recordPlaces r) 15 0 ≡ length (getD (split 9 (g .text)) 7 []) =
-      ap (λ (l : List ℕ). getD l 15 0) (g .places) ∙ info-size at (split 9 (g .text)) (at + length (g .text)) (g .good .count) in
-      record { fits = cut-fits s (r .info) (getD (split 9 (g .text)) 7 []) c e (g .good .full 7 (omega arith)); text = c }
+  cuts : CutsOut (recordPlaces r) s (g .columns) (at + length (joined 9 (g .columns)))
+  cuts = lie-cuts s (endingBytes (g .ending) ++ g .rest) count (sym whole) (g .lie)
 
-  further : (i : ℕ) → i < length (drop 9 (split 9 (g .text))) → 9 + i < length (split 9 (g .text))
-  further i l = let d = length-drop 9 (split 9 (g .text)) in omega arith
+  -- a field has its column's place, and lies in the buffer
+  pub record Placed (n : Name) : Type 0 where
+    pub starts : rangeOf r n .start ≡ at + columnStart n (g .columns)
+    pub sized : rangeOf r n .len ≡ length (columnOf n (g .columns))
+    pub lies : LiesIn s (rangeOf r n) (columnOf n (g .columns))
 
-  samples-full : (i : ℕ) → i < length (drop 9 (split 9 (g .text))) → 0 < length (getD (drop 9 (split 9 (g .text))) i [])
-  samples-full i l = rw (getD-drop 9 (split 9 (g .text)) i []) (g .good .full (9 + i) (further i l))
+  -- that is among the columns
+  there : (n : Name) → columnNumber n < length (g .columns)
+      → Lies (recordPlaces r) (columnNumber n) (at + startIn (g .columns) (columnNumber n)) (length (columnOf n (g .columns)))
+      → fieldOf (recordPlaces r) (columnNumber n) s ≡ columnOf n (g .columns) → 0 < length (columnOf n (g .columns)) → Placed n
+  unfolding columnStart fieldOf
+  there n h l e f =
+      let p = range-place r n in
+      let z : rangeOf r n .len ≡ length (columnOf n (g .columns)) = sym (p .sized) ∙ l .sized in
+      record {
+        starts = rw (lt-ltb _ _ h) (sym (p .starts) ∙ l .starts);
+        sized = z;
+        lies = cut-lies (rw (p .starts, p .sized) at e) z f;
+      }
 
-  -- the samples are the columns from 9 on, joined
-  pub samples-lie : Lies s (rangeOf r N.Samples) (joined 9 (drop 9 (split 9 (g .text))))
-  unfolding rangeOf recordPlaces fieldOf
-  samples-lie = ⊎-elim bare some (g .good .count)
+  -- that is not
+  absent : (n : Name) → length (g .columns) ≤ columnNumber n → length (g .columns) ≡ 8
+      → Lies (recordPlaces r) (columnNumber n) (at + length (joined 9 (g .columns))) 0 → Placed n
+  unfolding columnStart
+  absent n h k l =
+      let p = range-place r n in
+      let c : columnOf n (g .columns) ≡ [] = column-none n (g .columns) h k in
+      let a : rangeOf r n .start ≡ at + length (joined 9 (g .columns)) = sym (p .starts) ∙ l .starts in
+      let z : rangeOf r n .len ≡ 0 = sym (p .sized) ∙ l .sized in
+      let e = ends in
+      record { starts = rw (le-ltb _ _ h) a; sized = rw c z; lies = rw c (empty-lies (omega arith) z) }
+
+  -- one of the first eight columns
+  early : (n : Name) → columnNumber n < 8 → Placed n
+  early n h =
+      let k = eight in
+      let c = column-is n (g .columns) (omega arith) in
+      there n (omega arith) (rw c (g .lie .eight (columnNumber n) h)) (rw c (cuts .eight (columnNumber n) h)) (rw c (full (columnNumber n) (omega arith)))
+
+  format-placed : Placed N.Format
+  format-placed = ⊎-elim bare some count
     where
-      bare : length (split 9 (g .text)) ≡ 8 → Lies s (r .samples) (joined 9 (drop 9 (split 9 (g .text))))
+      bare : length (g .columns) ≡ 8 → Placed N.Format
       bare h =
-          let n = cuts .bare h in
-          let a : r .samples .start ≡ at + length (g .text) = ap (λ (l : List ℕ). getD l 2 0) n in
-          let b : r .samples .len ≡ 0 = ap (λ (l : List ℕ). getD l 3 0) n in
-          let e = ends in
-          record {
-            fits = omega arith;
-            text = rw (drop-of-length-le (split 9 (g .text)) {i = 9} (omega arith), joined-none 9, cut-is (r .samples .start) (r .samples .len) s, b);
-          }
+          let n = g .lie .bare h in
+          absent N.Format (omega arith) h (record { starts = behind (recordPlaces r) n 0; sized = behind (recordPlaces r) n 1 })
 
-      some : 10 ≤ length (split 9 (g .text)) → Lies s (r .samples) (joined 9 (drop 9 (split 9 (g .text))))
+      some : 10 ≤ length (g .columns) → Placed N.Format
       some h =
-          let c = cuts .samples h in
-          let e : getD (recordPlaces r) 19 0 ≡ length (joined 9 (drop 9 (split 9 (g .text)))) =
-          ap (λ (l : List ℕ). getD l 19 0) (g .places) ∙ samples-size at (split 9 (g .text)) (at + length (g .text)) h in
-          let l = joined-length 9 (drop 9 (split 9 (g .text))) samples-full in
-          let d = length-drop 9 (split 9 (g .text)) in
-          record { fits = cut-fits s (r .samples) (joined 9 (drop 9 (split 9 (g .text)))) c e (omega arith); text = c }
+          let c = column-is N.Format (g .columns) (omega arith) in
+          there N.Format (omega arith) (rw c (g .lie .format h)) (rw c (cuts .format h)) (rw c (full 8 (omega arith)))
 
-  -- from which they come back
-  pub samples-back : pieces 9 (joined 9 (drop 9 (split 9 (g .text)))) ≡ drop 9 (split 9 (g .text))
+  -- the columns from 9 on
+  further : (i : ℕ) → i < length (drop 9 (g .columns)) → 9 + i < length (g .columns)
+  further i l = let d = length-drop 9 (g .columns) in omega arith
+
+  samples-full : (i : ℕ) → i < length (drop 9 (g .columns)) → 0 < length (getD (drop 9 (g .columns)) i [])
+  samples-full i l = rw (getD-drop 9 (g .columns) i []) (full (9 + i) (further i l))
+
+  samples-placed : Placed N.Samples
+  unfolding columnOf
+  samples-placed = ⊎-elim bare some count
+    where
+      bare : length (g .columns) ≡ 8 → Placed N.Samples
+      bare h =
+          let n = g .lie .bare h in
+          absent N.Samples (omega arith) h (record { starts = behind (recordPlaces r) n 2; sized = behind (recordPlaces r) n 3 })
+
+      some : 10 ≤ length (g .columns) → Placed N.Samples
+      some h =
+          let l = joined-length 9 (drop 9 (g .columns)) samples-full in
+          let d = length-drop 9 (g .columns) in
+          there N.Samples (omega arith) (g .lie .samples h) (cuts .samples h) (omega arith)
+
+  -- each field's place is its column's
+  pub placed : (n : Name) → Placed n
+  placed N.Chrom = early N.Chrom (omega arith)
+  placed N.Pos = early N.Pos (omega arith)
+  placed N.Id = early N.Id (omega arith)
+  placed N.Reference = early N.Reference (omega arith)
+  placed N.Alt = early N.Alt (omega arith)
+  placed N.Qual = early N.Qual (omega arith)
+  placed N.Filter = early N.Filter (omega arith)
+  placed N.Info = early N.Info (omega arith)
+  placed N.Format = format-placed
+  placed N.Samples = samples-placed
+
+  -- the samples come back from theirs
+  pub samples-back : pieces 9 (columnOf N.Samples (g .columns)) ≡ drop 9 (g .columns)
+  unfolding columnOf
   samples-back =
-      joined-back 9 (drop 9 (split 9 (g .text))) samples-full
-      (λ i l. rw (getD-drop 9 (split 9 (g .text)) i []) (split-free 9 (g .text) (9 + i) (further i l)))
+      joined-back 9 (drop 9 (g .columns)) samples-full
+      (λ i l. rw (getD-drop 9 (g .columns) i []) (each (9 + i) (further i l) .no-tab))
 
   -- the buffer has no fewer bytes than there are columns
-  pub columns-within : length (split 9 (g .text)) ≤ length s
-  columns-within =
-      let j = joined-length 9 (split 9 (g .text)) (g .good .full) in
-      let t = ap length (split-joined 9 (g .text)) in
-      let e = ends in
-      omega arith
+  pub columns-within : length (g .columns) ≤ length s
+  columns-within = let t = text-long in let e = ends in omega arith

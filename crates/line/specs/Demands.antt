@@ -9,7 +9,7 @@ use Rattle.text.specs.Answer.{Answer, says, numberOf, valuesOf}
 use Rattle.text.specs.Bytes.{endsIn}
 use Rattle.text.specs.Demands.{Characters}
 use Rattle.pieces.specs.Pieces.{joined}
-use Rattle.pieces.specs.Demands.{Free}
+use Rattle.pieces.specs.Demands.{Free, startIn}
 use Rattle.line.specs.Line.{Ending, nothing, feed, return-feed, endingBytes, allUtf8}
 
 -- INFO and the samples may be the last column, k counted from 1; columns 1 to 7, and FORMAT, must be ended by a tab
@@ -55,10 +55,6 @@ unfoldable pub Exact : Reader → Type 0
 Exact read = (s : List ℕ) (at : ℕ) → at < length s → Refuses (read s at) ↔ ((cs : List (List ℕ)) (e : Ending) (rest : List ℕ) → Begins (drop at s) cs e rest → ⊥)
 
 -- ---- one
-
--- where column i starts: past the columns before it, with a tab behind each
-unfoldable pub startIn : List (List ℕ) → ℕ → ℕ
-startIn cs i = i + length (flatten (take i cs))
 
 -- place i of a list of starts and lengths has this start and this length
 pub record Lies (places : List ℕ) (i start size : ℕ) : Type 0 where

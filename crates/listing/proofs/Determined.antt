@@ -1,21 +1,17 @@
 -- Two outcomes that a contract allows are equal: a turn, its row and what was kept can be read back from their paper. Assumes nothing.
 use Prim.Native.Nat.{ℕ}
 use mathlib.Core.Path.{_≡_, refl, sym, ap, ap₂, _∙_}
-use mathlib.Core.Bool.{Bool}
 use mathlib.Core.List.{List, [], _∷_}
 use mathlib.Mathlib.Logic.Function.Defs.{LeftInverse·injective}
 use lib.ListN.{getD}
 use Rattle.text.specs.Answer.{Answer, says}
-use Rattle.text.specs.Over.{Writes}
-use Rattle.text.specs.declared.copy.Written.{Written}
-use Rattle.text.proofs.Determined.{writes-determined}
+use Rattle.text.proofs.Determined as text
 use Rattle.listing.specs.Output.{rowBytes, totalBytes}
-use Rattle.listing.specs.Turn.{Move, beyond, more, ended, on, gives, turnMove}
-use Rattle.listing.specs.Paper.{refusalNumber, rowPaper, turnPaper, keptPaper, Keeps, Counts}
+use Rattle.listing.specs.Turn.{Move, beyond, more, ended, on, gives}
+use Rattle.listing.specs.Paper.{refusalNumber, rowPaper, turnPaper, keptPaper}
+use Rattle.listing.specs.Promises.{Determined}
 use Rattle.listing.specs.declared.keep.Kept.{Kept}
 use Rattle.listing.specs.declared.keep.Kept.the-variants as K
-use Rattle.listing.specs.declared.print.Totals.{Totals}
-use Rattle.listing.specs.declared.turn.Phase.{Phase}
 use Rattle.listing.specs.declared.turn.Row.{Row}
 use Rattle.listing.specs.declared.turn.Row.the-variants as R
 use Rattle.listing.specs.declared.turn.Refusal.{Refusal}
@@ -71,9 +67,6 @@ turn-back (T.Found row phase next) = ap (λ (r : Row). T.Found r phase next) (ro
 pub turn-paper-injective : (r r′ : Turn) → turnPaper r ≡ turnPaper r′ → r ≡ r′
 turn-paper-injective = LeftInverse·injective turnBack turnPaper turn-back
 
-pub turn-determined : (last : Bool) (phase : Phase) (w : List ℕ) (at : ℕ) (r r′ : Turn) → turnPaper r ≡ turnMove last phase w at → turnPaper r′ ≡ turnMove last phase w at → r ≡ r′
-turn-determined last phase w at r r′ p q = turn-paper-injective r r′ (p ∙ sym q)
-
 -- ---- what is kept
 
 pub kept-paper-injective : (r r′ : Kept) → keptPaper r ≡ keptPaper r′ → r ≡ r′
@@ -83,19 +76,16 @@ kept-paper-injective (K.Done n) K.Beyond e = cc
 kept-paper-injective K.Beyond (K.Done m) e = cc
 kept-paper-injective K.Beyond K.Beyond e = cc
 
-pub keep-determined : {from end : ℕ} {l l′ l″ : List ℕ} {r r″ : Kept} → Keeps from end l r l′ → Keeps from end l r″ l″ → (r ≡ r″) × (l′ ≡ l″)
-keep-determined {r = r} {r″ = r″} p q = (kept-paper-injective r r″ (p .answer ∙ sym (q .answer)), p .bytes ∙ sym (q .bytes))
+-- ---- the promises
 
--- ---- what is printed, and counted
-
-pub print-row-determined : (row : Row) {l l′ l″ : List ℕ} {r r″ : Written} → Writes (rowBytes (rowPaper row)) l r l′
-    → Writes (rowBytes (rowPaper row)) l r″ l″ → (r ≡ r″) × (l′ ≡ l″)
-print-row-determined row p q = writes-determined p q
-
-pub print-totals-determined : (t : Totals) {l l′ l″ : List ℕ} {r r″ : Written} → Writes (totalBytes (t .read) (t .refused)) l r l′
-    → Writes (totalBytes (t .read) (t .refused)) l r″ l″ → (r ≡ r″) × (l′ ≡ l″)
-print-totals-determined t p q = writes-determined p q
-
-pub count-determined : {t r r″ : Totals} {a : Answer} → Counts t a r → Counts t a r″ → r ≡ r″
-count-determined p q =
-    ap₂ (λ (n m : ℕ). record { read = n; refused = m }) (p .read ∙ sym (q .read)) (p .refused ∙ sym (q .refused))
+pub determined : Determined
+determined =
+    record {
+      take-turn = λ w last phase at r r′ e e′. turn-paper-injective r r′ (e ∙ sym e′);
+      keep-rest = λ l from end r r′ l′ l″ p q. (kept-paper-injective r r′ (p .answer ∙ sym (q .answer)), p .bytes ∙ sym (q .bytes));
+      print-row = λ row l. text.determined .copy (rowBytes (rowPaper row)) l;
+      print-totals = λ totals l. text.determined .copy (totalBytes (totals .read) (totals .refused)) l;
+      count-row =
+          λ totals row r r′ p q.
+          ap₂ (λ (n m : ℕ). record { read = n; refused = m }) (p .read ∙ sym (q .read)) (p .refused ∙ sym (q .refused));
+    }

@@ -2,33 +2,31 @@
 use Prim.Native.Nat.{ℕ, _+_, _-_, _≤_}
 use mathlib.Core.Path.{_≡_, sym, ap, _∙_}
 use mathlib.Core.Logic.{⊎-elim}
-use mathlib.Core.List.{List, []}
+use mathlib.Core.List.{List}
 use native.Mathlib.Omega.{arith}
-use lib.ListN.{length, getD, take, drop, length-drop}
+use lib.ListN.{length, take, drop, length-drop}
 use Rattle.text.specs.Answer.{says, numberOf}
-use Rattle.text.specs.Range.{cut}
 use Rattle.text.specs.declared.range.Range.{Range}
 use Rattle.text.proofs.Lists.{cut-is}
-use Rattle.pieces.specs.Pieces.{split}
 use Rattle.line.specs.Line.{lineOf, readAnswer}
-use Rattle.line.specs.Place.{rangeOf}
+use Rattle.line.specs.Place.{rangeOf, columnOf}
 use Rattle.line.specs.Paper.{readPaper}
 use Rattle.line.specs.declared.read.Record.{Record}
 use Rattle.line.specs.declared.read.Read.{Read}
 use Rattle.line.specs.declared.read.Read.the-variants as R
 use Rattle.line.specs.declared.place.Name.the-variants as N
 use Rattle.line.proofs.CaseLaws.{read-record, read-end, read-empty, read-fed, read-cut, read-broken, read-beyond}
-use Rattle.line.proofs.RecordLaws.{Recorded, recorded, Lies, samples-lie, samples-back, columns-within}
+use Rattle.line.proofs.RecordLaws.{Recorded, recorded, LiesIn, count, line-is, columns-split, placed, samples-back, columns-within}
 use Rattle.line.proofs.MovesOn.{six-beyond}
-use Rattle.fields.specs.Fields.{fieldAnswer, readText}
-use Rattle.fields.specs.Paper.{fieldPaper}
+use Rattle.fields.specs.Fields.{readText}
+use Rattle.fields.specs.Promises.{FindsField}
 use Rattle.fields.specs.declared.field.Text.{Text}
 use Rattle.fields.specs.declared.field.Text.the-variants as F
-use Rattle.fields.proofs.RecordLaws.{info-tells}
+use Rattle.fields.proofs.RecordLaws.{Tells, tells-at, tells-absent, field-tells}
 use Rattle.info.specs.Info.{infoCount}
 use Rattle.samples.specs.Samples.{samplesOf}
 use Rattle.samples.proofs.Demands.{listed}
-use Rattle.listing.specs.Listing.{columnsOf, infosIn, countsOf, rowOf}
+use Rattle.listing.specs.Listing.{columnsOf, infosOf, infosIn, countsOf, rowOf}
 use Rattle.listing.specs.Turn.{readMove}
 use Rattle.listing.specs.Paper.{refusalNumber, rowPaper, turnPaper}
 use Rattle.listing.specs.Inner.{ReadAt}
@@ -40,48 +38,63 @@ use Rattle.listing.specs.declared.turn.Turn.the-variants as T
 
 -- ---- the columns of a line that was read
 
-columns-are : {w : List ℕ} {at : ℕ} {r : Record} (g : Recorded w at r) → columnsOf (lineOf (drop at w)) ≡ split 9 (g .text)
+columns-are : {w : List ℕ} {at : ℕ} {r : Record} (g : Recorded w at r) → columnsOf (lineOf (drop at w)) ≡ g .columns
 unfolding columnsOf
-columns-are g = rw (g .is)
+columns-are g = rw (line-is g) (columns-split g)
 
 module _ {w : List ℕ} {at next : ℕ} {r : Record} (h : ReadAt w at next r) where
   -- ---- INFO
 
-  module _ {x : Text} (e : fieldPaper x ≡ fieldAnswer w r N.Info) where
-    info-is : (g : Recorded w at r) {range : Range} → x ≡ F.At range → Lies w range (readText N.Info (getD (split 9 (g .text)) 7 []))
-    info-is g {range} q = info-tells g (F.At range) (rw q at e)
+  module _ {x : Text} (e : FindsField w r N.Info x) where
+    info-tells : (g : Recorded w at r) {y : Text} → x ≡ y → Tells w N.Info (columnOf N.Info (g .columns)) y
+    info-tells g {y} q = rw q at (field-tells g N.Info x e)
 
     pub info-fits : {range : Range} → x ≡ F.At range → range .start + range .len ≤ length w
-    info-fits q = info-is (recorded w at (h .read)) q .fits
+    info-fits q = by (info-tells (recorded w at (h .read)) q)
+      where
+        by : {c : List ℕ} {range : Range} → Tells w N.Info c (F.At range) → range .start + range .len ≤ length w
+        by (tells-at t l) = l .fits
 
     pub infos-at : {range : Range} {n : ℕ} → x ≡ F.At range → n ≡ infoCount (take (range .start + range .len - range .start) (drop (range .start) w))
         → n ≡ infosIn (columnsOf (lineOf (drop at w)))
-    unfolding infosIn
+    unfolding infosIn infosOf
     infos-at {range} q c =
         let g = recorded w at (h .read) in
-        let l = info-is g q in
         let m : range .start + range .len - range .start ≡ range .len = omega arith in
-        c ∙ rw (m, columns-are g, ← l .text, cut-is (range .start) (range .len) w)
+        c ∙ rw (m, columns-are g) (by (info-tells g q))
+      where
+        by : {c : List ℕ} {range : Range} → Tells w N.Info c (F.At range) → infoCount (take (range .len) (drop (range .start) w)) ≡ infosOf (readText N.Info c)
+        by {range = range} (tells-at t l) = rw (t, ← l .text, cut-is (range .start) (range .len) w)
 
     pub infos-absent : x ≡ F.Absent → 0 ≡ infosIn (columnsOf (lineOf (drop at w)))
-    infos-absent q = absurd (info-tells (recorded w at (h .read)) F.Absent (rw q at e))
+    unfolding infosIn infosOf
+    infos-absent q = let g = recorded w at (h .read) in rw (columns-are g) (by (info-tells g q))
+      where
+        by : {c : List ℕ} → Tells w N.Info c F.Absent → 0 ≡ infosOf (readText N.Info c)
+        by (tells-absent t) = rw t
 
     pub infos-beyond : x ≡ F.Beyond → 0 ≡ infosIn (columnsOf (lineOf (drop at w)))
-    infos-beyond q = absurd (info-tells (recorded w at (h .read)) F.Beyond (rw q at e))
+    infos-beyond q = absurd (by (field-tells (recorded w at (h .read)) N.Info x e) q)
+      where
+        by : {c : List ℕ} {y : Text} → Tells w N.Info c y → y ≡ F.Beyond → ⊥
+        by (tells-at t l) q = let z : _≡_ {A = ℕ} 0 1 = cc in omega arith
+        by (tells-absent t) q = let z : _≡_ {A = ℕ} 0 1 = cc in omega arith
 
   -- ---- samples
 
   module _ {range : Range} (e : range ≡ rangeOf r N.Samples) where
+    samples-lie : (g : Recorded w at r) → LiesIn w range (columnOf N.Samples (g .columns))
+    samples-lie g = rw e (placed g N.Samples .lies)
+
     pub samples-fit : range .start + range .len ≤ length w
-    samples-fit = rw e (samples-lie (recorded w at (h .read)) .fits)
+    samples-fit = samples-lie (recorded w at (h .read)) .fits
 
     pub samples-counted : {n : ℕ} → n ≡ length (samplesOf (take (range .start + range .len - range .start) (drop (range .start) w)))
         → n ≡ length (drop 9 (columnsOf (lineOf (drop at w))))
     samples-counted c =
         let g = recorded w at (h .read) in
         let m : range .start + range .len - range .start ≡ range .len = omega arith in
-        let t = samples-lie g .text in
-        let l = sym (cut-is (range .start) (range .len) w) ∙ ap (λ (x : Range). cut x w) e ∙ t in
+        let l = sym (cut-is (range .start) (range .len) w) ∙ samples-lie g .text in
         c ∙ rw (m, l, listed .counts, samples-back g, columns-are g)
 
   -- ---- the row
@@ -93,7 +106,7 @@ module _ {w : List ℕ} {at next : ℕ} {r : Record} (h : ReadAt w at next r) wh
         let g = recorded w at (h .read) in
         let d = length-drop 9 (columnsOf (lineOf (drop at w))) in
         let c = ap length (columns-are g) in
-        ⊎-elim (λ k. omega arith) (λ k. omega arith) (g .good .count)
+        ⊎-elim (λ k. omega arith) (λ k. omega arith) (count g)
 
     columns-some : (samples ≡ 0 → ⊥) → length (columnsOf (lineOf (drop at w))) ≡ 9 + samples
     columns-some n = let d = length-drop 9 (columnsOf (lineOf (drop at w))) in omega arith

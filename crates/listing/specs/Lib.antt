@@ -3,5 +3,6 @@ pub mod Output
 pub mod Turn
 pub mod Kept
 pub mod Paper
+pub mod Promises
 pub mod Inner
 pub mod Demands

@@ -4,12 +4,14 @@ use Prim.Native.Nat.{ℕ, zero, suc, _+_}
 use mathlib.Core.Path.{_≡_}
 use mathlib.Core.Bool.{Bool, true, false}
 use mathlib.Core.List.{List, [], _∷_}
-use lib.ListN.{length, getD, drop}
+use mathlib.Core.Option as O
+use lib.ListN.{length, drop}
 use lib.Dec.{ltb, eqb}
 use Rattle.text.specs.Pick.{pick}
 use Rattle.text.specs.Answer.{Answer, says, numberOf, nextOf}
 use Rattle.pieces.specs.Pieces.{split}
 use Rattle.line.specs.Line.{Line, line, endingBytes, lineOf, readAnswer}
+use Rattle.line.specs.Place.{columnOf}
 use Rattle.line.specs.declared.place.Name.the-variants as N
 use Rattle.fields.specs.Fields.{readText}
 use Rattle.info.specs.Info.{infoCount}
@@ -24,9 +26,14 @@ sizeOf (line t e rest) = length t + length (endingBytes e)
 unfoldable pub columnsOf : Line → List (List ℕ)
 columnsOf (line t e rest) = split 9 t
 
--- how many entries the INFO column claims, by what it reads as
+-- how many entries a text of INFO claims, if there is any
+unfoldable pub infosOf : O.Option (List ℕ) → ℕ
+infosOf O.none = 0
+infosOf (O.some t) = infoCount t
+
+-- and the INFO column, by what it reads as
 unfoldable pub infosIn : List (List ℕ) → ℕ
-infosIn cs = infoCount (readText N.Info (getD cs 7 []))
+infosIn cs = infosOf (readText N.Info (columnOf N.Info cs))
 
 -- how many columns there are, the INFO count, and how many of the columns are samples
 unfoldable pub countsOf : List (List ℕ) → List ℕ

@@ -10,8 +10,9 @@ ghost use lib.ListN.{length};
 ghost use mathlib.Core.List.{[], _∷_};
 ghost use Rattle.text.specs.Answer.{says};
 ghost use Rattle.text.specs.Over.{Writes};
-ghost use Rattle.listing.specs.Output.{numbers, rowBytes, totalBytes, oneMore};
-ghost use Rattle.listing.specs.Paper.{refusalNumber, rowPaper, Counts};
+ghost use Rattle.listing.specs.Output.{numbers, rowBytes, oneMore};
+ghost use Rattle.listing.specs.Paper.{refusalNumber};
+ghost use Rattle.listing.specs.Promises.{PrintsRow, PrintsTotals, CountsRow};
 ghost use Rattle.listing.specs.Inner.{Put};
 
 // How many lines were read, and how many refused.
@@ -86,7 +87,7 @@ fn print_refused(number: u64, out: &mut [u8]) -> Written
 
 // Writes a row's line at the start of the output.
 pub fn print_row(row: Row, out: &mut [u8]) -> Written
-    ensures { λ r. ⌜ Writes (rowBytes (rowPaper row)) (now (out .entry)) r (now (out .exit)) ⌝ }
+    ensures { λ r. ⌜ PrintsRow row (now (out .entry)) r (now (out .exit)) ⌝ }
 {
     match row {
         Row::Read(columns, infos, samples) => {
@@ -98,7 +99,7 @@ pub fn print_row(row: Row, out: &mut [u8]) -> Written
 
 // Writes the last line at the start of the output.
 pub fn print_totals(totals: Totals, out: &mut [u8]) -> Written
-    ensures { λ r. ⌜ Writes (totalBytes (totals .read) (totals .refused)) (now (out .entry)) r (now (out .exit)) ⌝ }
+    ensures { λ r. ⌜ PrintsTotals totals (now (out .entry)) r (now (out .exit)) ⌝ }
 {
     let read = totals.read;
     let refused = totals.refused;
@@ -123,7 +124,7 @@ fn one_more(n: u64) -> u64
 
 // The totals after one more row.
 pub fn count_row(totals: Totals, row: Row) -> Totals
-    ensures { λ r. ⌜ Counts totals (rowPaper row) r ⌝ }
+    ensures { λ r. ⌜ CountsRow totals row r ⌝ }
 {
     let read = totals.read;
     let refused = totals.refused;

@@ -18,8 +18,9 @@ ghost use Rattle.text.specs.Pick.{pick};
 ghost use Rattle.text.specs.Answer.{says};
 ghost use Rattle.line.specs.Line.{lineOf, readAnswer};
 ghost use Rattle.listing.specs.Listing.{columnsOf, infosIn, countsOf};
-ghost use Rattle.listing.specs.Turn.{turnMove, passMove, leadMove, lineMove, readMove, gives};
+ghost use Rattle.listing.specs.Turn.{passMove, leadMove, lineMove, readMove, gives};
 ghost use Rattle.listing.specs.Paper.{rowPaper, turnPaper};
+ghost use Rattle.listing.specs.Promises.{TakesTurn};
 ghost use Rattle.listing.specs.Inner.{Reaches, ReadAt};
 ghost use Rattle.listing.specs.declared.turn.Phase.the-variants.{Lines, Rest};
 
@@ -223,7 +224,7 @@ fn read_at(w: &[u8], last: bool, at: usize) -> Turn
 
 // One turn over a window of the input, from a place in it; `last` says that the window is all that is left of the input.
 pub fn take_turn(w: &[u8], last: bool, phase: Phase, at: usize) -> Turn
-    ensures { λ r. ⌜ turnPaper r ≡ turnMove last phase (now (w .entry)) at ⌝ }
+    ensures { λ r. ⌜ TakesTurn (now (w .entry)) last phase at r ⌝ }
 {
     if at > w.len() {
         return Turn::Beyond;

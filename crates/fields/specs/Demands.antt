@@ -1,0 +1,39 @@
+-- What is asked of any function that gives the fields of a line that was read (docs/RULES.md, "A line"; docs/STATEMENTS.md). Assumes nothing.
+use Prim.Native.Nat.{ℕ, _+_}
+use mathlib.Core.Path.{_≡_}
+use mathlib.Core.List.{List, [], _∷_}
+use lib.ListN.{length, drop}
+use Rattle.text.specs.Answer.{Answer, says}
+use Rattle.line.specs.Line.{Ending, readAnswer}
+use Rattle.line.specs.Paper.{readPaper}
+use Rattle.line.specs.Place.{columnOf, columnStart}
+use Rattle.line.specs.Demands.{Begins}
+use Rattle.line.specs.declared.read.Record.{Record}
+use Rattle.line.specs.declared.read.Read.the-variants as R
+use Rattle.line.specs.declared.place.Name.{Name}
+use Rattle.fields.specs.Fields.{dotOf, empty, absent, itself}
+
+-- it is given a buffer, a record and a name, and answers on paper
+abbrev pub Finder : Type 0
+Finder = List ℕ → Record → Name → Answer
+
+-- what is answered for a field whose column c starts at a place: that place and the column's length;
+-- of a column that is exactly `.` so, or empty at the column's end, or absent, by the field
+pub data ReadsAs (n : Name) (start : ℕ) (c : List ℕ) : Answer → Type 0 where
+  other : (c ≡ 46 ∷ [] → ⊥) → ReadsAs n start c (says 0 (start ∷ length c ∷ []))
+  dot-itself : c ≡ 46 ∷ [] → dotOf n ≡ itself → ReadsAs n start c (says 0 (start ∷ 1 ∷ []))
+  dot-empty : c ≡ 46 ∷ [] → dotOf n ≡ empty → ReadsAs n start c (says 0 ((start + 1) ∷ 0 ∷ []))
+  dot-absent : c ≡ 46 ∷ [] → dotOf n ≡ absent → ReadsAs n start c (says 0 [])
+
+-- the line reader made this record of the line at a place
+abbrev pub Made : List ℕ → ℕ → Record → ℕ → Type 0
+Made s at r next = readPaper (R.Line r next) ≡ readAnswer s at
+
+-- of such a record, in its buffer, each field is its column among those that begin the line, as it reads
+unfoldable pub Finds : Finder → Type 0
+Finds find = (s : List ℕ) (at next : ℕ) (r : Record) → Made s at r next → (cs : List (List ℕ)) (e : Ending) (rest : List ℕ) → Begins (drop at s) cs e rest
+    → (n : Name) → ReadsAs n (at + columnStart n cs) (columnOf n cs) (find s r n)
+
+-- two that do so give one answer for each field of such a record
+unfoldable pub OneFinder : Type 0
+OneFinder = (find other : Finder) → Finds find → Finds other → (s : List ℕ) (at next : ℕ) (r : Record) → Made s at r next → (n : Name) → find s r n ≡ other s r n
