@@ -10,7 +10,8 @@ use borrow.Author.Tests.{ne-eqb}
 use Rattle.text.specs.Over.{over, overAt}
 use Rattle.text.proofs.Lists.{overAt-nil, overAt-append, length-overAt}
 use Rattle.genotype.specs.declared.allele.Allele.{Allele}
-use Rattle.spelling.specs.Spelling.{from44, alleleText, listText}
+use Rattle.spelling.specs.Spelling.{alleleText, listText}
+use Rattle.spelling.specs.Permitted.{from44}
 use Rattle.spelling.specs.Inner.{tallyOf, WritesList}
 use Rattle.spelling.specs.Demands.{Fitting}
 use Rattle.spelling.specs.declared.tally.Tally.{Tally}

@@ -9,7 +9,7 @@ use spelling::tally::plan_for;
 use spelling::write::Write;
 ghost use mathlib.Core.Path.{_≡_};
 ghost use Prim.Native.Nat.{_-_};
-ghost use Rattle.spelling.specs.Spelling.{from44};
+ghost use Rattle.spelling.specs.Permitted.{from44};
 ghost use Rattle.spelling.specs.Inner.{tallyOf, WritesList};
 ghost use Rattle.alleles.specs.Inner.{refusal, decided, putOne, putAll};
 ghost use Rattle.alleles.specs.Write.{WritesAlleles};

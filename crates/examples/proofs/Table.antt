@@ -20,6 +20,7 @@ use Rattle.genotype.specs.Answers as A
 use Rattle.genotype.specs.Row as N
 use Rattle.genotype.specs.Means.{allPhased}
 use Rattle.spelling.specs.Spelling as S
+use Rattle.spelling.specs.Permitted as M
 use Rattle.spelling.specs.Write as W
 use Rattle.info.specs.Info as I
 use Rattle.examples.specs.Table as T
@@ -35,6 +36,6 @@ unfolding
     J.entryAnswer J.charsAnswer J.fine J.altFine J.filterFine J.symbolFine J.insideFine F.entriesAnswer
     R.readingOf R.listOf R.partsOf R.impliedOf R.impliedBy R.piecesOf R.isMark R.headOf K.beforeEither R.markedPieces R.numbered R.bodied
     R.alleleIn R.with R.gathered A.readAnswer allPhased
-    S.spell S.from44 S.judged S.shaped N.firstUnsound N.isSound S.listText S.alleleText S.bodyText W.spelledAnswer W.textOf
+    S.spell M.from44 S.judged S.shaped N.firstUnsound N.isSound S.listText S.alleleText S.bodyText W.spelledAnswer W.textOf
     I.stepAnswer I.firstAnswer I.pairOf I.pairIn
 holds = refl

@@ -17,7 +17,8 @@ use Rattle.lists.specs.declared.write.Kind.the-variants as K
 use Rattle.genotype.specs.Reading.{Reading, readingOf, listOf}
 use Rattle.genotype.specs.Answers.{readAnswer}
 use Rattle.genotype.specs.declared.allele.Allele.{Allele}
-use Rattle.spelling.specs.Spelling.{from44, Spelled, spell}
+use Rattle.spelling.specs.Spelling.{Spelled, spell}
+use Rattle.spelling.specs.Permitted.{from44}
 use Rattle.spelling.specs.Write.{spelledAnswer, textOf}
 use Rattle.info.specs.Info.{stepAnswer}
 

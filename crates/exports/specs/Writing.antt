@@ -8,7 +8,7 @@ use Rattle.text.specs.Over.{roomAnswer, roomLeft}
 use Rattle.decimal.specs.Shortest.{shortest}
 use Rattle.lists.specs.Write as L
 use Rattle.lists.specs.declared.write.Kind.{Kind}
-use Rattle.spelling.specs.Spelling.{from44}
+use Rattle.spelling.specs.Permitted.{from44}
 use Rattle.spelling.specs.Write as S
 use Rattle.join.specs.Join.{joinAnswer, lineLeft}
 use Rattle.exports.specs.Told.{Tells, leftBy}

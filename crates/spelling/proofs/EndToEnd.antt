@@ -15,7 +15,7 @@ use Rattle.genotype.specs.declared.allele.Allele.{Allele}
 use Rattle.genotype.proofs.MeansLaws.{reads-means}
 use Rattle.genotype.proofs.ColumnLaws.{numbersOf-length, missingOf-length, phasedOf-length}
 use Rattle.genotype.proofs.AnswerLaws.{Holds, reads-list}
-use Rattle.spelling.specs.Spelling.{from44}
+use Rattle.spelling.specs.Permitted.{from44}
 use Rattle.spelling.specs.Paper.{writePaper}
 use Rattle.spelling.specs.Write.{rowAnswer, Small}
 use Rattle.spelling.specs.Demands.{writer, Fitting, RoundTrip, SlicesWriter}

@@ -12,8 +12,8 @@ use Rattle.text.specs.Answer.{Answer, says, numberOf}
 use Rattle.text.specs.Over.{roomAnswer}
 use Rattle.text.proofs.CopyLaws.{room-fits, room-lacks}
 use Rattle.genotype.specs.declared.allele.Allele.{Allele}
-use Rattle.spelling.specs.Spelling.{from44, Spelled, text, bad, phasing, empty, spell}
-use Rattle.spelling.specs.Permitted.{Permitted}
+use Rattle.spelling.specs.Spelling.{Spelled, text, bad, phasing, empty, spell}
+use Rattle.spelling.specs.Permitted.{from44, Permitted}
 use Rattle.spelling.specs.Write.{spelledAnswer, listAnswer, textOf}
 use Rattle.spelling.specs.Demands.{Writer, writer, WritesShortest, Refused, beyond, unspelled, short, Refusals, Untouched, Meets, Exact}
 use Rattle.spelling.proofs.WriteLaws.{list-inside, list-beyond}

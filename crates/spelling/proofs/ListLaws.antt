@@ -13,7 +13,8 @@ use Rattle.text.specs.Answer.{numberOf}
 use Rattle.text.specs.Over.{over, overAt}
 use Rattle.text.proofs.Lists.{rest-all, rest-put, rest-back}
 use Rattle.genotype.specs.declared.allele.Allele.{Allele}
-use Rattle.spelling.specs.Spelling.{from44, spell}
+use Rattle.spelling.specs.Spelling.{spell}
+use Rattle.spelling.specs.Permitted.{from44}
 use Rattle.spelling.specs.Inner.{fitsAt, WritesList}
 use Rattle.spelling.specs.Paper.{writePaper}
 use Rattle.spelling.specs.Write.{spelledAnswer, textOf, listAnswer, listLeft}

@@ -2,7 +2,7 @@
 -- is proved of that holds of it. Assumes nothing.
 use mathlib.Core.Path.{_∙_}
 use Rattle.genotype.specs.Row.{rowOf}
-use Rattle.spelling.specs.Spelling.{from44}
+use Rattle.spelling.specs.Permitted.{from44}
 use Rattle.spelling.specs.Demands.{SlicesWriter}
 use Rattle.spelling.proofs.WriteLaws.{row-list}
 use Rattle.spelling.proofs.ListLaws.{writer-answer, writer-output}

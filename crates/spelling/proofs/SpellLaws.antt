@@ -13,7 +13,8 @@ use Rattle.decimal.specs.Shortest.{shortest}
 use Rattle.decimal.proofs.Shortest.{length-20}
 use Rattle.genotype.specs.Means.{markByte, allPhased}
 use Rattle.genotype.specs.declared.allele.Allele.{Allele}
-use Rattle.spelling.specs.Spelling.{bodyText, alleleText, listText, from44, bad, empty, shaped, judged, spell}
+use Rattle.spelling.specs.Spelling.{bodyText, alleleText, listText, bad, empty, shaped, judged, spell}
+use Rattle.spelling.specs.Permitted.{from44}
 use Rattle.genotype.specs.Row.{firstUnsound}
 
 -- ---- one allele

@@ -17,7 +17,8 @@ use Rattle.genotype.specs.Answers as G
 use Rattle.genotype.specs.declared.allele.Allele.{Allele}
 use Rattle.genotype.proofs.AnswerLaws.{row-even, row-uneven-nm, row-uneven-np, row-done-nm, row-done-np}
 use Rattle.genotype.specs.Answers.{Parallel}
-use Rattle.spelling.specs.Spelling.{listText, from44, Spelled, bad, phasing, empty, spell}
+use Rattle.spelling.specs.Spelling.{listText, Spelled, bad, phasing, empty, spell}
+use Rattle.spelling.specs.Permitted.{from44}
 use Rattle.spelling.specs.Inner.{tallyOf, planOf, WritesList}
 use Rattle.spelling.specs.Write.{Small}
 use Rattle.genotype.specs.Row.{rowOf}

@@ -12,8 +12,7 @@ use Rattle.genotype.specs.Means.{Means, allPhased}
 use Rattle.genotype.specs.Row.{rowOf}
 use Rattle.genotype.specs.Answers.{Parallel}
 use Rattle.genotype.specs.declared.allele.Allele.{Allele}
-use Rattle.spelling.specs.Spelling.{from44}
-use Rattle.spelling.specs.Permitted.{Permitted, TheShortest}
+use Rattle.spelling.specs.Permitted.{from44, Permitted, TheShortest}
 use Rattle.spelling.specs.Paper.{writePaper}
 use Rattle.spelling.specs.Write.{listAnswer, listLeft, WritesRow}
 use Rattle.spelling.specs.declared.write.Write.{Write}

@@ -5,7 +5,8 @@ use mathlib.Core.Bool.{Bool}
 use mathlib.Core.List.{List}
 use Rattle.text.specs.Outcome.{OneAnswer, OneOutcome}
 use Rattle.genotype.specs.declared.allele.Allele.{Allele}
-use Rattle.spelling.specs.Spelling.{alleleText, from44}
+use Rattle.spelling.specs.Spelling.{alleleText}
+use Rattle.spelling.specs.Permitted.{from44}
 use Rattle.spelling.specs.Inner.{begun, tallied, planOf, PutsAt}
 use Rattle.spelling.specs.Write.{WritesRow}
 use Rattle.spelling.specs.declared.tally.Tally.{Tally}

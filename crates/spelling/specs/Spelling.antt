@@ -1,9 +1,8 @@
 -- How a list of alleles is spelled, or why it has no spelling (docs/RULES.md, "Genotypes"). Assumes nothing.
 use Prim.Native.Nat.{ℕ}
-use mathlib.Core.Bool.{Bool, true, false, _&&_, _||_, Bool·beq}
+use mathlib.Core.Bool.{Bool, true, false, Bool·beq}
 use mathlib.Core.List.{List, [], _∷_, _++_}
 use mathlib.Core.Option.{Option, some, none}
-use lib.Dec.{leb, ltb, eqb}
 use Rattle.text.specs.Pick.{pick}
 use Rattle.decimal.specs.Shortest.{shortest}
 use Rattle.genotype.specs.Means.{markByte, allPhased}
@@ -27,10 +26,6 @@ listText bare [] = []
 listText bare (a ∷ as′) = alleleText bare a ++ listText false as′
 
 -- ---- which lists have a spelling
-
--- a file format of 4.4 or later: major compared first, then minor
-unfoldable pub from44 : ℕ → ℕ → Bool
-from44 major minor = ltb 4 major || (eqb major 4 && leb 4 minor)
 
 -- the text; or the index of an allele that has none; or the first phasing can't be written; or the list is empty
 pub data Spelled : Type 0 where

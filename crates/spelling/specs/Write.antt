@@ -10,7 +10,8 @@ use Rattle.text.specs.Place.{placed}
 use Rattle.genotype.specs.Answers as G
 use Rattle.genotype.specs.Row.{rowOf}
 use Rattle.genotype.specs.declared.allele.Allele.{Allele}
-use Rattle.spelling.specs.Spelling.{from44, Spelled, text, bad, phasing, empty, spell}
+use Rattle.spelling.specs.Spelling.{Spelled, text, bad, phasing, empty, spell}
+use Rattle.spelling.specs.Permitted.{from44}
 use Rattle.spelling.specs.Paper.{writePaper}
 use Rattle.spelling.specs.declared.write.Write.{Write}
 

@@ -44,7 +44,7 @@ use denote.Triple.Table.{entered, cited}
 use denote.Triple.Walked.{says, Stays, stay-slice, stay-dropped, walkOf, goes-slice, goes-dropped, Walks, ends-at, walked, walk-meets}
 use denote.Exit.{yes}
 use Rattle.genotype.specs.declared.allele.Allele.{Allele}
-use Rattle.spelling.specs.Spelling.{from44}
+use Rattle.spelling.specs.Permitted.{from44}
 use Rattle.spelling.specs.Demands.{Fitting}
 use Rattle.spelling.specs.Inner.{WritesList}
 use Rattle.spelling.specs.declared.write.Write.{Write}
