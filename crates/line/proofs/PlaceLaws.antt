@@ -10,7 +10,7 @@ use Rattle.text.specs.declared.range.Range.{Range}
 use Rattle.text.specs.Range.{rangePlaces}
 use Rattle.pieces.specs.Pieces.{split}
 use Rattle.pieces.proofs.PieceLaws.{split-nil, split-joined}
-use Rattle.line.specs.Line.{columnPlaces, leadingPlaces, fieldPlaces}
+use Rattle.line.specs.Line.{leadingPlaces, fieldPlaces}
 use Rattle.line.specs.Paper.{recordPlaces}
 use Rattle.line.specs.Inner.{Tab, Told, Spans, Rising, tabPlaces, sevenPlaces}
 use Rattle.line.specs.declared.read.Record.{Record}
@@ -33,10 +33,6 @@ module _ {t : List ℕ} {from i : ℕ} (p : Tab t from i) where
   unfolding leadingPlaces
   leading-tab n = rw (p .columns, column-length, column-past)
 
-  column-tab : columnPlaces from (split 9 (drop from t)) ≡ from ∷ (i - from) ∷ columnPlaces (i + 1) (split 9 (drop (i + 1) t))
-  unfolding columnPlaces
-  column-tab = rw (p .columns, column-length, column-past)
-
   count-tab : length (split 9 (drop from t)) ≡ suc (length (split 9 (drop (i + 1) t)))
   count-tab = ap length (p .columns)
 
@@ -49,9 +45,10 @@ leading-rest t from = by (split 9 (drop from t)) refl
     by [] e = absurd (split-nil 9 _ e)
     by (c ∷ cs) e = rw (← e, split-joined 9 (drop from t), length-drop from t)
 
-column-rest : (t : List ℕ) (from : ℕ) → split 9 (drop from t) ≡ drop from t ∷ [] → columnPlaces from (split 9 (drop from t)) ≡ from ∷ (length t - from) ∷ []
-unfolding columnPlaces
-column-rest t from e = rw (e, length-drop from t)
+-- and one column is all
+leading-last : (t : List ℕ) (from : ℕ) → split 9 (drop from t) ≡ drop from t ∷ [] → leadingPlaces 1 from (split 9 (drop from t)) ≡ from ∷ (length t - from) ∷ []
+unfolding leadingPlaces
+leading-last t from e = rw (e, length-drop from t)
 
 -- ---- the tabs stand behind each other
 
@@ -115,7 +112,7 @@ module _ {t : List ℕ} {at : ℕ} {tabs : List ℕ} (h : Told t at tabs) where
       let c = count-is in
       let eight : length (split 9 (drop at t)) ≡ 8 = omega arith in
       e
-      ∙ rw (i .starts, i .size, eq-eqb _ 8 eight, column-tab (h .seven 0 (omega arith)), column-tab (h .seven 1 (omega arith)), column-tab (h .seven 2 (omega arith)), column-tab (h .seven 3 (omega arith)), column-tab (h .seven 4 (omega arith)), column-tab (h .seven 5 (omega arith)), column-tab (h .seven 6 (omega arith)), column-rest t (getD tabs 6 0 + 1) (h .eight z))
+      ∙ rw (i .starts, i .size, eq-eqb _ 8 eight, leading-tab (h .seven 0 (omega arith)) 7, leading-tab (h .seven 1 (omega arith)) 6, leading-tab (h .seven 2 (omega arith)) 5, leading-tab (h .seven 3 (omega arith)) 4, leading-tab (h .seven 4 (omega arith)) 3, leading-tab (h .seven 5 (omega arith)) 2, leading-tab (h .seven 6 (omega arith)) 1, leading-last t (getD tabs 6 0 + 1) (h .eight z))
 
   pub filled-ten : {info format samples : Range} (r : Record) → (getD tabs 7 0 ≡ 0 → ⊥) → Spans (getD tabs 6 0 + 1) (getD tabs 7 0) info
       → Spans (getD tabs 7 0 + 1) (getD tabs 8 0) format → Spans (getD tabs 8 0 + 1) (length t) samples

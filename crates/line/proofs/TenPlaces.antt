@@ -10,7 +10,7 @@ use borrow.Author.Tests.{eq-eqb, ne-eqb}
 use Rattle.pieces.specs.Pieces.{joined}
 use Rattle.pieces.specs.Demands.{startIn}
 use Rattle.pieces.proofs.NumberLaws.{start-first, start-later}
-use Rattle.line.specs.Line.{columnPlaces, leadingPlaces, fieldPlaces}
+use Rattle.line.specs.Line.{leadingPlaces, fieldPlaces}
 use Rattle.line.specs.Demands.{MayEnd, Lies, TenPlaces}
 
 -- ---- a place among places
@@ -58,16 +58,12 @@ leading-length n from [] l = absurd (omega arith)
 leading-length zero from (c ∷ cs) l = refl
 leading-length (suc n) from (c ∷ cs) l = let k = leading-length n (from + length c + 1) cs (omega arith) in omega arith
 
--- the places of all columns are leading places
-column-leading : (from : ℕ) (cs : List (List ℕ)) → columnPlaces from cs ≡ leadingPlaces (length cs) from cs
-unfolding columnPlaces leadingPlaces
-column-leading from [] = refl
-column-leading from (c ∷ cs) = rw (column-leading (from + length c + 1) cs)
-
-column-length : (from : ℕ) (cs : List (List ℕ)) → length (columnPlaces from cs) ≡ 2 * length cs
-unfolding columnPlaces
-column-length from [] = refl
-column-length from (c ∷ cs) = let k = column-length (from + length c + 1) cs in omega arith
+-- where no others are left, there is no place behind them
+all-length : (n from : ℕ) (cs : List (List ℕ)) → length cs ≡ n → length (leadingPlaces n from cs) ≡ 2 * n
+unfolding leadingPlaces
+all-length n from [] e = omega arith
+all-length zero from (c ∷ cs) e = absurd (omega arith)
+all-length (suc n) from (c ∷ cs) e = let k = all-length n (from + length c + 1) cs (omega arith) in omega arith
 
 -- ---- the ten places
 
@@ -75,12 +71,12 @@ module _ (from : ℕ) (cs : List (List ℕ)) where
   lie-eight : length cs ≡ 8 → TenPlaces (fieldPlaces from cs (from + length (joined 9 cs))) from cs
   unfolding fieldPlaces
   lie-eight h =
-      let k = column-length from cs in
+      let k = all-length 8 from cs h in
       rw (eq-eqb (length cs) 8 h)
       (record {
         ten = simp length-append (omega arith);
-        eight = λ i l. lies-append (columnPlaces from cs) _ (omega arith) (rw (column-leading from cs) (leading-column (length cs) from cs i (omega arith) (omega arith)));
-        bare = λ z. drop-at (columnPlaces from cs) _ 16 (omega arith);
+        eight = λ i l. lies-append (leadingPlaces 8 from cs) _ (omega arith) (leading-column 8 from cs i (omega arith) (omega arith));
+        bare = λ z. drop-at (leadingPlaces 8 from cs) _ 16 (omega arith);
         format = λ z. absurd (omega arith);
         samples = λ z. absurd (omega arith);
       })

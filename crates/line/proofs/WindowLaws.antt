@@ -2,7 +2,7 @@
 use Prim.Native.Nat.{ℕ, zero, suc, _+_}
 use mathlib.Core.Path.{_≡_, refl, ap}
 use mathlib.Core.Bool.{Bool, true, false}
-use mathlib.Core.List.{List, [], _∷_, _++_, dropLast}
+use mathlib.Core.List.{List, [], _∷_, _++_, append-nil, dropLast}
 use native.Mathlib.Omega.{arith}
 use lib.ListN.{length}
 use Rattle.text.specs.Pick.{pick}
@@ -10,7 +10,7 @@ use Rattle.text.specs.Bytes.{endsIn}
 use Rattle.text.proofs.ByteLaws.{none-empty, some-empty}
 use Rattle.text.specs.Verdict.{Verdict, fine, refused}
 use Rattle.pieces.specs.Pieces.{split}
-use Rattle.line.specs.Line.{Ending, nothing, feed, return-feed, endingBytes, Line, line, fed, lastVerdict, verdict, columnPlaces, leadingPlaces, fieldPlaces, judgedAnswer, lineAnswer}
+use Rattle.line.specs.Line.{Ending, nothing, feed, return-feed, endingBytes, Line, line, fed, lastVerdict, verdict, leadingPlaces, fieldPlaces, judgedAnswer, lineAnswer}
 use Rattle.line.specs.Demands.{movedPlaces, moved}
 
 -- a function of one of two
@@ -25,21 +25,17 @@ module _ (d : ℕ) where
 
   -- ---- places
 
-  columns-moved : (from : ℕ) (cs : List (List ℕ)) (x : List ℕ) → columnPlaces (from + d) cs ++ movedPlaces d x ≡ movedPlaces d (columnPlaces from cs ++ x)
-  unfolding columnPlaces movedPlaces
-  columns-moved from [] x = refl
-  columns-moved from (c ∷ cs) x = rw (next-start from (length c), columns-moved (from + length c + 1) cs x)
-
-  leading-moved : (n from : ℕ) (cs : List (List ℕ)) → leadingPlaces n (from + d) cs ≡ movedPlaces d (leadingPlaces n from cs)
+  leading-moved : (n from : ℕ) (cs : List (List ℕ)) (x : List ℕ) → leadingPlaces n (from + d) cs ++ movedPlaces d x ≡ movedPlaces d (leadingPlaces n from cs ++ x)
   unfolding leadingPlaces movedPlaces
-  leading-moved n from [] = refl
-  leading-moved zero from (c ∷ cs) = refl
-  leading-moved (suc n) from (c ∷ cs) = rw (next-start from (length c), leading-moved n (from + length c + 1) cs)
+  leading-moved n from [] x = refl
+  leading-moved zero from (c ∷ cs) x = refl
+  leading-moved (suc n) from (c ∷ cs) x = rw (next-start from (length c), leading-moved n (from + length c + 1) cs x)
 
   fields-moved : (from : ℕ) (cs : List (List ℕ)) (end : ℕ) → fieldPlaces (from + d) cs (end + d) ≡ movedPlaces d (fieldPlaces from cs end)
   unfolding fieldPlaces movedPlaces
   fields-moved from cs end =
-      rw (pick-ap (movedPlaces d), ← columns-moved from cs (end ∷ 0 ∷ end ∷ 0 ∷ []), leading-moved 9 from cs)
+      let e = simp append-nil at (leading-moved 9 from cs []) in
+      rw (pick-ap (movedPlaces d), ← leading-moved 8 from cs (end ∷ 0 ∷ end ∷ 0 ∷ []), e)
 
   -- ---- the verdict
 

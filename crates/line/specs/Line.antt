@@ -63,12 +63,7 @@ verdict k from (c ∷ d ∷ cs) e past = pick (isEmpty c) (refused 2 (from + 1))
 
 -- ---- the places of the ten fields
 
--- start and length of each column, the first of which starts at the place `from`
-unfoldable pub columnPlaces : ℕ → List (List ℕ) → List ℕ
-columnPlaces from [] = []
-columnPlaces from (c ∷ cs) = from ∷ length c ∷ columnPlaces (from + length c + 1) cs
-
--- the same for the first n, and what is left as one: the samples
+-- start and length of the first n columns, the first of which starts at the place `from`, and of what is left as one: the samples
 unfoldable pub leadingPlaces : ℕ → ℕ → List (List ℕ) → List ℕ
 leadingPlaces n from [] = []
 leadingPlaces zero from (c ∷ cs) = from ∷ length (joined 9 (c ∷ cs)) ∷ []
@@ -76,7 +71,7 @@ leadingPlaces (suc n) from (c ∷ cs) = from ∷ length c ∷ leadingPlaces n (f
 
 -- eight columns, with FORMAT and the samples empty at the text's end; or nine, and the samples
 unfoldable pub fieldPlaces : ℕ → List (List ℕ) → ℕ → List ℕ
-fieldPlaces from cs end = pick (eqb (length cs) 8) (columnPlaces from cs ++ end ∷ 0 ∷ end ∷ 0 ∷ []) (leadingPlaces 9 from cs)
+fieldPlaces from cs end = pick (eqb (length cs) 8) (leadingPlaces 8 from cs ++ end ∷ 0 ∷ end ∷ 0 ∷ []) (leadingPlaces 9 from cs)
 
 -- ---- the answer
 
