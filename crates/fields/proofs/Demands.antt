@@ -1,41 +1,36 @@
 -- The columns that begin a line are those that its record was made of, so each field reads as its own; that leaves one answer. Assumes nothing.
-use Prim.Native.Nat.{ℕ, _+_}
+use Prim.Native.Nat.{ℕ}
 use mathlib.Core.Path.{_≡_, refl, sym, _∙_}
 use mathlib.Core.List.{List, [], _∷_}
-use lib.ListN.{length, drop}
+use lib.ListN.{length}
 use Rattle.text.specs.Pick.{pick}
 use Rattle.text.specs.Answer.{Answer, says, numberOf}
 use Rattle.text.specs.Range.{rangeAt}
 use Rattle.text.specs.Same.{same}
 use Rattle.text.proofs.SameLaws.{same-self, same-not}
-use Rattle.line.specs.Line.{Ending}
-use Rattle.line.specs.Place.{columnOf, columnStart}
-use Rattle.line.specs.Demands.{Begins}
+use Rattle.line.specs.Line.{readAnswer}
+use Rattle.line.specs.Paper.{readPaper}
 use Rattle.line.specs.declared.read.Record.{Record}
+use Rattle.line.specs.declared.read.Read.the-variants as R
 use Rattle.line.specs.declared.place.Name.{Name}
 use Rattle.line.proofs.CaseLaws.{read-record}
 use Rattle.line.proofs.RecordLaws.{Recorded, recorded}
 use Rattle.fields.specs.Fields.{dotOf, dotPlaces, fieldAnswer}
-use Rattle.fields.specs.Paper.{fieldPaper}
-use Rattle.fields.specs.Promises.{FindsField}
-use Rattle.fields.specs.Demands.{ReadsAs, other, dot-itself, dot-empty, dot-absent, Made, Finds, OneFinder}
-use Rattle.fields.specs.declared.field.Text.{Text}
+use Rattle.fields.specs.Demands.{ReadsAs, other, dot-itself, dot-empty, dot-absent, Made, Finds, FieldFinds, OneFinder}
 use Rattle.fields.proofs.RecordLaws.{field-reads}
 
-made-recorded : (s : List ℕ) (at next : ℕ) (r : Record) → Made s at r next → Recorded s at r
-made-recorded s at next r m = recorded s at (sym m ∙ read-record refl)
+read-recorded : (s : List ℕ) (at next : ℕ) (r : Record) → readPaper (R.Line r next) ≡ readAnswer s at → Recorded s at r
+read-recorded s at next r m = recorded s at (sym m ∙ read-record refl)
 
 pub finds : Finds fieldAnswer
 unfolding Finds
-finds s at next r m cs e rest b n =
-    let g = made-recorded s at next r m in
-    rw (g .only cs e rest b) (field-reads g n)
+finds s at r cs m n =
+    let g = read-recorded s at (m .next) r (m .read) in
+    rw (g .only cs (m .ending) (m .rest) (m .begin)) (field-reads g n)
 
--- so it is with what `field` answers
-pub field-finds : (s : List ℕ) (at next : ℕ) (r : Record) → Made s at r next → (cs : List (List ℕ)) (e : Ending) (rest : List ℕ) → Begins (drop at s) cs e rest
-    → (n : Name) (x : Text) → FindsField s r n x → ReadsAs n (at + columnStart n cs) (columnOf n cs) (fieldPaper x)
-unfolding Finds
-field-finds s at next r m cs e rest b n x h = rw h (finds s at next r m cs e rest b n)
+pub field-finds : FieldFinds
+unfolding FieldFinds Finds
+field-finds s at r cs m n x h = rw h (finds s at r cs m n)
 
 -- ---- a field reads as one answer, which is never 6
 
@@ -54,7 +49,7 @@ reads-is (dot-absent d q) = rw (d, same-self (46 ∷ []), q)
 
 pub one-finder : OneFinder
 unfolding OneFinder Finds
-one-finder find found f k s at next r m n =
-    let g = made-recorded s at next r m in
-    reads-is (f s at next r m (g .columns) (g .ending) (g .rest) (g .begin) n)
-    ∙ sym (reads-is (k s at next r m (g .columns) (g .ending) (g .rest) (g .begin) n))
+one-finder find found f k s at next r e n =
+    let g = read-recorded s at next r e in
+    let m : Made s at r (g .columns) = record { next = next; read = e; ending = g .ending; rest = g .rest; begin = g .begin } in
+    reads-is (f s at r (g .columns) m n) ∙ sym (reads-is (k s at r (g .columns) m n))

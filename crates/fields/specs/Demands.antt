@@ -12,6 +12,9 @@ use Rattle.line.specs.declared.read.Record.{Record}
 use Rattle.line.specs.declared.read.Read.the-variants as R
 use Rattle.line.specs.declared.place.Name.{Name}
 use Rattle.fields.specs.Fields.{dotOf, empty, absent, itself}
+use Rattle.fields.specs.Paper.{fieldPaper}
+use Rattle.fields.specs.Promises.{FindsField}
+use Rattle.fields.specs.declared.field.Text.{Text}
 
 -- it is given a buffer, a record and a name, and answers on paper
 abbrev pub Finder : Type 0
@@ -25,15 +28,25 @@ pub data ReadsAs (n : Name) (start : ℕ) (c : List ℕ) : Answer → Type 0 whe
   dot-empty : c ≡ 46 ∷ [] → dotOf n ≡ empty → ReadsAs n start c (says 0 ((start + 1) ∷ 0 ∷ []))
   dot-absent : c ≡ 46 ∷ [] → dotOf n ≡ absent → ReadsAs n start c (says 0 [])
 
--- the line reader made this record of the line at a place
-abbrev pub Made : List ℕ → ℕ → Record → ℕ → Type 0
-Made s at r next = readPaper (R.Line r next) ≡ readAnswer s at
+-- the line reader made this record of the line at a place, which begins with these columns
+pub record Made (s : List ℕ) (at : ℕ) (r : Record) (cs : List (List ℕ)) : Type 0 where
+  pub next : ℕ
+  pub read : readPaper (R.Line r next) ≡ readAnswer s at
+  pub ending : Ending
+  pub rest : List ℕ
+  pub begin : Begins (drop at s) cs ending rest
 
--- of such a record, in its buffer, each field is its column among those that begin the line, as it reads
+-- each field of such a record, in its buffer, is its own column, as it reads: so the number is never 6
 unfoldable pub Finds : Finder → Type 0
-Finds find = (s : List ℕ) (at next : ℕ) (r : Record) → Made s at r next → (cs : List (List ℕ)) (e : Ending) (rest : List ℕ) → Begins (drop at s) cs e rest
-    → (n : Name) → ReadsAs n (at + columnStart n cs) (columnOf n cs) (find s r n)
+Finds find = (s : List ℕ) (at : ℕ) (r : Record) (cs : List (List ℕ)) → Made s at r cs → (n : Name)
+    → ReadsAs n (at + columnStart n cs) (columnOf n cs) (find s r n)
 
--- two that do so give one answer for each field of such a record
+-- so it is of what `field` answers
+unfoldable pub FieldFinds : Type 0
+FieldFinds = (s : List ℕ) (at : ℕ) (r : Record) (cs : List (List ℕ)) → Made s at r cs → (n : Name) (x : Text) → FindsField s r n x
+    → ReadsAs n (at + columnStart n cs) (columnOf n cs) (fieldPaper x)
+
+-- two that do so give one answer for each field of a record that the line reader made
 unfoldable pub OneFinder : Type 0
-OneFinder = (find other : Finder) → Finds find → Finds other → (s : List ℕ) (at next : ℕ) (r : Record) → Made s at r next → (n : Name) → find s r n ≡ other s r n
+OneFinder = (find other : Finder) → Finds find → Finds other → (s : List ℕ) (at next : ℕ) (r : Record) → readPaper (R.Line r next) ≡ readAnswer s at
+    → (n : Name) → find s r n ≡ other s r n

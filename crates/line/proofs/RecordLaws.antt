@@ -116,7 +116,7 @@ column-is : (n : Name) (cs : List (List ℕ)) → columnNumber n < 9 → columnO
 unfolding columnOf
 column-is n cs h = rw (ne-eqb (columnNumber n) 9 (λ z. omega arith))
 
--- that is not among the columns
+-- and of one that is not among the columns
 column-none : (n : Name) (cs : List (List ℕ)) → length cs ≤ columnNumber n → length cs ≡ 8 → columnOf n cs ≡ []
 unfolding columnOf
 column-none n cs h e = by (eqb (columnNumber n) 9)
@@ -172,7 +172,7 @@ module _ {s : List ℕ} {at : ℕ} {r : Record} (g : Recorded s at r) where
     pub sized : rangeOf r n .len ≡ length (columnOf n (g .columns))
     pub lies : LiesIn s (rangeOf r n) (columnOf n (g .columns))
 
-  -- that is among the columns
+  -- so it is of one that is among the columns
   there : (n : Name) → columnNumber n < length (g .columns)
       → Lies (recordPlaces r) (columnNumber n) (at + startIn (g .columns) (columnNumber n)) (length (columnOf n (g .columns)))
       → fieldOf (recordPlaces r) (columnNumber n) s ≡ columnOf n (g .columns) → 0 < length (columnOf n (g .columns)) → Placed n
@@ -186,7 +186,7 @@ module _ {s : List ℕ} {at : ℕ} {r : Record} (g : Recorded s at r) where
         lies = cut-lies (rw (p .starts, p .sized) at e) z f;
       }
 
-  -- that is not
+  -- and of one that is not
   absent : (n : Name) → length (g .columns) ≤ columnNumber n → length (g .columns) ≡ 8
       → Lies (recordPlaces r) (columnNumber n) (at + length (joined 9 (g .columns))) 0 → Placed n
   unfolding columnStart
@@ -198,7 +198,7 @@ module _ {s : List ℕ} {at : ℕ} {r : Record} (g : Recorded s at r) where
       let e = ends in
       record { starts = rw (le-ltb _ _ h) a; sized = rw c z; lies = rw c (empty-lies (omega arith) z) }
 
-  -- one of the first eight columns
+  -- the first eight are
   early : (n : Name) → columnNumber n < 8 → Placed n
   early n h =
       let k = eight in
