@@ -182,7 +182,7 @@ uint64_t bruncadorza_key_index(const uint8_t *format, size_t format_n, const uin
    1 for a mark or a phasing; the writer takes any other value than 0 as 1. An allele that is missing has the number 0. */
 
 /* The allele at the place `at`, as the first of the text from there on. 0: the next place, the number, the missing mark, the
-   phasing. Or 6, 10 at the text's end, 12. */
+   phasing. Or 6, 10 at the text's end, 11 where it is empty, 12. */
 uint64_t bruncadorza_genotype_step(const uint8_t *text, size_t text_n, size_t at,
                                    uint64_t *values, size_t values_n);
 

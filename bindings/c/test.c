@@ -147,6 +147,7 @@ static void judged_genotypes(void) {
     CHECK(bruncadorza_genotype_step(BYTES("./12"), 1, values, 5) == BRUNCADORZA_DONE && are(values, 4, second));
     CHECK(bruncadorza_genotype_step(BYTES("./12"), 4, values, 5) == BRUNCADORZA_NOTHING && none(values));
     CHECK(bruncadorza_genotype_step(BYTES("./12"), 5, values, 5) == BRUNCADORZA_BEYOND && none(values));
+    CHECK(bruncadorza_genotype_step(BYTES(""), 0, values, 5) == BRUNCADORZA_GENOTYPE_EMPTY && none(values));
     CHECK(bruncadorza_genotype_step(BYTES("x"), 0, values, 5) == BRUNCADORZA_BAD_NUMBER && none(values));
     CHECK(bruncadorza_genotype_judge(BYTES("./12"), 2, values, 2) == BRUNCADORZA_DONE && one(values, 2));
     CHECK(bruncadorza_genotype_judge(BYTES("./12"), 1, values, 2) == BRUNCADORZA_SHORT && none(values));

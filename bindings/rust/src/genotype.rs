@@ -24,6 +24,8 @@ pub enum Step {
     Beyond,
     /// 10: the place is the text's end.
     Nothing,
+    /// 11: the text is empty.
+    Empty,
     /// 12: what stands there is no allele.
     Bad,
 }
@@ -35,6 +37,7 @@ impl Step {
             Step::Found(..) => 0,
             Step::Beyond => 6,
             Step::Nothing => 10,
+            Step::Empty => 11,
             Step::Bad => 12,
         }
     }
@@ -54,8 +57,9 @@ pub fn step_at(text: &[u8], at: usize) -> Step {
         }
         (6, []) => Step::Beyond,
         (10, []) => Step::Nothing,
+        (11, []) => Step::Empty,
         (12, []) => Step::Bad,
-        _ => told.excluded("0 with the next place, a number and two marks, or 6, 10 or 12"),
+        _ => told.excluded("0 with the next place, a number and two marks, or 6, 10, 11 or 12"),
     }
 }
 

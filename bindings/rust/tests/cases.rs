@@ -496,7 +496,7 @@ fn held_by_steps(
             let of = |a: &Allele| (a.number, u8::from(a.missing), u8::from(a.phased));
             ended && above.is_none() && steps.len() == n && rows.take(n).eq(steps.iter().map(of))
         }
-        genotype::Read::Empty => ended && steps.is_empty(),
+        genotype::Read::Empty => last == genotype::Step::Empty && steps.is_empty(),
         genotype::Read::Bad(k) => last == genotype::Step::Bad && steps.len() == k,
         genotype::Read::Lengths => false,
         genotype::Read::Short => ended && above.is_none() && steps.len() > room,

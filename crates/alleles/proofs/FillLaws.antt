@@ -14,7 +14,8 @@ use Rattle.text.specs.Answer.{Answer, numberOf}
 use Rattle.text.specs.Over.{laid, over}
 use Rattle.text.proofs.Lists.{sets-over}
 use Rattle.lists.specs.AlternateBases.{altCount}
-use Rattle.genotype.specs.Reading.{readingOf, listOf, ListMeant}
+use Rattle.genotype.specs.Reading.{readingOf, listOf}
+use Rattle.genotype.specs.Inner.{ListMeant}
 use Rattle.genotype.specs.Answers.{readAnswer, checkedAnswer}
 use Rattle.genotype.specs.Paper.{readPaper}
 use Rattle.genotype.specs.declared.allele.Allele.{Allele}
@@ -25,8 +26,7 @@ use Rattle.genotype.proofs.StepLaws.{pastAt, Further}
 use Rattle.genotype.proofs.JudgeLaws.{done-number, other-number}
 use Rattle.genotype.proofs.Ahead.{leftOf, Ahead, ahead-first, left-first, ahead-past, left-past, left-some}
 use Rattle.genotype.proofs.ReadLaws.{Fits, read-fits, checked-fits}
-use Rattle.alleles.specs.Turn.{ended}
-use Rattle.alleles.specs.Fill.{fillOn, filledRow}
+use Rattle.alleles.specs.Inner.{ended, fillOn, filledRow}
 use Rattle.alleles.specs.Read.{ReadsRow, ReadsRowChecked}
 use Rattle.alleles.specs.declared.read.Turn.{Turn}
 use Rattle.alleles.proofs.TurnLaws.{other-lays, turn-none, turn-counted, turn-lays}

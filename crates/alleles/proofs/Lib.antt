@@ -7,13 +7,13 @@ pub mod GivenBack
 pub mod TurnLaws
 pub mod Turns
 pub mod FillLaws
-pub mod ReadDemands
+pub mod Demands
 pub mod OwnReadLaws
 pub mod WriteStepLaws
 pub mod Small
 pub mod Tallying
 pub mod Putting
 pub mod WriteLaws
-pub mod WriteDemands
 pub mod OwnWriteLaws
+pub mod EndToEnd
 pub mod Determined

@@ -9,7 +9,7 @@ use lib.WfN.{Nat·lt-wfRel}
 use lib.Dec.{lit<}
 use lib.ListN.{length, getD, drop, drop-of-length-le}
 use Rattle.genotype.specs.declared.allele.Allele.{Allele}
-use Rattle.alleles.specs.Put.{Wrote, putOne, putFrom, putAll}
+use Rattle.alleles.specs.Inner.{Wrote, putOne, putFrom, putAll}
 use Rattle.alleles.specs.declared.write.Decision.{Decision}
 use Rattle.alleles.proofs.Row.{blank}
 use Rattle.alleles.proofs.Tallying.{here}

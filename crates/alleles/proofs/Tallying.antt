@@ -18,7 +18,7 @@ use denote.Laws.{Is}
 use denote.Steps.{only}
 use denote.Struct.Laws as LL
 use Rattle.genotype.specs.declared.allele.Allele.{Allele}
-use Rattle.spelling.specs.Tally.{begun, tallied, tallyFrom, tallyOf}
+use Rattle.spelling.specs.Inner.{begun, tallied, tallyFrom, tallyOf}
 use Rattle.spelling.specs.declared.tally.Tally.{Tally}
 use Rattle.spelling.proofs.TallySteps.{tally-start, tally-end, tally-more}
 use Rattle.spelling.proofs.tally.Tally as T

@@ -20,7 +20,7 @@ use Rattle.genotype.specs.declared.read.Read.the-variants as R
 use Rattle.genotype.proofs.step.Step as T
 use Rattle.genotype.proofs.read.Read as D
 use Rattle.genotype.proofs.StepLaws.{Further, step-means}
-use Rattle.alleles.specs.Turn.{ended, laidTurn, lays, turnAt}
+use Rattle.alleles.specs.Inner.{ended, laidTurn, lays, turnAt}
 use Rattle.alleles.specs.declared.read.Turn.{Turn}
 
 -- ---- the first allele from a place on
@@ -30,10 +30,11 @@ module _ (t : List ℕ) (at : ℕ) where
   unfolding laidTurn
   first-found a next f = rw (here t at (omega (arith, f .past, f .within)), f .first, f .ends)
 
-  first-none : (x : Step) → stepPaper x ≡ stepAnswer t at → OneOf (1 ∷ 2 ∷ 3 ∷ []) (tagOf T.the-type x) → firstOf (drop at t) ≡ none
-  first-none (S.Found a next) e h = absurd (miss (1 ∷ 2 ∷ 3 ∷ []) 0 tt h)
+  first-none : (x : Step) → stepPaper x ≡ stepAnswer t at → OneOf (1 ∷ 2 ∷ 3 ∷ 4 ∷ []) (tagOf T.the-type x) → firstOf (drop at t) ≡ none
+  first-none (S.Found a next) e h = absurd (miss (1 ∷ 2 ∷ 3 ∷ 4 ∷ []) 0 tt h)
   first-none S.Beyond e h = let f = step-means t at S.Beyond e in rw (drop-of-length-le t {i = at} (omega arith))
   first-none S.Nothing e h = let f = step-means t at S.Nothing e in rw (drop-of-length-le t {i = at} (omega arith))
+  first-none S.Empty e h = let f = step-means t at S.Empty e in rw (drop-of-length-le t {i = at} (omega arith))
   first-none S.Bad e h = let f = step-means t at S.Bad e in rw (here t at (f .before)) (f .first)
 
 -- ---- the turns
@@ -82,7 +83,7 @@ module _ (t : List ℕ) (x : Read) (n i at : ℕ) where
         pub turn-found : (a : Allele) (next : ℕ) → y ≡ S.Found a next → record { done = false; allele = a; next = next } ≡ turnAt t x n i at
         turn-found a next p = turn-lays a next (step-means t at (S.Found a next) (rw p at f))
 
-        pub turn-past : {r : Turn} → r ≡ ended → OneOf (1 ∷ 2 ∷ 3 ∷ []) (tagOf T.the-type y) → r ≡ turnAt t x n i at
+        pub turn-past : {r : Turn} → r ≡ ended → OneOf (1 ∷ 2 ∷ 3 ∷ 4 ∷ []) (tagOf T.the-type y) → r ≡ turnAt t x n i at
         unfolding turnAt laidTurn
         turn-past e h = e ∙ rw (lays-one, first-none t at y f h)
 

@@ -12,8 +12,7 @@ use Rattle.genotype.specs.Reading.{firstOf, pastFirst}
 use Rattle.genotype.specs.declared.allele.Allele.{Allele}
 use Rattle.genotype.specs.declared.read.Read.{Read}
 use Rattle.genotype.specs.declared.read.Read.the-variants as R
-use Rattle.alleles.specs.Turn.{ended, laidTurn, lays, turnAt}
-use Rattle.alleles.specs.Fill.{fillOn}
+use Rattle.alleles.specs.Inner.{ended, laidTurn, lays, turnAt, fillOn}
 
 -- ---- a turn that goes on has room
 

@@ -11,9 +11,8 @@ use Rattle.text.specs.Over.{over, overAt}
 use Rattle.text.proofs.Lists.{overAt-nil, overAt-append, length-overAt}
 use Rattle.genotype.specs.declared.allele.Allele.{Allele}
 use Rattle.spelling.specs.Spelling.{from44, alleleText, listText}
-use Rattle.spelling.specs.Tally.{tallyOf}
+use Rattle.spelling.specs.Inner.{tallyOf, WritesList}
 use Rattle.spelling.specs.Demands.{Fitting}
-use Rattle.spelling.specs.Write.{WritesList}
 use Rattle.spelling.specs.declared.tally.Tally.{Tally}
 use Rattle.spelling.specs.declared.tally.Plan.{Plan}
 use Rattle.spelling.specs.declared.tally.Plan.the-variants as P
@@ -25,8 +24,7 @@ use Rattle.spelling.proofs.TallySteps.{bare-taken, marked-taken}
 use Rattle.spelling.proofs.LayLaws.{over-start}
 use Rattle.spelling.proofs.WriteLaws.{writes-text, writes-short, writes-empty, writes-bad, writes-phasing}
 use Rattle.spelling.proofs.ListLaws.{fits-at, ListOutcome, list-beyond, list-rest}
-use Rattle.alleles.specs.Decide.{refusal, planned, decided}
-use Rattle.alleles.specs.Put.{Wrote, putText, putOne, putFrom, putAll}
+use Rattle.alleles.specs.Inner.{refusal, planned, decided, Wrote, putText, putOne, putFrom, putAll}
 use Rattle.alleles.specs.Write.{WritesAlleles}
 use Rattle.alleles.specs.declared.write.Decision.{Decision}
 use Rattle.alleles.proofs.Putting.{put-more, put-end}

@@ -10,16 +10,14 @@ use lib.Dec.{eqb}
 use borrow.Author.Tests.{eq-eqb, ne-eqb, not-true, not-false}
 use Rattle.genotype.specs.declared.allele.Allele.{Allele}
 use Rattle.spelling.specs.Spelling.{alleleText}
-use Rattle.spelling.specs.Put.{PutsAt}
-use Rattle.spelling.specs.Tally.{planOf}
+use Rattle.spelling.specs.Inner.{PutsAt, planOf}
 use Rattle.spelling.specs.declared.tally.Tally.{Tally}
 use Rattle.spelling.specs.declared.tally.Plan.{Plan}
 use Rattle.spelling.specs.declared.tally.Plan.the-variants as P
 use Rattle.spelling.specs.declared.write.Write.{Write}
 use Rattle.spelling.specs.declared.write.Write.the-variants as W
 use Rattle.spelling.proofs.TallySteps.{marked-room}
-use Rattle.alleles.specs.Decide.{refusal, planned, decided}
-use Rattle.alleles.specs.Put.{putText, putOne}
+use Rattle.alleles.specs.Inner.{refusal, planned, decided, putText, putOne}
 use Rattle.alleles.specs.declared.write.Decision.{Decision}
 
 -- ---- the decision

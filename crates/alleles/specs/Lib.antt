@@ -1,8 +1,8 @@
-pub mod Turn
-pub mod Fill
+pub mod Inner
 pub mod Read
-pub mod Decide
-pub mod Put
 pub mod Write
 pub mod OwnRead
 pub mod OwnWrite
+pub mod Promises
+pub mod Demands
+pub mod EndToEnd

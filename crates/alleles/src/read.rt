@@ -6,8 +6,7 @@ use genotype::read::judge_checked;
 use genotype::step::Step;
 use genotype::step::step_at;
 ghost use mathlib.Core.Path.{_≡_};
-ghost use Rattle.alleles.specs.Turn.{turnAt, ended};
-ghost use Rattle.alleles.specs.Fill.{filledRow};
+ghost use Rattle.alleles.specs.Inner.{turnAt, ended, filledRow};
 ghost use Rattle.alleles.specs.Read.{ReadsRow, ReadsRowChecked};
 
 // One turn of filling a row: it is done, or an allele is to be laid, and the text goes on at `next`.

@@ -10,10 +10,8 @@ use spelling::write::Write;
 ghost use mathlib.Core.Path.{_≡_};
 ghost use Prim.Native.Nat.{_-_};
 ghost use Rattle.spelling.specs.Spelling.{from44};
-ghost use Rattle.spelling.specs.Tally.{tallyOf};
-ghost use Rattle.spelling.specs.Write.{WritesList};
-ghost use Rattle.alleles.specs.Decide.{refusal, decided};
-ghost use Rattle.alleles.specs.Put.{putOne, putAll};
+ghost use Rattle.spelling.specs.Inner.{tallyOf, WritesList};
+ghost use Rattle.alleles.specs.Inner.{refusal, decided, putOne, putAll};
 ghost use Rattle.alleles.specs.Write.{WritesAlleles};
 
 // What is to be done with a row: whether it is written, whether its first allele has no mark, and the answer.

@@ -10,7 +10,7 @@ use Rattle.text.specs.Over.{roomAnswer}
 use Rattle.text.specs.First.{firstWhere}
 use Rattle.decimal.specs.Decimal as D
 use Rattle.decimal.specs.Shortest.{shortest}
-use Rattle.pieces.specs.Block as K
+use Rattle.pieces.specs.Before as K
 use Rattle.pieces.specs.Pieces as C
 use Rattle.fields.specs.Pos as L
 use Rattle.lists.specs.Judge as J

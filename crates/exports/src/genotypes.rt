@@ -50,11 +50,12 @@ fn tell_step(step: Step, values: &mut [u64]) -> u64
         Step::Found(allele, next) => tell_allele(allele, next, values),
         Step::Beyond => tell_none(4, 6, values),
         Step::Nothing => tell_none(4, 10, values),
+        Step::Empty => tell_none(4, 11, values),
         Step::Bad => tell_none(4, 12, values),
     }
 }
 
-// The allele at the place `at`, as the first of the text from there on: 0, 6, 10 or 12. Four values at most: the next place, and the
+// The allele at the place `at`, as the first of the text from there on: 0, 6, 10, 11 or 12. Four values at most: the next place, and the
 // allele's number, missing mark and phasing.
 #[no_mangle]
 pub extern "C" fn bruncadorza_genotype_step(text: &[u8], at: usize, values: &mut [u64]) -> u64

@@ -10,7 +10,8 @@ use denote.Enum.Declared.{tagOf}
 use lib.ListN.{length, drop}
 use lib.Dec.{ltb}
 use borrow.Author.Tests.{ltb-true, ltb-false}
-use Rattle.genotype.specs.Reading.{list, empty, gathered, readingOf, partsOf, stepAnswer, listOf, ListMeant}
+use Rattle.genotype.specs.Reading.{list, empty, gathered, readingOf, partsOf, stepAnswer, listOf}
+use Rattle.genotype.specs.Inner.{ListMeant}
 use Rattle.genotype.specs.Paper.{stepPaper}
 use Rattle.genotype.specs.declared.allele.Allele.{Allele}
 use Rattle.genotype.specs.declared.step.Step.{Step}
@@ -63,11 +64,12 @@ module _ {t : List ℕ} {at k : ℕ} (g : Ahead t at k) {x : Step} (e : stepPape
   left-turn = left-past g (found t at x e a next q)
 
 -- where a step finds no allele, none is left
-pub left-end : (t : List ℕ) (at k : ℕ) (x : Step) → Ahead t at k → stepPaper x ≡ stepAnswer t at → OneOf (1 ∷ 2 ∷ 3 ∷ []) (tagOf T.the-type x) → leftOf t at k ≡ []
+pub left-end : (t : List ℕ) (at k : ℕ) (x : Step) → Ahead t at k → stepPaper x ≡ stepAnswer t at → OneOf (1 ∷ 2 ∷ 3 ∷ 4 ∷ []) (tagOf T.the-type x) → leftOf t at k ≡ []
 unfolding gathered listOf
-left-end t at k (S.Found a next) g e h = absurd (miss (1 ∷ 2 ∷ 3 ∷ []) 0 tt h)
+left-end t at k (S.Found a next) g e h = absurd (miss (1 ∷ 2 ∷ 3 ∷ 4 ∷ []) 0 tt h)
 left-end t at k S.Beyond g e h = absurd (let f = step-means t at S.Beyond e in omega arith)
 left-end t at k S.Nothing g e h = let f = step-means t at S.Nothing e in rw (parts-end t at (omega arith))
+left-end t at k S.Empty g e h = let f = step-means t at S.Empty e in rw (parts-end t at (omega arith))
 left-end t at k S.Bad g e h = let f = step-means t at S.Bad e in rw (f .parts)
 
 -- where one is left, a step finds it

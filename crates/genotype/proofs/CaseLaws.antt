@@ -24,6 +24,10 @@ module _ {x : Step} where
   unfolding stepPaper
   step-nothing e = rw e
 
+  pub step-empty : x ≡ S.Empty → stepPaper x ≡ says 11 []
+  unfolding stepPaper
+  step-empty e = rw e
+
   pub step-bad : x ≡ S.Bad → stepPaper x ≡ says 12 []
   unfolding stepPaper
   step-bad e = rw e
@@ -53,4 +57,4 @@ module _ {x : Read} where
   unfolding readPaper
   read-above e = rw e
 
-pub ruleset cases = (step-found, step-beyond, step-nothing, step-bad, read-done, read-empty, read-bad, read-lengths, read-short, read-above)
+pub ruleset cases = (step-found, step-beyond, step-nothing, step-empty, step-bad, read-done, read-empty, read-bad, read-lengths, read-short, read-above)

@@ -12,13 +12,13 @@ use lib.Seq.{sets}
 use Rattle.text.specs.Over.{over}
 use Rattle.text.proofs.Lists.{sets-over}
 use Rattle.text.specs.Pick.{oneIf}
-use Rattle.genotype.specs.Reading.{readingOf, stepAnswer, listOf, ListMeant}
+use Rattle.genotype.specs.Reading.{readingOf, stepAnswer, listOf}
 use Rattle.genotype.specs.Row.{numbersOf, missingOf, phasedOf}
 use Rattle.genotype.specs.Paper.{stepPaper}
 use Rattle.genotype.specs.declared.allele.Allele.{Allele}
 use Rattle.genotype.specs.declared.step.Step.{Step}
 use Rattle.genotype.specs.declared.step.Step.the-variants as S
-use Rattle.genotype.specs.Inner.{Room}
+use Rattle.genotype.specs.Inner.{ListMeant, Room}
 use Rattle.genotype.proofs.step.Step as T
 use Rattle.genotype.proofs.StepLaws.{found-less}
 use Rattle.genotype.proofs.Ahead.{leftOf, Ahead, ahead-first, left-first, ahead-turn, left-turn, left-end}
@@ -103,7 +103,7 @@ module _ (t n₀ m₀ p₀ n m p : List ℕ) (at k : ℕ) (x : Step) (g : Fillin
           phases = column-turn (rw left at (g .phases));
         })
 
-  module _ (h : OneOf (1 ∷ 2 ∷ 3 ∷ []) (tagOf T.the-type x)) where
+  module _ (h : OneOf (1 ∷ 2 ∷ 3 ∷ 4 ∷ []) (tagOf T.the-type x)) where
     none-left : leftOf t at k ≡ []
     none-left = left-end t at k x (g .ahead) e h
 

@@ -13,7 +13,8 @@ use Rattle.genotype.specs.Means.{none, Means, bare}
 use Rattle.genotype.specs.Demands.{Reader, reader, Stands, ExactAt, Exact}
 use Rattle.genotype.specs.declared.allele.Allele.{Allele}
 use Rattle.genotype.proofs.PhasedLaws.{phased-none}
-use Rattle.genotype.proofs.MeansLaws.{digit-body, means-one}
+use Rattle.genotype.proofs.MeansLaws.{means-one}
+use Rattle.genotype.proofs.BodyLaws.{digit-body}
 use Rattle.genotype.proofs.Exact.{exact}
 
 -- an allele alone is phased, since no mark follows
@@ -27,7 +28,7 @@ digit-means n h = bare (sym phased-none) (digit-body n true h) none
 module _ (read : Reader) (x : Exact read) (n : ℕ) (h : n < 10) where
   exact-digit : ExactAt ((48 + n) ∷ []) (lone 0 ∷ []) (read ((48 + n) ∷ []) (lone 0 ∷ []))
   unfolding Exact
-  exact-digit = x _ _ (λ as′ m. rw (means-one m (digit-means n h)) (omega arith))
+  exact-digit = x _ _ (λ as′ m. rw (means-one _ as′ _ m (digit-means n h)) (omega arith))
 
   digit-done : numberOf (read ((48 + n) ∷ []) (lone 0 ∷ []) .answer) ≡ 0
   digit-done =

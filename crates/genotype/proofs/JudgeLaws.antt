@@ -67,11 +67,12 @@ with-cons a (bad k) e = cc
 with-cons a empty e = cc
 
 -- neither an allele nor a bad piece, at a place of the text: it is the end
-end-tells : (t : List ℕ) (at : ℕ) (x : Step) → at ≤ length t → stepPaper x ≡ stepAnswer t at → OneOf (1 ∷ 2 ∷ []) (tagOf T.the-type x) → length t ≤ at
-end-tells t at (S.Found a next) w e h = absurd (miss (1 ∷ 2 ∷ []) 0 tt h)
+end-tells : (t : List ℕ) (at : ℕ) (x : Step) → at ≤ length t → stepPaper x ≡ stepAnswer t at → OneOf (1 ∷ 2 ∷ 3 ∷ []) (tagOf T.the-type x) → length t ≤ at
+end-tells t at (S.Found a next) w e h = absurd (miss (1 ∷ 2 ∷ 3 ∷ []) 0 tt h)
 end-tells t at S.Beyond w e h = let f = step-means t at S.Beyond e in omega arith
 end-tells t at S.Nothing w e h = let f = step-means t at S.Nothing e in omega arith
-end-tells t at S.Bad w e h = absurd (miss (1 ∷ 2 ∷ []) 3 tt h)
+end-tells t at S.Empty w e h = let f = step-means t at S.Empty e in omega arith
+end-tells t at S.Bad w e h = absurd (miss (1 ∷ 2 ∷ 3 ∷ []) 4 tt h)
 
 -- k alleles are passed, and at stands behind them
 pub record Judging (t : List ℕ) (at k : ℕ) : Type 0 where
@@ -98,7 +99,7 @@ module _ (t : List ℕ) (at k : ℕ) (x : Step) (g : Judging t at k) (e : stepPa
   unfolding readPaper gathered wholeFrom
   judge-bad q = let f = step-means t at S.Bad (rw q at e) in rw (f .parts) at (g .same)
 
-  pub judge-past : OneOf (1 ∷ 2 ∷ []) (tagOf T.the-type x) → readPaper (R.Done k) ≡ wholeAnswer (readingOf t)
+  pub judge-past : OneOf (1 ∷ 2 ∷ 3 ∷ []) (tagOf T.the-type x) → readPaper (R.Done k) ≡ wholeAnswer (readingOf t)
   unfolding readPaper gathered wholeFrom
   judge-past h = let z : k + 0 ≡ k = omega arith in rw (parts-end t at (end-tells t at x (g .within) e h), z) at (g .same)
 

@@ -12,7 +12,9 @@ pub mod RowLaws
 pub mod Determined
 pub mod PhasedLaws
 pub mod CutLaws
+pub mod BodyLaws
 pub mod MeansLaws
+pub mod BrokenLaws
 pub mod Exact
 pub mod Impostors
 pub mod Nearest

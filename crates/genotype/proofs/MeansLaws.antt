@@ -1,130 +1,25 @@
--- A text reads as a list exactly when it means that list: a body holds no mark, so the cut finds each allele, and what is
--- before the first mark is a body. Assumes nothing.
+-- A text reads as a list exactly when it means that list: a body holds no mark, so the cut finds each allele. Assumes nothing.
 use Prim.Native.Nat.{ℕ, _+_, _<_}
 use mathlib.Core.Path.{_≡_, refl, sym, ap, _∙_}
 use mathlib.Core.Bool.{Bool, true, false, _&&_, false≢true}
-use mathlib.Core.Logic.{_↔_}
 use mathlib.Core.List.{List, [], _∷_, _++_, map}
 use mathlib.Core.Option.{Option, some, none}
 use native.Mathlib.Omega.{arith}
-use native.Mathlib.Decide.{ℕ-discrete}
 use lib.ListN.{length}
 use Rattle.text.specs.Pick.{pick}
-use Rattle.text.specs.Same.{same}
-use Rattle.text.proofs.SameLaws.{same-self, same-is, same-not}
-use Rattle.decimal.specs.Decimal.{allDigits, valueOf}
-use Rattle.decimal.specs.Demands.{Decimal, bare, signed}
-use Rattle.decimal.proofs.Digits.{digit-range, digits-cons}
-use Rattle.decimal.proofs.Demands.{reads-back}
-use Rattle.decimal.proofs.Shortest.{shortest-one}
-use Rattle.decimal.proofs.Value.{value-decimal, decimal-value}
 use Rattle.pieces.specs.Pieces.{lacks}
 use Rattle.pieces.proofs.CountLaws.{lacks-none, lacks-here, lacks-other}
-use Rattle.genotype.specs.Reading.{isMark, headOf, markedPieces, numbered, bodied, alleleIn, impliedBy, partsOf, list, with, gathered, readingOf, listOf}
-use Rattle.genotype.specs.Means.{markByte, Body, dot, number, Later, allPhased, Means, marked}
+use Rattle.genotype.specs.Reading.{isMark, headOf, markedPieces, alleleIn, impliedBy, partsOf, list, with, gathered, readingOf, listOf}
+use Rattle.genotype.specs.Means.{markByte, Body, Later, allPhased, Means, marked}
 use Rattle.genotype.specs.Means as M
+use Rattle.genotype.specs.Demands.{ReadsMeans, MeansOne}
 use Rattle.genotype.specs.declared.allele.Allele.{Allele}
-use Rattle.genotype.proofs.PieceLaws.{mark-bar, mark-slash, mark-none, in-bar, in-slash, in-plain, head-none, head-mark, head-more, parts-first}
+use Rattle.genotype.proofs.PieceLaws.{head-none, head-mark, head-more, parts-first}
 use Rattle.genotype.proofs.JudgeLaws.{reading-some, reading-none, with-list, with-cons}
 use Rattle.genotype.proofs.PhasedLaws.{phased-none, phased-more}
+use Rattle.genotype.proofs.BodyLaws.{body-quiet, body-some, body-bodied, mark-is, marked-allele, quiet-allele, Piece, with-mark, plain, allele-piece}
 use Rattle.genotype.proofs.CutLaws as C
-use Rattle.genotype.proofs.CutLaws.{Quiet, no-bar, no-slash, head-quiet, pieces-quiet, lacks-quiet, quiet-head}
-
--- ---- a body
-
-digits-quiet : (s : List ℕ) → allDigits s ≡ true → Quiet s
-digits-quiet [] e = C.none
-digits-quiet (b ∷ s) e =
-    let g = digits-cons b s e in
-    let r = digit-range b (g .0) in
-    C.more (mark-none b (λ q. absurd (omega arith)) (λ q. absurd (omega arith))) (digits-quiet s (g .1))
-
-body-quiet : {t : List ℕ} {a : Allele} → Body t a → Quiet t
-body-quiet dot = C.more (mark-none 46 (λ e. absurd (omega arith)) (λ e. absurd (omega arith))) C.none
-body-quiet (number (bare {s} g h)) = digits-quiet s (g .digits)
-body-quiet (number (signed {s} g h)) = C.more (mark-none 43 (λ e. absurd (omega arith)) (λ e. absurd (omega arith))) (digits-quiet s (g .digits))
-
-body-some : {t : List ℕ} {a : Allele} → Body t a → 0 < length t
-body-some dot = omega arith
-body-some (number (bare g h)) = g .one
-body-some (number (signed g h)) = omega arith
-
--- one digit is a body
-pub digit-body : (n : ℕ) (p : Bool) → n < 10 → Body ((48 + n) ∷ []) (record { number = n; missing = false; phased = p })
-digit-body n p h = number (value-decimal ((48 + n) ∷ []) n (rw (shortest-one n h) at (reads-back n (omega arith))))
-
--- a decimal is not the dot
-decimal-no-dot : {t : List ℕ} {n : ℕ} → Decimal t n → t ≡ 46 ∷ [] → ⊥
-decimal-no-dot (bare g h) e =
-    let r = digit-range 46 (digits-cons 46 [] (rw e at (g .digits)) .0) in
-    omega arith
-decimal-no-dot (signed g h) e = let z : _≡_ {A = ℕ} 43 46 = cc in omega arith
-
-body-bodied : {t : List ℕ} {a : Allele} → Body t a → bodied (a .phased) t ≡ some a
-unfolding bodied numbered
-body-bodied dot = rw (same-self (46 ∷ []))
-body-bodied (number {t} {n} d) = rw (same-not t (46 ∷ []) (decimal-no-dot d), decimal-value t d)
-
--- a body, read with a phasing
-record Bodied (p : Bool) (t : List ℕ) (a : Allele) : Type 0 where
-  body : Body t a
-  phasing : a .phased ≡ p
-
-bodied-body : (p : Bool) (t : List ℕ) (a : Allele) → bodied p t ≡ some a → Bodied p t a
-unfolding bodied numbered
-bodied-body p t a e = by (same t (46 ∷ [])) refl e
-  where
-    valued : (o : Option ℕ) → valueOf t ≡ o → numbered p o ≡ some a → Bodied p t a
-    valued (some n) v e =
-        let q : record { number = n; missing = false; phased = p } ≡ a = cc in
-        rw (← q) (record { body = number (value-decimal t n v); phasing = refl })
-    valued none v e = let z : _≡_ {A = ℕ} 0 1 = cc in absurd (omega arith)
-
-    by : (x : Bool) → same t (46 ∷ []) ≡ x → pick x (some (record { number = 0; missing = true; phased = p })) (numbered p (valueOf t)) ≡ some a → Bodied p t a
-    by true s e =
-        let q : record { number = 0; missing = true; phased = p } ≡ a = cc in
-        rw (← q, same-is t (46 ∷ []) s) (record { body = dot; phasing = refl })
-    by false s e = valued (valueOf t) refl e
-
--- ---- a piece
-
-mark-is : {b : ℕ} (p : Bool) → b ≡ markByte p → isMark b ≡ true
-mark-is true e = mark-bar _ e
-mark-is false e = mark-slash _ e
-
--- with its mark an allele is read as it is, whatever is implied
-marked-allele : (i : Bool) {b : ℕ} {t : List ℕ} {a : Allele} → b ≡ markByte (a .phased) → Body t a → alleleIn i (b ∷ t) ≡ some a
-marked-allele i {b} {t} {a} m c = by (a .phased) m (body-bodied c)
-  where
-    by : (p : Bool) → b ≡ markByte p → bodied p t ≡ some a → alleleIn i (b ∷ t) ≡ some a
-    by true m e = in-bar i b t m ∙ e
-    by false m e = in-slash i b t m ∙ e
-
--- without one it has the phasing that is implied
-quiet-allele : (i : Bool) {t : List ℕ} → Quiet t → 0 < length t → alleleIn i t ≡ bodied i t
-quiet-allele i C.none h = absurd (omega arith)
-quiet-allele i (C.more {b} {s} m q) h = in-plain i b s (no-bar b m) (no-slash b m)
-
--- a piece that is an allele has its mark and a body, or is a body that has the phasing implied
-data Piece (i : Bool) : ℕ → List ℕ → Allele → Type 0 where
-  with-mark : {b : ℕ} {t : List ℕ} {a : Allele} → b ≡ markByte (a .phased) → Body t a → Piece i b t a
-  plain : {b : ℕ} {t : List ℕ} {a : Allele} → isMark b ≡ false → a .phased ≡ i → Body (b ∷ t) a → Piece i b t a
-
-allele-piece : (i : Bool) (b : ℕ) (t : List ℕ) (a : Allele) → alleleIn i (b ∷ t) ≡ some a → Piece i b t a
-allele-piece i b t a e = by (ℕ-discrete b 124) (ℕ-discrete b 47)
-  where
-    by : Dec (b ≡ 124) → Dec (b ≡ 47) → Piece i b t a
-    by (yes p) q =
-        let c = bodied-body true t a (sym (in-bar i b t p) ∙ e) in
-        let m : b ≡ markByte (a .phased) = rw (c .phasing) p in
-        with-mark m (c .body)
-    by (no p) (yes q) =
-        let c = bodied-body false t a (sym (in-slash i b t q) ∙ e) in
-        let m : b ≡ markByte (a .phased) = rw (c .phasing) q in
-        with-mark m (c .body)
-    by (no p) (no q) =
-        let c = bodied-body i (b ∷ t) a (sym (in-plain i b t p q) ∙ e) in
-        plain (mark-none b p q) (c .phasing) (c .body)
+use Rattle.genotype.proofs.CutLaws.{Quiet, head-quiet, pieces-quiet, lacks-quiet, quiet-head}
 
 -- ---- the alleles after the first
 
@@ -142,7 +37,7 @@ later-implied (M.more {b} {t} {rest} {a} {as′} m c l) = rw (phased-more a as�
     by true m e = rw (lacks-other 47 (t ++ rest) {a = b} (λ z. absurd (omega arith)), lacks-quiet rest (body-quiet c)) e
     by false m e = lacks-here 47 (t ++ rest) {a = b} m
 
-quiet-implied : (t : List ℕ) {s : List ℕ} → Quiet s → impliedBy (s ++ t) ≡ impliedBy t
+pub quiet-implied : (t : List ℕ) {s : List ℕ} → Quiet s → impliedBy (s ++ t) ≡ impliedBy t
 unfolding impliedBy
 quiet-implied t q = lacks-quiet t q
 
@@ -156,12 +51,12 @@ later-pieces i (M.more {b} {t} {rest} {a} m c l) =
 -- ---- the text
 
 -- pieces that are all alleles read as their list
-some-gathered : (k : ℕ) (as′ : List Allele) → gathered k (map some as′) ≡ list as′
+pub some-gathered : (k : ℕ) (as′ : List Allele) → gathered k (map some as′) ≡ list as′
 unfolding gathered with
 some-gathered k [] = refl
 some-gathered k (a ∷ as′) = rw (some-gathered (k + 1) as′)
 
-gathered-some : (k : ℕ) (ps : List (Option Allele)) (as′ : List Allele) → gathered k ps ≡ list as′ → ps ≡ map some as′
+pub gathered-some : (k : ℕ) (ps : List (Option Allele)) (as′ : List Allele) → gathered k ps ≡ list as′ → ps ≡ map some as′
 unfolding gathered listOf
 gathered-some k [] as′ e = let q : [] ≡ as′ = cc in rw (← q)
 gathered-some k (none ∷ ps) as′ e = let z : _≡_ {A = ℕ} 0 1 = cc in absurd (omega arith)
@@ -239,9 +134,9 @@ read-means (b ∷ s) as′ e = by as′ (sym (parts-first b s) ∙ gathered-some
     by (a ∷ bs) e = first (allele-piece i b (headOf s) a (cc)) (parted i s bs (cc))
 
 -- a text reads as a list exactly when it means that list
-pub reads-means : (t : List ℕ) (as′ : List Allele) → (readingOf t ≡ list as′) ↔ Means t as′
+pub reads-means : ReadsMeans readingOf
 reads-means t as′ = (read-means t as′, means-read)
 
 -- so it means one list at most
-pub means-one : {t : List ℕ} {as′ bs : List Allele} → Means t as′ → Means t bs → as′ ≡ bs
-means-one m n = let e = means-read m in let f = means-read n in cc
+pub means-one : MeansOne
+means-one t as′ bs m n = let e = means-read m in let f = means-read n in cc

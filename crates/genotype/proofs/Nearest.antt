@@ -7,7 +7,8 @@ use native.Mathlib.Omega.{arith}
 use Rattle.genotype.specs.Reading.{list, readingOf}
 use Rattle.genotype.specs.Means.{none, more, bare}
 use Rattle.genotype.proofs.PhasedLaws.{phased-more}
-use Rattle.genotype.proofs.MeansLaws.{reads-means, digit-body}
+use Rattle.genotype.proofs.MeansLaws.{reads-means}
+use Rattle.genotype.proofs.BodyLaws.{digit-body}
 
 pub any-slash : readingOf (48 ∷ 124 ∷ 49 ∷ 47 ∷ 50 ∷ [])
     ≡ list

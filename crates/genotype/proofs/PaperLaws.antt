@@ -17,7 +17,7 @@ mark-back true = refl
 mark-back false = refl
 
 stepOf : Answer → Step
-stepOf (says n []) = pick (eqb n 6) S.Beyond (pick (eqb n 10) S.Nothing S.Bad)
+stepOf (says n []) = pick (eqb n 6) S.Beyond (pick (eqb n 10) S.Nothing (pick (eqb n 11) S.Empty S.Bad))
 stepOf (says n (a ∷ [])) = S.Bad
 stepOf (says n (a ∷ b ∷ [])) = S.Bad
 stepOf (says n (a ∷ b ∷ c ∷ [])) = S.Bad
@@ -28,6 +28,7 @@ unfolding stepOf stepPaper
 step-back (S.Found a next) = rw (mark-back (a .missing), mark-back (a .phased))
 step-back S.Beyond = refl
 step-back S.Nothing = refl
+step-back S.Empty = refl
 step-back S.Bad = refl
 
 pub step-paper-injective : (x y : Step) → stepPaper x ≡ stepPaper y → x ≡ y

@@ -103,6 +103,11 @@ pub parts-first : (b : ℕ) (s : List ℕ) → partsOf (b ∷ s) ≡ alleleIn (i
 unfolding partsOf piecesOf impliedOf
 parts-first b s = refl
 
+-- where a text begins with a mark, so do all its pieces
+pub parts-marked : (t : List ℕ) → headOf t ≡ [] → partsOf t ≡ map (alleleIn (impliedOf t)) (markedPieces t)
+unfolding partsOf
+parts-marked t e = sym (ap (map (alleleIn (impliedOf t))) (rw e at (marked-pieces t)))
+
 -- so the parts behind the first are those of the text behind it, whatever it implies itself
 parts-cons : (b : ℕ) (s : List ℕ) → partsOf (b ∷ s) ≡ alleleIn (impliedBy s) (b ∷ headOf s) ∷ partsOf (drop (length (headOf s)) s)
 unfolding partsOf
@@ -111,7 +116,7 @@ parts-cons b s =
     ∙ ap (λ (l : List (Option Allele)). alleleIn (impliedBy s) (b ∷ headOf s) ∷ l)
     (marked-all (impliedBy s) (impliedOf (drop (length (headOf s)) s)) s ∙ ap (map (alleleIn (impliedOf (drop (length (headOf s)) s)))) (marked-pieces s))
 
-parts-none : partsOf [] ≡ []
+pub parts-none : partsOf [] ≡ []
 unfolding partsOf piecesOf
 parts-none = refl
 

@@ -11,14 +11,14 @@ use lib.ListN.{length}
 use Rattle.text.specs.Answer.{Answer, says, numberOf}
 use Rattle.text.specs.Over.{over}
 use Rattle.text.proofs.CopyLaws.{laid-refused}
-use Rattle.genotype.specs.Reading.{Reading, list, bad, empty, readingOf, listOf, ListMeant}
+use Rattle.genotype.specs.Reading.{Reading, list, bad, empty, readingOf, listOf}
 use Rattle.genotype.specs.Row.{numbersOf, missingOf, phasedOf}
 use Rattle.genotype.specs.Answers.{readAnswer, firstAbove, aboveAnswer, checkedAnswer, rowAnswer, Reads}
 use Rattle.genotype.specs.Paper.{readPaper}
 use Rattle.genotype.specs.declared.allele.Allele.{Allele}
 use Rattle.genotype.specs.declared.read.Read.{Read}
 use Rattle.genotype.specs.declared.read.Read.the-variants as R
-use Rattle.genotype.specs.Inner.{Room}
+use Rattle.genotype.specs.Inner.{ListMeant, Room}
 use Rattle.genotype.proofs.read.Read as D
 use Rattle.genotype.proofs.JudgeLaws.{other-number}
 use Rattle.genotype.proofs.AnswerLaws.{answer-list, answer-short, answer-bad, answer-empty, row-even, row-uneven-nm, row-uneven-np}

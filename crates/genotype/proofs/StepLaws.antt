@@ -5,6 +5,7 @@ use mathlib.Core.List.{List, [], _∷_}
 use mathlib.Core.Bool.{Bool, true, false}
 use mathlib.Core.Option.{Option, some, none}
 use native.Mathlib.Omega.{arith}
+use native.Mathlib.Decide.{ℕ-discrete}
 use types.Run.{OneOf, miss}
 use denote.Enum.Declared.{tagOf}
 use lib.ListN.{length, getD, take, drop, drop-of-length-le, length-drop}
@@ -26,7 +27,7 @@ use Rattle.pieces.proofs.step.Step as E
 use Rattle.pieces.proofs.PieceLaws.{split-count, split-some}
 use Rattle.pieces.proofs.CountLaws.{lacks-none, lacks-yes, lacks-no}
 use Rattle.pieces.proofs.StepLaws.{step-tells}
-use Rattle.genotype.specs.Reading.{isMark, headOf, numbered, bodied, alleleIn, impliedBy, partsOf, alleleAnswer, firstAnswer, stepAnswer}
+use Rattle.genotype.specs.Reading.{isMark, headOf, numbered, bodied, alleleIn, impliedBy, partsOf, alleleAnswer, firstAnswer, fromAnswer, stepAnswer}
 use Rattle.genotype.specs.Paper.{stepPaper}
 use Rattle.genotype.specs.declared.allele.Allele.{Allele}
 use Rattle.genotype.specs.declared.step.Step.{Step}
@@ -113,21 +114,27 @@ firstAt t at = alleleIn (impliedBy (drop (at + 1) t)) (getD t at 0 ∷ headOf (d
 abbrev pub pastAt : List ℕ → ℕ → ℕ
 pastAt t at = at + 1 + length (headOf (drop (at + 1) t))
 
-inside : (t : List ℕ) (at : ℕ) → at ≤ length t → stepAnswer t at ≡ firstAnswer at (drop at t)
-unfolding stepAnswer
-inside t at h = rw (le-leb _ _ h)
+inside : (t : List ℕ) (at : ℕ) → (length t ≡ 0 → ⊥) → at ≤ length t → stepAnswer t at ≡ firstAnswer at (drop at t)
+unfolding stepAnswer fromAnswer
+inside [] at n h = absurd (n refl)
+inside (b ∷ s) at n h = rw (le-leb at (length (b ∷ s)) h)
 
 pub step-beyond : (t : List ℕ) (at : ℕ) → length t < at → stepPaper S.Beyond ≡ stepAnswer t at
 unfolding stepPaper stepAnswer
 step-beyond t at h = rw (lt-leb _ _ h)
 
-pub step-nothing : (t : List ℕ) (at : ℕ) → at ≡ length t → stepPaper S.Nothing ≡ stepAnswer t at
+pub step-empty : (t : List ℕ) (at : ℕ) → at ≤ length t → length t ≡ 0 → stepPaper S.Empty ≡ stepAnswer t at
+unfolding stepPaper stepAnswer fromAnswer
+step-empty [] at h e = rw (le-leb at 0 h)
+step-empty (b ∷ s) at h e = absurd (omega arith)
+
+pub step-nothing : (t : List ℕ) (at : ℕ) → (length t ≡ 0 → ⊥) → at ≡ length t → stepPaper S.Nothing ≡ stepAnswer t at
 unfolding stepPaper firstAnswer
-step-nothing t at e = sym (inside t at (omega arith) ∙ rw (drop-of-length-le t {i = at} (omega arith)))
+step-nothing t at n e = sym (inside t at n (omega arith) ∙ rw (drop-of-length-le t {i = at} (omega arith)))
 
 step-here : (t : List ℕ) (at : ℕ) → at < length t → stepAnswer t at ≡ alleleAnswer (pastAt t at) (firstAt t at)
 unfolding firstAnswer
-step-here t at h = inside t at (omega arith) ∙ rw (here t at h)
+step-here t at h = inside t at (λ z. omega arith) (omega arith) ∙ rw (here t at h)
 
 module _ (t : List ℕ) (at : ℕ) {end : ℕ} (x : Step) (w : at ≤ length t) (n : at ≡ length t → ⊥) (e : end ≡ pastAt t at) where
   -- the bytes up to the next mark
@@ -176,6 +183,7 @@ abbrev pub StepTells : List ℕ → ℕ → Step → Type 0
 StepTells t at (S.Found a next) = Further t at a next
 StepTells t at S.Beyond = length t < at
 StepTells t at S.Nothing = at ≡ length t
+StepTells t at S.Empty = length t ≡ 0
 StepTells t at S.Bad = Wrong t at
 
 module _ (t : List ℕ) (at : ℕ) (h : at < length t) where
@@ -201,9 +209,13 @@ step-means t at x e = placed (ltb (length t) at) refl
     some-left h (some a) q = is (S.Found a (pastAt t at)) (sym (step-here t at h ∙ rw q)) (further-at t at h a q)
     some-left h none q = is S.Bad (sym (step-here t at h ∙ rw q)) (wrong-at t at h q)
 
+    ended : at ≡ length t → Dec (length t ≡ 0) → StepTells t at x
+    ended z (yes n) = is S.Empty (step-empty t at (omega arith) n) n
+    ended z (no n) = is S.Nothing (step-nothing t at n z) z
+
     reached : at ≤ length t → (c : Bool) → ltb at (length t) ≡ c → StepTells t at x
     reached w true h = some-left (ltb-true _ _ h) (firstAt t at) refl
-    reached w false h = let l = ltb-false at (length t) h in let z : at ≡ length t = omega arith in is S.Nothing (step-nothing t at z) z
+    reached w false h = let l = ltb-false at (length t) h in ended (omega arith) (ℕ-discrete (length t) 0)
 
     placed : (c : Bool) → ltb (length t) at ≡ c → StepTells t at x
     placed true h = let l = ltb-true _ _ h in is S.Beyond (step-beyond t at l) l
@@ -217,4 +229,4 @@ module _ (t : List ℕ) (at : ℕ) (x : Step) (e : stepPaper x ≡ stepAnswer t 
   pub found-less : length t - next < length t - at
   found-less = let f = found in omega arith
 
-pub ruleset laws = (seek-first, seek-bar, seek-slash, seek-turn, seek-past, implied-more, implied-rest, body-dot, body-value, body-bad, step-beyond, step-nothing, step-bar, step-slash, step-plain)
+pub ruleset laws = (seek-first, seek-bar, seek-slash, seek-turn, seek-past, implied-more, implied-rest, body-dot, body-value, body-bad, step-beyond, step-empty, step-nothing, step-bar, step-slash, step-plain)

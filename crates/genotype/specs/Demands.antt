@@ -7,13 +7,29 @@ use mathlib.Core.List.{List, [], _∷_}
 use lib.ListN.{length}
 use Rattle.text.specs.Answer.{Answer, says, numberOf}
 use Rattle.text.specs.Over.{over}
-use Rattle.genotype.specs.Reading.{readingOf}
+use Rattle.genotype.specs.Reading.{Reading, list, bad, readingOf}
 use Rattle.genotype.specs.Row.{rowOf}
 use Rattle.genotype.specs.Paper.{readPaper}
 use Rattle.genotype.specs.Answers.{readAnswer, rowRead, Parallel, ReadsText}
-use Rattle.genotype.specs.Means.{Means}
+use Rattle.genotype.specs.Means.{Means, Broken}
 use Rattle.genotype.specs.declared.allele.Allele.{Allele}
 use Rattle.genotype.specs.declared.read.Read.{Read}
+
+-- ---- what texts mean
+
+-- a text reads as a list exactly when it means that list
+abbrev pub ReadsMeans : (List ℕ → Reading) → Type 0
+ReadsMeans reading = (t : List ℕ) (as′ : List Allele) → (reading t ≡ list as′) ↔ Means t as′
+
+-- and as bad at k exactly when the piece with index k is the first that is no allele
+abbrev pub ReadsBroken : (List ℕ → Reading) → Type 0
+ReadsBroken reading = (t : List ℕ) (k : ℕ) → (reading t ≡ bad k) ↔ Broken t k
+
+-- it means one list at most
+abbrev pub MeansOne : Type 0
+MeansOne = (t : List ℕ) (as′ bs : List Allele) → Means t as′ → Means t bs → as′ ≡ bs
+
+-- ---- readers
 
 -- a reader is given a text and a row, and answers on paper and leaves a row
 pub record Outcome : Type 0 where

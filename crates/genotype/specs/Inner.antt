@@ -1,13 +1,18 @@
 -- What the private functions of this crate promise each other. Assumes nothing.
 use Prim.Native.Nat.{ℕ, zero, suc, _≤_}
+use mathlib.Core.Path.{_≡_}
 use mathlib.Core.List.{List, [], _∷_}
 use mathlib.Core.Option.{Option, some, none}
 use lib.ListN.{length}
 use Rattle.text.specs.Answer.{Answer, says}
 use Rattle.text.specs.Over.{roomFor}
-use Rattle.genotype.specs.Reading.{Reading, list, bad, empty}
+use Rattle.genotype.specs.Reading.{Reading, list, bad, empty, readingOf, listOf}
 use Rattle.genotype.specs.declared.read.Above.{Above}
 use Rattle.genotype.specs.declared.read.Above.the-variants as O
+
+-- the text reads as a list
+pub record ListMeant (t : List ℕ) : Type 0 where
+  pub is : readingOf t ≡ list (listOf (readingOf t))
 
 -- a text judged whole, whatever the room: so many alleles, 11, or 12 with the index of the first piece that is none
 unfoldable pub wholeAnswer : Reading → Answer

@@ -1,9 +1,11 @@
--- What a genotype text means, as a relation (docs/RULES.md, "Genotypes"). Assumes nothing.
-use Prim.Native.Nat.{ℕ}
+-- What a genotype text means, and where it means nothing, as relations (docs/RULES.md, "Genotypes"). Assumes nothing.
+use Prim.Native.Nat.{ℕ, _+_, _<_}
 use mathlib.Core.Path.{_≡_}
 use mathlib.Core.Bool.{Bool, true, false, _&&_}
 use mathlib.Core.List.{List, [], _∷_, _++_}
+use lib.ListN.{length}
 use Rattle.decimal.specs.Demands.{Decimal}
+use Rattle.pieces.specs.Demands.{Free}
 use Rattle.genotype.specs.declared.allele.Allele.{Allele}
 
 -- the mark of a phasing: `|` is phased, `/` unphased
@@ -30,3 +32,28 @@ allPhased (a ∷ as′) = a .phased && allPhased as′
 pub data Means : List ℕ → List Allele → Type 0 where
   marked : {b : ℕ} {t rest : List ℕ} {a : Allele} {as′ : List Allele} → b ≡ markByte (a .phased) → Body t a → Later rest as′ → Means (b ∷ t ++ rest) (a ∷ as′)
   bare : {t rest : List ℕ} {a : Allele} {as′ : List Allele} → a .phased ≡ allPhased as′ → Body t a → Later rest as′ → Means (t ++ rest) (a ∷ as′)
+
+-- ---- texts that mean none
+
+-- where a piece ends: at the text's end, or before a mark
+pub data Ends : List ℕ → Type 0 where
+  at-end : Ends []
+  at-mark : {b : ℕ} {rest : List ℕ} (phased : Bool) → b ≡ markByte phased → Ends (b ∷ rest)
+
+-- what is left of a piece is no allele
+pub record Bad (t rest : List ℕ) : Type 0 where
+  pub no-bar : Free 124 t
+  pub no-slash : Free 47 t
+  pub ends : Ends rest
+  pub no-body : (a : Allele) → Body t a → ⊥
+
+-- of pieces with their marks the one with index k is the first that is no allele
+pub data BrokenLater : List ℕ → ℕ → Type 0 where
+  bad-here : {b : ℕ} {t rest : List ℕ} (phased : Bool) → b ≡ markByte phased → Bad t rest → BrokenLater (b ∷ t ++ rest) 0
+  bad-later : {b : ℕ} {t rest : List ℕ} {a : Allele} {k : ℕ} → b ≡ markByte (a .phased) → Body t a → BrokenLater rest k → BrokenLater (b ∷ t ++ rest) (k + 1)
+
+-- and of any text: the first piece has its mark, or none
+pub data Broken : List ℕ → ℕ → Type 0 where
+  bad-marked : {t : List ℕ} {k : ℕ} → BrokenLater t k → Broken t k
+  bad-bare : {t rest : List ℕ} → 0 < length t → Bad t rest → Broken (t ++ rest) 0
+  bad-after : {t rest : List ℕ} {a : Allele} {k : ℕ} → Body t a → BrokenLater rest k → Broken (t ++ rest) (k + 1)

@@ -12,6 +12,7 @@ unfoldable pub stepPaper : Step → Answer
 stepPaper (S.Found a next) = says 0 (next ∷ a .number ∷ oneIf (a .missing) ∷ oneIf (a .phased) ∷ [])
 stepPaper S.Beyond = says 6 []
 stepPaper S.Nothing = says 10 []
+stepPaper S.Empty = says 11 []
 stepPaper S.Bad = says 12 []
 
 unfoldable pub readPaper : Read → Answer

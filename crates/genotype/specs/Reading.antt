@@ -10,7 +10,7 @@ use Rattle.text.specs.Pick.{pick, oneIf}
 use Rattle.text.specs.Answer.{Answer, says}
 use Rattle.text.specs.Same.{same}
 use Rattle.text.specs.Place.{placed}
-use Rattle.pieces.specs.Block.{beforeEither}
+use Rattle.pieces.specs.Before.{beforeEither}
 use Rattle.decimal.specs.Decimal.{valueOf}
 use Rattle.pieces.specs.Pieces.{lacks}
 use Rattle.genotype.specs.declared.allele.Allele.{Allele}
@@ -90,10 +90,6 @@ listOf (list as′) = as′
 listOf (bad k) = []
 listOf empty = []
 
--- the text reads as a list
-pub record ListMeant (t : List ℕ) : Type 0 where
-  pub is : readingOf t ≡ list (listOf (readingOf t))
-
 -- ---- one step
 
 -- the next place, and the allele; or 12
@@ -115,6 +111,13 @@ unfolding alleleAnswer
 firstAnswer at [] = says 10 []
 firstAnswer at (b ∷ s) = alleleAnswer (pastFirst at (b ∷ s)) (firstOf (b ∷ s))
 
--- 6 beyond the text, 10 at its end
+-- 11 where the text is empty, 10 at the end of any other
+unfoldable pub fromAnswer : List ℕ → ℕ → Answer
+unfolding firstAnswer
+fromAnswer [] at = says 11 []
+fromAnswer (b ∷ s) at = firstAnswer at (drop at (b ∷ s))
+
+-- 6 beyond the text
 unfoldable pub stepAnswer : List ℕ → ℕ → Answer
-stepAnswer t at = placed at t (firstAnswer at (drop at t))
+unfolding fromAnswer
+stepAnswer t at = placed at t (fromAnswer t at)

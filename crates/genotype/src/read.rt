@@ -7,12 +7,12 @@ ghost use mathlib.Core.Path.{_≡_};
 ghost use lib.ListN.{length};
 ghost use Rattle.text.specs.Over.{over};
 ghost use Rattle.text.specs.Pick.{oneIf};
-ghost use Rattle.lists.specs.AlternateBases.{altCount};
-ghost use Rattle.genotype.specs.Reading.{readingOf, ListMeant, listOf};
+ghost use Rattle.genotype.specs.Reading.{readingOf, listOf};
 ghost use Rattle.genotype.specs.Row.{numbersOf, missingOf, phasedOf};
-ghost use Rattle.genotype.specs.Answers.{readAnswer, checkedAnswer, firstAbove, ReadsText, ReadsChecked};
+ghost use Rattle.genotype.specs.Answers.{firstAbove, ReadsText, ReadsChecked};
+ghost use Rattle.genotype.specs.Promises.{Judges, JudgesChecked};
 ghost use Rattle.genotype.specs.Paper.{readPaper};
-ghost use Rattle.genotype.specs.Inner.{wholeAnswer, fitAnswer, Room, abovePaper};
+ghost use Rattle.genotype.specs.Inner.{ListMeant, wholeAnswer, fitAnswer, Room, abovePaper};
 
 // The answer of a reader.
 pub enum Read {
@@ -65,7 +65,7 @@ fn fitted(read: Read, room: usize) -> Read
 
 // What reading the text into a row of `room` records answers.
 pub fn judge(text: &[u8], room: usize) -> Read
-    ensures { λ r. ⌜ readPaper r ≡ readAnswer (readingOf (now (text .entry))) room ⌝ }
+    ensures { λ r. ⌜ Judges (now (text .entry)) room r ⌝ }
 {
     fitted(judge_whole(text), room)
 }
@@ -98,7 +98,7 @@ fn find_above(text: &[u8], count: u64) -> Above
 
 // What reading the text into a row of `room` records answers, where no allele may be above the count of an ALT column.
 pub fn judge_checked(text: &[u8], alt: &[u8], room: usize) -> Read
-    ensures { λ r. ⌜ readPaper r ≡ checkedAnswer (altCount (now (alt .entry))) (readingOf (now (text .entry))) room ⌝ }
+    ensures { λ r. ⌜ JudgesChecked (now (text .entry)) (now (alt .entry)) room r ⌝ }
 {
     let whole = judge_whole(text);
     let Read::Done(_) = whole else {

@@ -8,8 +8,9 @@ use text::same::same_bytes;
 ghost use mathlib.Core.Path.{_≡_};
 ghost use Prim.Native.Nat.{_+_, _≤_, _<_};
 ghost use lib.ListN.{length, drop};
-ghost use Rattle.genotype.specs.Reading.{headOf, impliedBy, bodied, stepAnswer, alleleAnswer};
+ghost use Rattle.genotype.specs.Reading.{headOf, impliedBy, bodied, alleleAnswer};
 ghost use Rattle.genotype.specs.Paper.{stepPaper};
+ghost use Rattle.genotype.specs.Promises.{TakesStep};
 
 // What a step from a place finds.
 pub enum Step {
@@ -19,6 +20,8 @@ pub enum Step {
     Beyond,
     // 10: the place is the text's end.
     Nothing,
+    // 11: the text is empty.
+    Empty,
     // 12: what stands there is no allele.
     Bad,
 }
@@ -83,10 +86,13 @@ fn read_body(body: &[u8], phased: bool, next: usize) -> Step
 
 // The allele that starts at the place `at`, as the first allele of the text from there on.
 pub fn step_at(text: &[u8], at: usize) -> Step
-    ensures { λ r. ⌜ stepPaper r ≡ stepAnswer (now (text .entry)) at ⌝ }
+    ensures { λ r. ⌜ TakesStep (now (text .entry)) at r ⌝ }
 {
     if at > text.len() {
         return Step::Beyond;
+    }
+    if text.len() == 0 {
+        return Step::Empty;
     }
     if at == text.len() {
         return Step::Nothing;

@@ -5,13 +5,13 @@ use mathlib.Core.List.{List, [], _∷_}
 use native.Mathlib.Omega.{arith}
 use lib.ListN.{length}
 use Rattle.text.specs.Answer.{says}
-use Rattle.text.proofs.ByteLaws.{none-empty}
 use Rattle.pieces.specs.Pieces.{pieces, countOf}
 use Rattle.pieces.proofs.CountLaws.{count-none, count-other}
-use Rattle.pieces.proofs.PieceLaws.{free-nil, free-cons, split-mark, split-whole, split-count, pieces-none, pieces-some}
-use Rattle.info.specs.Info.{alone, pairIn, pairOf, entryAnswer, placesOf, firstAnswer, stepAnswer, infoCount}
-use Rattle.info.specs.Demands.{spelled, Ends, now, later, Counts}
-use Rattle.info.proofs.EntryLaws.{byte-good, step-end, step-inside, step-last}
+use Rattle.pieces.proofs.PieceLaws.{split-count, pieces-none, pieces-some}
+use Rattle.info.specs.Info.{alone, placesOf, stepAnswer, infoCount}
+use Rattle.info.specs.Demands.{equals-first, spelled, Ends, now, later, Counts}
+use Rattle.info.proofs.EntryLaws.{byte-good, step-end, step-last}
+use Rattle.info.proofs.Steps.{shape-answer}
 
 pub counts : Counts infoCount
 unfolding infoCount
@@ -42,10 +42,7 @@ pub keyless-count : countOf 59 (61 ∷ 97 ∷ []) ≡ 0
 keyless-count = count-other 59 (97 ∷ []) (λ z. omega arith) ∙ count-other 59 [] (λ z. omega arith) ∙ count-none 59
 
 keyless-step : stepAnswer keyless-column 0 ≡ says 8 (1 ∷ [])
-unfolding firstAnswer pairOf pairIn entryAnswer
-keyless-step =
-    step-inside keyless-column 0 (omega arith)
-    ∙ rw (split-whole {b = 59} keyless-column (free-cons (λ z. omega arith) (free-cons (λ z. omega arith) free-nil)), split-mark 61 (97 ∷ []), split-whole {b = 61} (97 ∷ []) (free-cons (λ z. omega arith) free-nil), none-empty [] refl)
+keyless-step = shape-answer (equals-first refl)
 
 key-step : stepAnswer keyless-column 1 ≡ says 0 (2 ∷ placesOf 1 (alone (97 ∷ [])))
 unfolding spelled

@@ -1,18 +1,13 @@
 -- An entry is spelled as it was cut, and cut as it is spelled; so what stands at a place tells the step's answer, by cases of the definition. Assumes nothing.
-use Prim.Native.Nat.{ℕ, _+_, _<_, _≤_}
+use Prim.Native.Nat.{ℕ, _+_, _<_}
 use mathlib.Core.Path.{_≡_, refl, sym, ap, _∙_}
-use mathlib.Core.Bool.{Bool, true, false}
 use mathlib.Core.List.{List, [], _∷_, _++_, append-nil, append-assoc}
 use native.Mathlib.Omega.{arith}
 use native.Mathlib.Nat.{add-assoc}
 use lib.ListN.{length, take, drop, length-append, length-drop}
 use lib.Seq.{take-append-seam, drop-append-add, drop-drop}
-use lib.Dec.{ltb, eqb}
-use borrow.Author.Tests.{ltb-true, ltb-false, eqb-true, eqb-false}
-use Rattle.text.specs.Pick.{pick}
-use Rattle.text.specs.Answer.{Answer, says}
-use Rattle.text.proofs.ByteLaws.{none-empty, some-empty}
-use Rattle.text.specs.Bytes.{isEmpty}
+use Rattle.text.specs.Answer.{says}
+use Rattle.text.proofs.ByteLaws.{some-empty}
 use Rattle.text.proofs.PlaceLaws.{place-beyond, place-end, place-inside}
 use Rattle.pieces.specs.Pieces.{split, joined}
 use Rattle.pieces.specs.Demands.{Free}
@@ -61,30 +56,39 @@ key-free e = by (split 61 e) refl
     by (k ∷ []) q = first-free 61 e q
     by (k ∷ v ∷ vs) q = first-free 61 e q
 
--- a text free of `;` whose key is not empty is a good entry
-pub pair-good : (e : List ℕ) → Free 59 e → 0 < length (keyOf (pairOf e)) → Good (pairOf e)
+-- an entry as it is cut from a text free of `;`: its key may be empty
+pub record Parted (p : Pair) : Type 0 where
+  pub no-equals : Free 61 (keyOf p)
+  pub no-semicolon : Free 59 (spelled p)
+
+pub pair-parted : (e : List ℕ) → Free 59 e → Parted (pairOf e)
+pair-parted e f = record { no-equals = key-free e; no-semicolon = rw (spelled-pair e) f }
+
+-- where it is not, the entry is good
+pub parted-good : (p : Pair) → Parted p → 0 < length (keyOf p) → Good p
 unfolding spelled valueFree
-pair-good e f n = by (pairOf e) (rw (spelled-pair e) f) (key-free e) n
-  where
-    by : (p : Pair) → Free 59 (spelled p) → Free 61 (keyOf p) → 0 < length (keyOf p) → Good p
-    by (alone k) s q n = record { some = n; no-equals = q; no-semicolon = s; value = tt }
-    by (paired k v) s q n = record { some = n; no-equals = q; no-semicolon = free-left k _ s; value = free-tail (free-right k _ s) }
+parted-good (alone k) c n = record { key = record { some = n; no-equals = c .no-equals; no-semicolon = c .no-semicolon }; value = tt }
+parted-good (paired k v) c n =
+    record {
+      key = record { some = n; no-equals = c .no-equals; no-semicolon = free-left k _ (c .no-semicolon) };
+      value = free-tail (free-right k _ (c .no-semicolon));
+    }
 
 -- and the text of a good entry is free of `;`
 pub spelled-free : (p : Pair) → Good p → Free 59 (spelled p)
 unfolding spelled valueFree
-spelled-free (alone k) g = g .no-semicolon
-spelled-free (paired k v) g = free-append k (g .no-semicolon) (free-cons (λ z. omega arith) (g .value))
+spelled-free (alone k) g = g .key .no-semicolon
+spelled-free (paired k v) g = free-append k (g .key .no-semicolon) (free-cons (λ z. omega arith) (g .value))
 
 pub spelled-some : (p : Pair) → Good p → 0 < length (spelled p)
 unfolding spelled
-spelled-some (alone k) g = g .some
-spelled-some (paired k v) g = let n = g .some in simp length-append (omega arith)
+spelled-some (alone k) g = g .key .some
+spelled-some (paired k v) g = let n = g .key .some in simp length-append (omega arith)
 
 -- a byte that is neither `=` nor `;` is a good entry
 pub byte-good : (b : ℕ) → (b ≡ 61 → ⊥) → (b ≡ 59 → ⊥) → Good (alone (b ∷ []))
 unfolding valueFree
-byte-good b e s = record { some = omega arith; no-equals = free-cons e free-nil; no-semicolon = free-cons s free-nil; value = tt }
+byte-good b e s = record { key = record { some = omega arith; no-equals = free-cons e free-nil; no-semicolon = free-cons s free-nil }; value = tt }
 
 -- ---- an entry that stands at a place, before a rest
 
@@ -158,7 +162,7 @@ module _ (t : List ℕ) (at : ℕ) (p : Pair) (g : Good p) where
       let l = stands-length t at [] p g e in
       let m : at + length (spelled p) ≡ length t = omega arith in
       step-inside t at (omega arith)
-      ∙ rw (e, append-nil, split-whole (spelled p) (spelled-free p g), first-last, pair-spelled p (g .no-equals), m) (kept at p (length t) (g .some))
+      ∙ rw (e, append-nil, split-whole (spelled p) (spelled-free p g), first-last, pair-spelled p (g .key .no-equals), m) (kept at p (length t) (g .key .some))
 
   -- one that a `;` ends, before a text
   pub step-more : (s : List ℕ) → 0 < length s → drop at t ≡ spelled p ++ 59 ∷ s
@@ -167,62 +171,4 @@ module _ (t : List ℕ) (at : ℕ) (p : Pair) (g : Good p) where
       let n = spelled-some p g in
       let l = stands-length t at (59 ∷ s) p g e in
       step-inside t at (omega arith)
-      ∙ rw (e, split-append (spelled p) s (spelled-free p g), first-ended, pair-spelled p (g .no-equals), ended-some at p _ s h) (kept at p _ (g .some))
-
--- ---- what stands at a place
-
--- and the answer of the step there
-pub data Stands (t : List ℕ) (at : ℕ) : Answer → Type 0 where
-  outside : length t < at → Stands t at (says 6 (at ∷ []))
-  nothing-left : at ≡ length t → Stands t at (says 10 (at ∷ []))
-  last-entry : (p : Pair) → Good p → drop at t ≡ spelled p ++ [] → Stands t at (says 0 (length t ∷ placesOf at p))
-  one-entry : (p : Pair) → Good p → (s : List ℕ) → 0 < length s → drop at t ≡ spelled p ++ 59 ∷ s
-      → Stands t at (says 0 ((at + length (spelled p) + 1) ∷ placesOf at p))
-  last-key : at < length t → Stands t at (says 7 (length t ∷ []))
-  keyless : at < length t → Stands t at (says 8 ((at + 1) ∷ []))
-  last-value : at < length t → Stands t at (says 9 (length t ∷ []))
-
-pub step-stands : (t : List ℕ) (at : ℕ) → Stands t at (stepAnswer t at)
-unfolding firstAnswer entryAnswer endedAnswer danglingAnswer
-step-stands t at = placed (ltb (length t) at) refl
-  where
-    keyed : (k : List ℕ) {x y : Answer} → Stands t at x → (0 < length k → Stands t at y) → Stands t at (pick (isEmpty k) x y)
-    keyed [] x y = rw (none-empty [] refl) x
-    keyed (b ∷ k) x y = rw (some-empty (b ∷ k) (omega arith)) (y (omega arith))
-
-    dangling : at < length t → (p : Pair) → Stands t at (danglingAnswer at p (length t))
-    dangling h (alone k) = last-key h
-    dangling h (paired k v) = keyed k (keyless h) (λ n. last-value h)
-
-    named : {e : List ℕ} (p : Pair) → Good p → spelled p ≡ e → (s : List ℕ) → 0 < length s → drop at t ≡ e ++ 59 ∷ s
-        → Stands t at (says 0 ((at + length e + 1) ∷ placesOf at p))
-    named p g q s h d = rw (← q) (one-entry p g s h (rw q d))
-
-    followed : at < length t → (e : List ℕ) → Free 59 e → (s : List ℕ) → drop at t ≡ e ++ 59 ∷ s → Stands t at (endedAnswer at (pairOf e) (at + length e + 1) s)
-    followed h e f [] q =
-        let l = length-drop at t in
-        let m : at + length e + 1 ≡ length t = omega (arith, simp length-append at (ap length q)) in
-        rw m (dangling h (pairOf e))
-    followed h e f (b ∷ s) q =
-        keyed (keyOf (pairOf e)) (keyless h)
-        (λ n. named (pairOf e) (pair-good e f n) (spelled-pair e) (b ∷ s) (omega arith) q)
-
-    cut : at < length t → (ps : List (List ℕ)) → split 59 (drop at t) ≡ ps → Stands t at (firstAnswer at ps)
-    cut h [] q = absurd (split-nil 59 _ q)
-    cut h (e ∷ []) q =
-        let l = length-drop at t in
-        let m : at + length e ≡ length t = omega (arith, ap length (one-text 59 q)) in
-        keyed (keyOf (pairOf e)) (keyless h)
-        (λ n. rw m (last-entry (pairOf e) (pair-good e (first-free 59 _ q) n) (rw (spelled-pair e, append-nil) (one-text 59 q))))
-    cut h (e ∷ f ∷ fs) q = followed h e (first-free 59 _ q) (joined 59 (f ∷ fs)) (more-text 59 _ q)
-
-    inside : at ≤ length t → (c : Bool) → eqb at (length t) ≡ c → Stands t at (stepAnswer t at)
-    inside h true e = let l = eqb-true at (length t) e in rw (step-end t at l) (nothing-left l)
-    inside h false e =
-        let l = eqb-false at (length t) e in
-        let m : at < length t = omega arith in
-        rw (step-inside t at m) (cut m (split 59 (drop at t)) refl)
-
-    placed : (c : Bool) → ltb (length t) at ≡ c → Stands t at (stepAnswer t at)
-    placed true h = let l = ltb-true _ _ h in rw (step-beyond t at l) (outside l)
-    placed false h = inside (ltb-false _ _ h) (eqb at (length t)) refl
+      ∙ rw (e, split-append (spelled p) s (spelled-free p g), first-ended, pair-spelled p (g .key .no-equals), ended-some at p _ s h) (kept at p _ (g .key .some))

@@ -14,7 +14,8 @@ use Rattle.pieces.proofs.PieceLaws.{split-nil, split-whole, split-append, piece
 use Rattle.info.specs.Info.{Pair, alone, paired, keyOf, placesOf, firstAnswer, stepAnswer}
 use Rattle.info.specs.Find.{settles, findIn, findAnswer}
 use Rattle.info.specs.Demands.{Stepper, spelled, Good, Leads, found, refused, none, other, First}
-use Rattle.info.proofs.EntryLaws.{pair-spelled, spelled-free, key-taken, stands-length, after-entry, step-end, step-inside, Stands, outside, nothing-left, last-entry, one-entry, last-key, keyless, last-value, step-stands}
+use Rattle.info.proofs.EntryLaws.{pair-spelled, spelled-free, key-taken, stands-length, after-entry, step-end, step-inside}
+use Rattle.info.proofs.Steps.{Stands, outside, nothing-left, last-entry, one-entry, last-key, keyless, last-value, step-stands}
 
 -- ---- only one answer
 
@@ -66,7 +67,7 @@ module _ (t key : List ℕ) where
       → (b : Answer) → Leads stepAnswer t key next b
       → Leads stepAnswer t key at (pick (settles key (spelled p) (says 0 (next ∷ placesOf at p))) (says 0 (next ∷ placesOf at p)) b)
   unfolding settles
-  entry-leads at next p r g d e b w = rw (pair-spelled p (g .no-equals)) (by (same (keyOf p) key) refl)
+  entry-leads at next p r g d e b w = rw (pair-spelled p (g .key .no-equals)) (by (same (keyOf p) key) refl)
     where
       by : (c : Bool) → same (keyOf p) key ≡ c → Leads stepAnswer t key at (pick c (says 0 (next ∷ placesOf at p)) b)
       by true q = leads-found stepAnswer t key at r p d e (same-is (keyOf p) key q)

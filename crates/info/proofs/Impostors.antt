@@ -1,15 +1,18 @@
 -- Steppers and counts that the demands refuse, each on one small column. Assumes nothing.
 use Prim.Native.Nat.{ℕ, zero, suc, _+_, _<_, _≤_}
-use mathlib.Core.Path.{_≡_, refl, _∙_}
+use mathlib.Core.Path.{_≡_, refl, sym, ap, _∙_}
 use mathlib.Core.List.{List, [], _∷_}
 use native.Mathlib.Omega.{arith}
 use lib.ListN.{length, getD, take, drop}
 use Rattle.text.specs.Answer.{Answer, says, numberOf}
-use Rattle.pieces.proofs.PieceLaws.{joined-one, joined-more}
+use Rattle.pieces.specs.Demands.{Free}
+use Rattle.pieces.proofs.PieceLaws.{free-nil, free-cons, joined-one, joined-more}
 use Rattle.info.specs.Info.{Pair, alone, placesOf, stepAnswer}
-use Rattle.info.specs.Demands.{Stepper, spelled, Good, WellFormed, Scan, end, bare, full, Scans, Moved, MovesOn, Counts}
+use Rattle.info.specs.Demands.{Stepper, StepAt, value-more, key-dangles, Steps, spelled, Good, WellFormed, Scan, end, bare, full, Scans, Moved, MovesOn, Counts}
 use Rattle.info.proofs.EntryLaws.{byte-good, step-last}
+use Rattle.info.proofs.Steps.{shape-answer}
 use Rattle.info.proofs.Counts.{keyless-count}
+use Rattle.info.proofs.Scans.{scans}
 use Rattle.info.proofs.MovesOn.{Turn, stop, go, turn}
 
 -- ---- two columns
@@ -144,3 +147,49 @@ invented-next-scan step invents outside scans =
         let o = outside t at h in
         let z : _≡_ {A = ℕ} 6 10 = cc in
         omega arith
+
+-- ---- another number than the shape's
+
+unlike : (step : Stepper) → Steps step → {t : List ℕ} {at : ℕ} {a : Answer} → StepAt t at a → {n : ℕ} → numberOf (step t at) ≡ n → (n ≡ numberOf a → ⊥) → ⊥
+unfolding Steps
+unlike step s {t} {at} {a} shape e other = other (sym e ∙ ap numberOf (s t at a .1 shape))
+
+-- `DP=9;Q;`: an entry, and then a key whose `;` is the last byte
+abbrev dangling : List ℕ
+dangling = 68 ∷ 80 ∷ 61 ∷ 57 ∷ 59 ∷ 81 ∷ 59 ∷ []
+
+dangling-entry : StepAt dangling 0 (says 0 (5 ∷ 0 ∷ 2 ∷ 3 ∷ 1 ∷ []))
+dangling-entry = value-more {k = 68 ∷ 80 ∷ []} {v = 57 ∷ []} (record { some = omega arith; no-equals = two 61 (λ z. omega arith) (λ z. omega arith); no-semicolon = two 59 (λ z. omega arith) (λ z. omega arith) }) (free-cons (λ z. omega arith) free-nil) 81 (59 ∷ []) refl
+  where
+    two : (b : ℕ) → (68 ≡ b → ⊥) → (80 ≡ b → ⊥) → Free b (68 ∷ 80 ∷ [])
+    two b d p = free-cons d (free-cons p free-nil)
+
+dangling-key : StepAt dangling 5 (says 7 (7 ∷ []))
+dangling-key = key-dangles {k = 81 ∷ []} (free-cons (λ z. omega arith) free-nil) (free-cons (λ z. omega arith) free-nil) refl
+
+-- it is not well formed
+dangling-formed : (es : List Pair) → WellFormed dangling es → ⊥
+unfolding Scans
+dangling-formed es w = by (shape-answer dangling-entry) (scans dangling es .0 w)
+  where
+    refused : {at : ℕ} {es : List Pair} → stepAnswer dangling at ≡ says 7 (7 ∷ []) → Scan stepAnswer dangling at es → ⊥
+    refused e (end s) = let z : _≡_ {A = ℕ} 7 10 = cc in omega arith
+    refused e (bare s w) = let z : _≡_ {A = ℕ} 7 0 = cc in omega arith
+    refused e (full s w) = let z : _≡_ {A = ℕ} 7 0 = cc in omega arith
+
+    by : {at : ℕ} {es : List Pair} → stepAnswer dangling at ≡ says 0 (5 ∷ 0 ∷ 2 ∷ 3 ∷ 1 ∷ []) → Scan stepAnswer dangling at es → ⊥
+    by e (end s) = let z : _≡_ {A = ℕ} 0 10 = cc in omega arith
+    by e (bare s w) = let z : _≡_ {A = ℕ} 0 1 = cc in omega arith
+    by e (full {next = n} s w) = let z : n ≡ 5 = cc in refused (rw z (shape-answer dangling-key)) w
+
+-- a stepper that loses its entry
+pub loses-entry : (step : Stepper) → numberOf (step (68 ∷ 80 ∷ 61 ∷ 57 ∷ 59 ∷ 81 ∷ 59 ∷ []) 0) ≡ 8 → Steps step → ⊥
+loses-entry step e s = unlike step s dangling-entry e (λ z. omega arith)
+
+-- such is one that answers 8 at every place of a column that is not well formed
+pub refuses-unformed : (step : Stepper) → ((t : List ℕ) → ((es : List Pair) → WellFormed t es → ⊥) → (at : ℕ) → at < length t → numberOf (step t at) ≡ 8) → Steps step → ⊥
+refuses-unformed step refuses = loses-entry step (refuses dangling dangling-formed 0 (omega arith))
+
+-- one that judges 8 before 7, at the column `;`
+pub eight-first : (step : Stepper) → numberOf (step (59 ∷ []) 0) ≡ 8 → Steps step → ⊥
+eight-first step e s = unlike step s (key-dangles {k = []} free-nil free-nil refl) e (λ z. omega arith)

@@ -1,11 +1,13 @@
 pub mod PaperLaws
 pub mod EntryLaws
+pub mod Steps
 pub mod InfoLaws
 pub mod TellLaws
 pub mod MovesOn
 pub mod ToldLaws
 pub mod Scans
 pub mod First
+pub mod Suffices
 pub mod FindLaws
 pub mod ValueLaws
 pub mod Counts

@@ -7,7 +7,8 @@ use lib.ListN.{length}
 use Rattle.text.specs.Answer.{Answer, says}
 use Rattle.info.specs.Info.{stepAnswer}
 use Rattle.info.specs.Demands.{Stepper, spelled, GoesOn, entry, beyond, after-key, no-key, after-value, ended, Moved, MovesOn, now, later, Finished, Finishes}
-use Rattle.info.proofs.EntryLaws.{spelled-some, stands-length, Stands, outside, nothing-left, last-entry, one-entry, last-key, keyless, last-value, step-stands}
+use Rattle.info.proofs.EntryLaws.{spelled-some, stands-length}
+use Rattle.info.proofs.Steps.{Stands, outside, nothing-left, last-entry, one-entry, last-key, keyless, last-value, step-stands}
 
 goes-on : {t : List ℕ} {at n next : ℕ} {places : List ℕ} → GoesOn t at n next → Moved t at (says n (next ∷ places))
 goes-on g = record { next = _; places = _; values = refl; goes = g }

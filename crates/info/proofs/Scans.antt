@@ -11,25 +11,8 @@ use Rattle.pieces.specs.Pieces.{joined}
 use Rattle.pieces.proofs.PieceLaws.{joined-none, joined-one, joined-more}
 use Rattle.info.specs.Info.{Pair, alone, paired, placesOf, stepAnswer}
 use Rattle.info.specs.Demands.{Stepper, spelled, Good, WellFormed, Scan, end, bare, full, Scans}
-use Rattle.info.proofs.EntryLaws.{
-  spelled-some,
-  key-taken,
-  value-taken,
-  stands-length,
-  after-entry,
-  step-end,
-  step-last,
-  step-more,
-  Stands,
-  outside,
-  nothing-left,
-  last-entry,
-  one-entry,
-  last-key,
-  keyless,
-  last-value,
-  step-stands,
-}
+use Rattle.info.proofs.EntryLaws.{spelled-some, key-taken, value-taken, stands-length, after-entry, step-end, step-last, step-more}
+use Rattle.info.proofs.Steps.{Stands, outside, nothing-left, last-entry, one-entry, last-key, keyless, last-value, step-stands}
 
 -- ---- well formed columns
 

@@ -14,7 +14,8 @@ use Rattle.info.specs.declared.step.Entry.{Entry}
 use Rattle.info.specs.declared.step.Step.{Step}
 use Rattle.info.specs.declared.step.Step.the-variants as S
 use Rattle.info.proofs.PaperLaws.{step-paper-injective}
-use Rattle.info.proofs.EntryLaws.{spelled-some, stands-length, Stands, outside, nothing-left, last-entry, one-entry, last-key, keyless, last-value, step-stands}
+use Rattle.info.proofs.EntryLaws.{spelled-some, stands-length}
+use Rattle.info.proofs.Steps.{Stands, outside, nothing-left, last-entry, one-entry, last-key, keyless, last-value, step-stands}
 
 -- ---- what an answer can tell
 
@@ -99,11 +100,11 @@ info-tells t at x e = by (step-stands t at) e
     by (last-entry p g d) e =
         let n = spelled-some p g in
         let l = stands-length t at [] p g d in
-        is (S.Found (entryAt at p) (length t)) (e ∙ found-paper at p (length t)) (found-tells t at p (length t) (g .some) (omega arith) (omega arith) (omega arith))
+        is (S.Found (entryAt at p) (length t)) (e ∙ found-paper at p (length t)) (found-tells t at p (length t) (g .key .some) (omega arith) (omega arith) (omega arith))
     by (one-entry p g s h d) e =
         let next : ℕ = at + length (spelled p) + 1 in
         let l = stands-length t at (59 ∷ s) p g d in
-        is (S.Found (entryAt at p) next) (e ∙ found-paper at p next) (found-tells t at p next (g .some) (omega arith) (omega arith) (omega arith))
+        is (S.Found (entryAt at p) next) (e ∙ found-paper at p next) (found-tells t at p next (g .key .some) (omega arith) (omega arith) (omega arith))
     by (last-key h) e = is (S.AfterKey (length t)) e (record { inside = h; past = refl })
     by (keyless h) e = is (S.NoKey (at + 1)) e (record { inside = h; past = refl })
     by (last-value h) e = is (S.AfterValue (length t)) e (record { inside = h; past = refl })

@@ -9,10 +9,50 @@ use Rattle.text.specs.Answer.{Answer, says, numberOf, valuesOf}
 use Rattle.pieces.specs.Pieces.{joined, countOf}
 use Rattle.pieces.specs.Demands.{Free}
 use Rattle.info.specs.Info.{Pair, alone, paired, keyOf}
+use Rattle.info.specs.Find.{findAnswer}
 
 -- a stepper is given a column and a place, and answers on paper
 abbrev pub Stepper : Type 0
 Stepper = List ℕ → ℕ → Answer
+
+-- a finder is given a column and a key
+abbrev pub Finder : Type 0
+Finder = List ℕ → List ℕ → Answer
+
+-- ---- a step, by the shape of what is left
+
+-- a key: not empty, no `=` and no `;`
+pub record Key (k : List ℕ) : Type 0 where
+  pub some : 0 < length k
+  pub no-equals : Free 61 k
+  pub no-semicolon : Free 59 k
+
+-- what a step from a place answers, by what is left from there on (61 is `=`, 59 is `;`): the number, the next place, and the places of an entry
+-- 6: the place lies beyond the column; 10: it is the end
+-- 0: a key, or a key, `=` and a value, before the column's end or before `;` and more
+-- 7 after a key, 9 after a value: that `;` is the last byte; 7 is judged before 8, so there the key may be empty
+-- 8: an empty key, before `=` or before `;` and more
+pub data StepAt (t : List ℕ) (at : ℕ) : Answer → Type 0 where
+  past-end : length t < at → StepAt t at (says 6 (at ∷ []))
+  at-end : at ≡ length t → StepAt t at (says 10 (at ∷ []))
+  key-last : {k : List ℕ} → Key k → drop at t ≡ k → StepAt t at (says 0 (length t ∷ at ∷ length k ∷ []))
+  key-more : {k : List ℕ} → Key k → (b : ℕ) (rest : List ℕ) → drop at t ≡ k ++ 59 ∷ b ∷ rest → StepAt t at (says 0 ((at + length k + 1) ∷ at ∷ length k ∷ []))
+  value-last : {k v : List ℕ} → Key k → Free 59 v → drop at t ≡ k ++ 61 ∷ v
+      → StepAt t at (says 0 (length t ∷ at ∷ length k ∷ (at + length k + 1) ∷ length v ∷ []))
+  value-more : {k v : List ℕ} → Key k → Free 59 v → (b : ℕ) (rest : List ℕ) → drop at t ≡ k ++ 61 ∷ v ++ 59 ∷ b ∷ rest
+      → StepAt t at (says 0 ((at + length k + 1 + length v + 1) ∷ at ∷ length k ∷ (at + length k + 1) ∷ length v ∷ []))
+  key-dangles : {k : List ℕ} → Free 61 k → Free 59 k → drop at t ≡ k ++ 59 ∷ [] → StepAt t at (says 7 (length t ∷ []))
+  value-dangles : {k v : List ℕ} → Key k → Free 59 v → drop at t ≡ k ++ 61 ∷ v ++ 59 ∷ [] → StepAt t at (says 9 (length t ∷ []))
+  equals-first : {rest : List ℕ} → drop at t ≡ 61 ∷ rest → StepAt t at (says 8 ((at + 1) ∷ []))
+  semicolon-first : {b : ℕ} {rest : List ℕ} → drop at t ≡ 59 ∷ b ∷ rest → StepAt t at (says 8 ((at + 1) ∷ []))
+
+-- a stepper answers so, and only so
+unfoldable pub Steps : Stepper → Type 0
+Steps step = (t : List ℕ) (at : ℕ) (a : Answer) → (step t at ≡ a) ↔ StepAt t at a
+
+-- two steppers that meet it give one answer, with all its values, from every place of every column
+unfoldable pub OneStepper : Type 0
+OneStepper = (step other : Stepper) → Steps step → Steps other → (t : List ℕ) (at : ℕ) → step t at ≡ other t at
 
 -- ---- the scan is tied to the text
 
@@ -24,11 +64,9 @@ unfoldable pub valueFree : Pair → Type 0
 valueFree (alone k) = Unit {0}
 valueFree (paired k v) = Free 59 v
 
--- its key is not empty and holds no `=` and no `;`; its value, if it has one, holds no `;`
+-- its key is one, and its value, if it has one, holds no `;`
 pub record Good (p : Pair) : Type 0 where
-  pub some : 0 < length (keyOf p)
-  pub no-equals : Free 61 (keyOf p)
-  pub no-semicolon : Free 59 (keyOf p)
+  pub key : Key (keyOf p)
   pub value : valueFree p
 
 -- the entries, spelled and joined by `;`, are the column
@@ -93,9 +131,26 @@ pub data Leads (step : Stepper) (t key : List ℕ) : ℕ → Answer → Type 0 w
       → Leads step t key at a
 
 -- a finder's answer is that one, and there is no other
-pub record First (step : Stepper) (find : List ℕ → List ℕ → Answer) : Type 0 where
+pub record First (step : Stepper) (find : Finder) : Type 0 where
   pub is : (t key : List ℕ) → Leads step t key 0 (find t key)
   pub only : (t key : List ℕ) (a : Answer) → Leads step t key 0 a → a ≡ find t key
+
+-- ---- what follows from the steps alone
+
+-- the statements above, of a stepper and of our finder
+pub record Follows (step : Stepper) : Type 0 where
+  pub scans : Scans step
+  pub moves-on : MovesOn step
+  pub finishes : Finishes step
+  pub first : First step findAnswer
+
+-- any stepper that meets `Steps` meets them
+unfoldable pub StepsSuffice : Type 0
+StepsSuffice = (step : Stepper) → Steps step → Follows step
+
+-- and two finders of the first entry, each over a stepper that meets `Steps`, give one answer for every column and key
+unfoldable pub OneFinder : Type 0
+OneFinder = (step other : Stepper) → Steps step → Steps other → (find seek : Finder) → First step find → First other seek → (t key : List ℕ) → find t key ≡ seek t key
 
 -- ---- the count
 

@@ -3,14 +3,12 @@ use crate::step::Step;
 use crate::step::Value;
 use crate::step::step_at;
 use text::same::same_bytes;
-ghost use mathlib.Core.Path.{_≡_};
-ghost use Rattle.info.specs.Find.{findAnswer};
-ghost use Rattle.info.specs.Paper.{stepPaper};
 ghost use Rattle.info.specs.Value.{Shows};
+ghost use Rattle.info.specs.Promises.{FindsEntry};
 
 // The first entry whose key is equal, or the first refusal before it, or 10 with the column's length.
 pub fn find(column: &[u8], key: &[u8]) -> Step
-    ensures { λ r. ⌜ stepPaper r ≡ findAnswer (now (column .entry)) (now (key .entry)) ⌝ }
+    ensures { λ r. ⌜ FindsEntry (now (column .entry)) (now (key .entry)) r ⌝ }
 {
     let mut at = 0;
     loop {

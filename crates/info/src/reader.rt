@@ -2,9 +2,7 @@
 // together; the work is done by `step_at`. Callers with a plain column use `step_from`.
 use crate::step::Step;
 use crate::step::step_at;
-ghost use mathlib.Core.Path.{_≡_};
-ghost use Rattle.info.specs.Info.{stepAnswer};
-ghost use Rattle.info.specs.Paper.{stepPaper};
+ghost use Rattle.info.specs.Promises.{TakesStep, Opens, Moves, TakesNext};
 
 pub struct Reader<'a> {
     pub(crate) column: &'a [u8],
@@ -13,14 +11,14 @@ pub struct Reader<'a> {
 
 // A reader at the start of a column.
 pub fn open<'a>(column: &'a [u8]) -> Reader<'a>
-    ensures { λ r. ⌜ (r .column ≡ column .entry) × (r .at ≡ 0) ⌝ }
+    ensures { λ r. ⌜ Opens (column .entry) r ⌝ }
 {
     Reader { column, at: 0 }
 }
 
 // The same column, at the place `at`.
 pub fn moved<'a>(reader: Reader<'a>, at: usize) -> Reader<'a>
-    ensures { λ r. ⌜ (r .column ≡ reader .entry .column) × (r .at ≡ at) ⌝ }
+    ensures { λ r. ⌜ Moves (reader .entry) at r ⌝ }
 {
     Reader {
         column: reader.column,
@@ -30,14 +28,14 @@ pub fn moved<'a>(reader: Reader<'a>, at: usize) -> Reader<'a>
 
 // The entry at the reader's place.
 pub fn next<'a>(reader: Reader<'a>) -> Step
-    ensures { λ r. ⌜ stepPaper r ≡ stepAnswer (now (reader .entry .column)) (reader .entry .at) ⌝ }
+    ensures { λ r. ⌜ TakesNext (reader .entry) r ⌝ }
 {
     step_at(reader.column, reader.at)
 }
 
 // The entry at a place of a column, by a reader made for it.
 pub fn step_from(column: &[u8], at: usize) -> Step
-    ensures { λ r. ⌜ stepPaper r ≡ stepAnswer (now (column .entry)) at ⌝ }
+    ensures { λ r. ⌜ TakesStep (now (column .entry)) at r ⌝ }
 {
     next(moved(open(column), at))
 }

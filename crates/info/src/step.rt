@@ -6,9 +6,10 @@ ghost use mathlib.Core.Path.{_≡_};
 ghost use Prim.Native.Nat.{_≤_, _+_};
 ghost use lib.ListN.{length};
 ghost use Rattle.text.specs.Range.{cut};
-ghost use Rattle.info.specs.Info.{placesOf, pairOf, stepAnswer};
+ghost use Rattle.info.specs.Info.{placesOf, pairOf};
 ghost use Rattle.info.specs.Paper.{entryPlaces, stepPaper};
 ghost use Rattle.info.specs.Told.{Tells};
+ghost use Rattle.info.specs.Promises.{TakesStep};
 ghost use Rattle.info.specs.Inner.{keptAnswer, droppedAnswer};
 
 // An entry's value, which stands after its first `=`.
@@ -111,7 +112,7 @@ fn dropped(entry: Entry, end: usize) -> Step
 
 // The entry that starts at the place `at`.
 pub fn step_at(column: &[u8], at: usize) -> Step
-    ensures { λ r. ⌜ stepPaper r ≡ stepAnswer (now (column .entry)) at ⌝ }
+    ensures { λ r. ⌜ TakesStep (now (column .entry)) at r ⌝ }
 {
     if at == column.len() {
         return Step::Nothing(at);

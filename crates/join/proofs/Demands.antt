@@ -18,21 +18,25 @@ use Rattle.pieces.proofs.CountLaws.{lacks-free, free-lacks}
 use Rattle.pieces.proofs.PieceLaws.{joined-one, joined-more}
 use Rattle.line.specs.Line.{feed, endingBytes, readAnswer}
 use Rattle.line.specs.Demands.{Column, Ended, by-feed, Stands}
-use Rattle.line.proofs.ColumnLaws.{return-tab, feed-bytes, or-none, required-count, count-required}
-use Rattle.line.proofs.Exact.{begins-read}
+use Rattle.line.proofs.ColumnLaws.{return-tab, feed-bytes, utf8-each, utf8-all, or-none, required-count, count-required}
+use Rattle.line.proofs.ShapeLaws.{begins-read}
 use Rattle.join.specs.Join.{isBad, columnJudged, columnsJudged, lineText}
 use Rattle.join.specs.Demands.{Taken, Forth, Back}
 use Rattle.join.proofs.JoinLaws.{isLast, judged-cons}
 
 -- ---- one column
 
+record Fine (c : List ℕ) : Type 0 where
+  column : Column c
+  utf8 : isUtf8 c ≡ true
+
 module _ (c : List ℕ) where
-  bad-column : isBad c ≡ false → isUtf8 c ≡ true → Column c
+  bad-column : isBad c ≡ false → Column c
   unfolding isBad
-  bad-column h u =
+  bad-column h =
       let p = or-none (isEmpty c) _ h in
       let q = or-none (not (lacks 9 c)) _ (p .1) in
-      record { some = empty-some c (p .0); utf8 = u; no-tab = lacks-free c (not-false _ (q .0)); no-feed = lacks-free c (not-false _ (q .1)) }
+      record { some = empty-some c (p .0); no-tab = lacks-free c (not-false _ (q .0)); no-feed = lacks-free c (not-false _ (q .1)) }
 
   column-bad : Column c → isBad c ≡ false
   unfolding isBad
@@ -42,7 +46,7 @@ module _ (c : List ℕ) where
 
 -- of the first column, and of the others
 record First (i : ℕ) (c : List ℕ) (cs : List (List ℕ)) : Type 0 where
-  column : Column c
+  column : Fine c
   last : (isLast cs && endsIn 13 c) ≡ false
   rest : columnsJudged (i + 1) cs ≡ fine
 
@@ -52,15 +56,15 @@ first-fine i c cs h = by (isBad c || (isLast cs && endsIn 13 c)) (isUtf8 c) refl
   where
     by : (b u : Bool) → (isBad c || (isLast cs && endsIn 13 c)) ≡ b → isUtf8 c ≡ u → pick b (refused 18 i) (pick u (columnsJudged (i + 1) cs) (refused 5 i)) ≡ fine → First i c cs
     by true u e f h = absurd (let z : _≡_ {A = ℕ} 0 1 = cc in omega arith)
-    by false true e f h = let p = or-none (isBad c) _ e in record { column = bad-column c (p .0) f; last = p .1; rest = h }
+    by false true e f h = let p = or-none (isBad c) _ e in record { column = record { column = bad-column c (p .0); utf8 = f }; last = p .1; rest = h }
     by false false e f h = absurd (let z : _≡_ {A = ℕ} 0 1 = cc in omega arith)
 
 fine-first : (i : ℕ) (c : List ℕ) (cs : List (List ℕ)) → First i c cs → columnsJudged i (c ∷ cs) ≡ fine
 unfolding columnJudged
-fine-first i c cs g = rw (judged-cons, column-bad c (g .column), g .last, g .column .utf8) (g .rest)
+fine-first i c cs g = rw (judged-cons, column-bad c (g .column .column), g .last, g .column .utf8) (g .rest)
 
 -- each is a column
-fine-each : (i : ℕ) (cs : List (List ℕ)) → columnsJudged i cs ≡ fine → (k : ℕ) → k < length cs → Column (getD cs k [])
+fine-each : (i : ℕ) (cs : List (List ℕ)) → columnsJudged i cs ≡ fine → (k : ℕ) → k < length cs → Fine (getD cs k [])
 fine-each i [] h k l = absurd (omega arith)
 fine-each i (c ∷ cs) h zero l = first-fine i c cs h .column
 fine-each i (c ∷ cs) h (suc k) l = fine-each (i + 1) cs (first-fine i c cs h .rest) k (omega arith)
@@ -74,7 +78,7 @@ fine-return i (c ∷ d ∷ cs) n h =
     rw (joined-more, return-tab) (fine-return (i + 1) (d ∷ cs) (omega arith) (first-fine i c (d ∷ cs) h .rest))
 
 -- such columns are fine
-each-fine : (i : ℕ) (cs : List (List ℕ)) → ((k : ℕ) → k < length cs → Column (getD cs k [])) → endsIn 13 (joined 9 cs) ≡ false → columnsJudged i cs ≡ fine
+each-fine : (i : ℕ) (cs : List (List ℕ)) → ((k : ℕ) → k < length cs → Fine (getD cs k [])) → endsIn 13 (joined 9 cs) ≡ false → columnsJudged i cs ≡ fine
 unfolding columnsJudged isLast
 each-fine i [] g e = refl
 each-fine i (c ∷ []) g e = fine-first i c [] (record { column = g 0 (omega arith); last = rw joined-one at e; rest = refl })
@@ -97,14 +101,22 @@ unfolding Forth
 forth cs rest k =
     let n = required-count (length cs) (k .count) in
     let some : 0 < length cs = ⊎-elim (λ h. omega arith) (λ h. omega arith) n in
-    record { count = n; each = fine-each 0 cs (k .judged); whole = line-feed cs rest; ended = by-feed (fine-return 0 cs some (k .judged)) }
+    let each = fine-each 0 cs (k .judged) in
+    record {
+      shaped = record { count = n; each = λ i l. each i l .column; whole = line-feed cs rest; ended = by-feed (fine-return 0 cs some (k .judged)) };
+      utf8 = utf8-all cs (λ i l. each i l .utf8);
+    }
 
 pub back : Back lineText
 unfolding Back
 back s cs rest b =
     record {
-      taken = record { count = count-required (b .count); judged = each-fine 0 cs (b .each) (by (b .ended)) };
-      same = sym (line-feed cs rest) ∙ b .whole;
+      taken =
+          record {
+            count = count-required (b .shaped .count);
+            judged = each-fine 0 cs (λ i l. record { column = b .shaped .each i l; utf8 = utf8-each cs (b .utf8) i l }) (by (b .shaped .ended));
+          };
+      same = sym (line-feed cs rest) ∙ b .shaped .whole;
     }
   where
     by : Ended (joined 9 cs) feed rest → endsIn 13 (joined 9 cs) ≡ false

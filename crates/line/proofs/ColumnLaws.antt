@@ -13,7 +13,7 @@ use Rattle.text.specs.Pick.{pick}
 use Rattle.text.specs.Bytes.{isEmpty, endsIn}
 use Rattle.text.specs.Utf8.{isUtf8}
 use Rattle.text.proofs.ByteLaws.{empty-some, some-empty, last-back, ends-behind, ends-last, ends-is}
-use Rattle.text.proofs.Demands.{parted}
+use Rattle.text.proofs.Demands.{nil-text, parted}
 use Rattle.text.specs.Verdict.{Verdict, fine, refused}
 use Rattle.pieces.specs.Pieces.{split, joined}
 use Rattle.pieces.specs.Demands.{Free}
@@ -146,7 +146,7 @@ line-tab c s {t} f g q =
 
 -- ---- UTF-8
 
-same-bool : (a b : Bool) → (a ≡ true → b ≡ true) → (b ≡ true → a ≡ true) → a ≡ b
+pub same-bool : (a b : Bool) → (a ≡ true → b ≡ true) → (b ≡ true → a ≡ true) → a ≡ b
 same-bool true b f g = sym (f refl)
 same-bool false true f g = g refl
 same-bool false false f g = refl
@@ -157,15 +157,16 @@ utf8-tab c t =
     let a = and-eq-true-iff (isUtf8 c) (isUtf8 t) in
     same-bool (isUtf8 (c ++ 9 ∷ t)) _ (λ e. a .1 (p .0 e)) (λ e. p .1 (a .0 e))
 
-utf8-joined : (cs : List (List ℕ)) → 0 < length cs → isUtf8 (joined 9 cs) ≡ allUtf8 cs
+-- columns joined by tabs are UTF-8 where all are
+pub utf8-joined : (cs : List (List ℕ)) → isUtf8 (joined 9 cs) ≡ allUtf8 cs
 unfolding allUtf8
-utf8-joined [] h = absurd (omega arith)
-utf8-joined (c ∷ []) h = rw joined-one (sym (and-true (isUtf8 c)))
-utf8-joined (c ∷ d ∷ cs) h = rw (joined-more, utf8-tab, utf8-joined (d ∷ cs) (omega arith))
+utf8-joined [] = rw joined-none nil-text
+utf8-joined (c ∷ []) = rw joined-one (sym (and-true (isUtf8 c)))
+utf8-joined (c ∷ d ∷ cs) = rw (joined-more, utf8-tab, utf8-joined (d ∷ cs))
 
 pub by-columns : ByColumns isUtf8 allUtf8 (split 9)
 unfolding ByColumns
-by-columns t = ap isUtf8 (sym (split-joined 9 t)) ∙ utf8-joined (split 9 t) (split-some 9 t)
+by-columns t = ap isUtf8 (sym (split-joined 9 t)) ∙ utf8-joined (split 9 t)
 
 -- where all columns are UTF-8, each is; and only there
 pub utf8-each : (cs : List (List ℕ)) → allUtf8 cs ≡ true → (i : ℕ) → i < length cs → isUtf8 (getD cs i []) ≡ true
@@ -207,7 +208,7 @@ pub record InOrder (k : ℕ) (cs : List (List ℕ)) : Type 0 where
   pub full : (i : ℕ) → i < length cs → 0 < length (getD cs i [])
   pub last : required (k + length cs - 1) ≡ false
 
-order-one : {k : ℕ} {c : List ℕ} → required k ≡ false → isEmpty c ≡ false → InOrder k (c ∷ [])
+pub order-one : {k : ℕ} {c : List ℕ} → required k ≡ false → isEmpty c ≡ false → InOrder k (c ∷ [])
 order-one {k} {c} r m = record { full = by; last = let z : k + 1 - 1 ≡ k = omega arith in rw z r }
   where
     by : (i : ℕ) → i < 1 → 0 < length (getD (c ∷ []) i [])
@@ -218,7 +219,7 @@ order-one {k} {c} r m = record { full = by; last = let z : k + 1 - 1 ≡ k = ome
 next-number : (k n : ℕ) → k + 1 + n - 1 ≡ k + suc n - 1
 next-number k n = omega arith
 
-order-more : {k : ℕ} {c : List ℕ} {cs : List (List ℕ)} → isEmpty c ≡ false → InOrder (k + 1) cs → InOrder k (c ∷ cs)
+pub order-more : {k : ℕ} {c : List ℕ} {cs : List (List ℕ)} → isEmpty c ≡ false → InOrder (k + 1) cs → InOrder k (c ∷ cs)
 order-more {k} {c} {cs} m o = record { full = by; last = rw next-number at (o .last) }
   where
     by : (i : ℕ) → i < suc (length cs) → 0 < length (getD (c ∷ cs) i [])
@@ -269,11 +270,6 @@ pub fine-count : (from : ℕ) (cs : List (List ℕ)) (e : Ending) (past : ℕ) �
 fine-count from cs e past n h =
     let z : 1 + length cs - 1 ≡ length cs = omega arith in
     required-count (length cs) (rw z at (fine-order 1 from cs e past n h .last))
-
--- and none is empty
-pub fine-full : (from : ℕ) (cs : List (List ℕ)) (e : Ending) (past : ℕ) → 0 < length cs → verdict 1 from cs e past ≡ fine
-    → (i : ℕ) → i < length cs → 0 < length (getD cs i [])
-fine-full from cs e past n h = fine-order 1 from cs e past n h .full
 
 -- so many columns, of which none is empty, have the verdict fine
 pub count-fine : (from : ℕ) (cs : List (List ℕ)) (e : Ending) (past : ℕ) → (length cs ≡ 8) ⊎ (10 ≤ length cs)

@@ -6,15 +6,11 @@ use mathlib.Mathlib.Logic.Function.Defs.{LeftInverse·injective}
 use lib.ListN.{getD}
 use Rattle.text.specs.Answer.{Answer, says}
 use Rattle.text.specs.declared.range.Range.{Range}
-use Rattle.line.specs.Line.{readAnswer}
-use Rattle.line.specs.Place.{rangeOf}
 use Rattle.line.specs.Paper.{recordPlaces, readPaper}
+use Rattle.line.specs.Promises.{Determined}
 use Rattle.line.specs.declared.read.Record.{Record}
 use Rattle.line.specs.declared.read.Read.{Read}
 use Rattle.line.specs.declared.read.Read.the-variants as R
-use Rattle.line.specs.declared.place.Name.{Name}
-
--- ---- the reader
 
 -- the range whose start is value k, and whose length is value m
 rangeAt : List ℕ → ℕ → ℕ → Range
@@ -55,10 +51,5 @@ read-back (R.Beyond next) = refl
 pub read-paper-injective : (r r′ : Read) → readPaper r ≡ readPaper r′ → r ≡ r′
 read-paper-injective = LeftInverse·injective readOf readPaper read-back
 
-pub read-determined : (s : List ℕ) (at : ℕ) (r r′ : Read) → readPaper r ≡ readAnswer s at → readPaper r′ ≡ readAnswer s at → r ≡ r′
-read-determined s at r r′ p q = read-paper-injective r r′ (p ∙ sym q)
-
--- ---- the place of a field
-
-pub place-of-determined : (line : Record) (name : Name) (r r′ : Range) → r ≡ rangeOf line name → r′ ≡ rangeOf line name → r ≡ r′
-place-of-determined line name r r′ p q = p ∙ sym q
+pub determined : Determined
+determined = record { read-line = λ s at r r′ p q. read-paper-injective r r′ (p ∙ sym q); place-of = λ line name r r′ p q. p ∙ sym q }

@@ -4,6 +4,8 @@ pub mod ReadLaws
 pub mod PlaceLaws
 pub mod AnswerLaws
 pub mod MarkLaws
+pub mod ShapeLaws
+pub mod TenPlaces
 pub mod Exact
 pub mod One
 pub mod WindowLaws
@@ -11,6 +13,7 @@ pub mod Window
 pub mod MovesOn
 pub mod Faults
 pub mod Meets
+pub mod WithoutTabs
 pub mod WholeLaws
 pub mod Impostors
 pub mod Determined

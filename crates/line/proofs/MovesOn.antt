@@ -2,7 +2,7 @@
 use Prim.Native.Nat.{ℕ, _+_, _-_, _<_, _≤_}
 use mathlib.Core.Path.{_≡_, refl, sym, ap, _∙_}
 use mathlib.Core.Bool.{Bool, true, false, _||_}
-use mathlib.Core.Logic.{_⊎_, inl, inr}
+use mathlib.Core.Logic.{_⊎_, inl, inr, ⊎-elim}
 use mathlib.Core.List.{List, [], _∷_, _++_, append-nil, append-assoc}
 use native.Mathlib.Omega.{arith}
 use native.Mathlib.Nat.{add-zero, add-assoc}
@@ -312,16 +312,29 @@ pub moves-on : MovesOn readAnswer
 unfolding MovesOn
 moves-on = read-moved
 
+-- ---- which numbers go where
+
+-- 1 at the end and 6 beyond it, both at the place given; else 0, or a refusal
+pub data Way (s : List ℕ) (at n next : ℕ) : Type 0 where
+  ended : at ≡ length s → n ≡ 1 → next ≡ at → Way s at n next
+  beyond : length s < at → n ≡ 6 → next ≡ at → Way s at n next
+  inside : (n ≡ 0) ⊎ ((2 ≤ n) × (n ≤ 5)) → Way s at n next
+
+pub way : {s : List ℕ} {at n next : ℕ} → GoesOn s at n next → Way s at n next
+way (stays-1 e) = ended e refl refl
+way (stays-6 l) = beyond l refl refl
+way (line-0 p) = inside (inl refl)
+way (line-5 p) = inside (inr (omega arith, omega arith))
+way (feed-2 f p) = inside (inr (omega arith, omega arith))
+way (tab-2 p) = inside (inr (omega arith, omega arith))
+way (feed-3 p) = inside (inr (omega arith, omega arith))
+way (end-4 p) = inside (inr (omega arith, omega arith))
+
 -- 6 only from a place beyond the input
 pub six-beyond : (s : List ℕ) (at : ℕ) → numberOf (readAnswer s at) ≡ 6 → length s < at
-six-beyond s at z = by (read-moved s at .goes) z
+six-beyond s at z = by (way (read-moved s at .goes))
   where
-    by : {n next : ℕ} → GoesOn s at n next → n ≡ 6 → length s < at
-    by (stays-1 h) e = absurd (omega arith)
-    by (stays-6 h) e = h
-    by (line-0 p) e = absurd (omega arith)
-    by (line-5 p) e = absurd (omega arith)
-    by (feed-2 p q) e = absurd (omega arith)
-    by (tab-2 p) e = absurd (omega arith)
-    by (feed-3 p) e = absurd (omega arith)
-    by (end-4 p) e = absurd (omega arith)
+    by : {next : ℕ} → Way s at (numberOf (readAnswer s at)) next → length s < at
+    by (ended e n p) = absurd (omega arith)
+    by (beyond l n p) = l
+    by (inside x) = absurd (⊎-elim (λ n. omega arith) (λ n. omega arith) x)

@@ -16,7 +16,7 @@ use Rattle.text.specs.Bytes.{isEmpty, endsIn}
 use Rattle.text.proofs.Lists.{here, rest-all}
 use Rattle.text.proofs.ByteLaws.{none-empty, some-empty, ends-none, ends-some, ends-at}
 use Rattle.text.specs.Verdict.{Verdict, fine, refused}
-use Rattle.pieces.specs.Block.{pastQuiet}
+use Rattle.pieces.specs.Inner.{pastQuiet}
 use Rattle.pieces.specs.Pieces.{split}
 use Rattle.pieces.specs.Demands.{Free}
 use Rattle.pieces.proofs.BlockLaws.{past-quiet}

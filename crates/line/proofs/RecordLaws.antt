@@ -15,16 +15,16 @@ use Rattle.text.specs.Range.{cut}
 use Rattle.text.specs.declared.range.Range.{Range}
 use Rattle.text.proofs.Lists.{cut-is}
 use Rattle.pieces.specs.Pieces.{split, pieces, joined}
-use Rattle.pieces.specs.Demands.{Free}
+use Rattle.pieces.specs.Demands.{Free, startIn}
 use Rattle.pieces.proofs.PieceLaws.{split-back, joined-none, joined-one, joined-more, pieces-none, pieces-some}
 use Rattle.line.specs.Line.{Ending, endingBytes, line, lineOf, readAnswer}
 use Rattle.line.specs.Place.{rangeOf, columnNumber, columnOf, columnStart}
 use Rattle.line.specs.Paper.{recordPlaces}
-use Rattle.line.specs.Demands.{Column, Begins, startIn, Lies, TenPlaces, Stands, One}
+use Rattle.line.specs.Demands.{Column, Begins, Lies, TenPlaces, Stands, One}
 use Rattle.line.specs.declared.read.Record.{Record}
 use Rattle.line.specs.declared.place.Name.{Name}
 use Rattle.line.specs.declared.place.Name.the-variants as N
-use Rattle.line.proofs.Exact.{begins-line, begins-split}
+use Rattle.line.proofs.ShapeLaws.{shaped-line, shaped-split}
 use Rattle.line.proofs.One.{one, lie-cuts, fieldOf, CutsOut}
 
 -- ---- what was read
@@ -128,27 +128,27 @@ column-none n cs h e = by (eqb (columnNumber n) 9)
 module _ {s : List ℕ} {at : ℕ} {r : Record} (g : Recorded s at r) where
   -- there are eight columns, or at least ten
   pub count : (length (g .columns) ≡ 8) ⊎ (10 ≤ length (g .columns))
-  count = g .begin .count
+  count = g .begin .shaped .count
 
   eight : 8 ≤ length (g .columns)
   eight = ⊎-elim (λ h. omega arith) (λ h. omega arith) count
 
   each : (i : ℕ) → i < length (g .columns) → Column (getD (g .columns) i [])
-  each = g .begin .each
+  each = g .begin .shaped .each
 
   -- and none is empty
   full : (i : ℕ) → i < length (g .columns) → 0 < length (getD (g .columns) i [])
   full i l = each i l .some
 
   whole : joined 9 (g .columns) ++ (endingBytes (g .ending) ++ g .rest) ≡ drop at s
-  whole = g .begin .whole
+  whole = g .begin .shaped .whole
 
   -- they are the line's, between tabs
   pub line-is : lineOf (drop at s) ≡ line (joined 9 (g .columns)) (g .ending) (g .rest)
-  line-is = begins-line (g .begin)
+  line-is = shaped-line (g .begin .shaped)
 
   pub columns-split : split 9 (joined 9 (g .columns)) ≡ g .columns
-  columns-split = begins-split (g .begin)
+  columns-split = shaped-split (g .begin .shaped)
 
   -- there are no fewer bytes than columns
   text-long : length (g .columns) ≤ length (joined 9 (g .columns))

@@ -7,15 +7,18 @@ use mathlib.Core.List.{List, [], _∷_, _++_, flatten}
 use lib.ListN.{length, getD, take, drop}
 use Rattle.text.specs.Answer.{Answer, says, numberOf, valuesOf}
 use Rattle.text.specs.Bytes.{endsIn}
-use Rattle.text.specs.Utf8.{isUtf8}
+use Rattle.text.specs.Demands.{Characters}
 use Rattle.pieces.specs.Pieces.{joined}
-use Rattle.pieces.specs.Demands.{Free}
-use Rattle.line.specs.Line.{Ending, nothing, feed, return-feed, endingBytes}
+use Rattle.pieces.specs.Demands.{Free, startIn}
+use Rattle.line.specs.Line.{Ending, nothing, feed, return-feed, endingBytes, allUtf8}
 
--- not empty, UTF-8, free of tab and LF
+-- INFO and the samples may be the last column, k counted from 1; columns 1 to 7, and FORMAT, must be ended by a tab
+abbrev pub MayEnd : ℕ → Type 0
+MayEnd k = (k ≡ 8) ⊎ (10 ≤ k)
+
+-- not empty, free of tab and LF
 pub record Column (c : List ℕ) : Type 0 where
   pub some : 0 < length c
-  pub utf8 : isUtf8 c ≡ true
   pub no-tab : Free 9 c
   pub no-feed : Free 10 c
 
@@ -26,11 +29,16 @@ pub data Ended (t : List ℕ) : Ending → List ℕ → Type 0 where
   by-return-feed : {rest : List ℕ} → Ended t return-feed rest
 
 -- the columns, eight or at least ten, joined by tabs, then the ending, then the rest, are the input
-pub record Begins (s : List ℕ) (cs : List (List ℕ)) (e : Ending) (rest : List ℕ) : Type 0 where
-  pub count : (length cs ≡ 8) ⊎ (10 ≤ length cs)
+pub record Shaped (s : List ℕ) (cs : List (List ℕ)) (e : Ending) (rest : List ℕ) : Type 0 where
+  pub count : MayEnd (length cs)
   pub each : (i : ℕ) → i < length cs → Column (getD cs i [])
   pub whole : joined 9 cs ++ (endingBytes e ++ rest) ≡ s
   pub ended : Ended (joined 9 cs) e rest
+
+-- and each is UTF-8
+pub record Begins (s : List ℕ) (cs : List (List ℕ)) (e : Ending) (rest : List ℕ) : Type 0 where
+  pub shaped : Shaped s cs e rest
+  pub utf8 : allUtf8 cs ≡ true
 
 -- a reader is given an input and a place, and answers on paper
 abbrev pub Reader : Type 0
@@ -47,10 +55,6 @@ unfoldable pub Exact : Reader → Type 0
 Exact read = (s : List ℕ) (at : ℕ) → at < length s → Refuses (read s at) ↔ ((cs : List (List ℕ)) (e : Ending) (rest : List ℕ) → Begins (drop at s) cs e rest → ⊥)
 
 -- ---- one
-
--- where column i starts: past the columns before it, with a tab behind each
-unfoldable pub startIn : List (List ℕ) → ℕ → ℕ
-startIn cs i = i + length (flatten (take i cs))
 
 -- place i of a list of starts and lengths has this start and this length
 pub record Lies (places : List ℕ) (i start size : ℕ) : Type 0 where
@@ -82,62 +86,34 @@ One read = (s : List ℕ) (at : ℕ) → numberOf (read s at) ≡ 0 → Stands s
 
 -- ---- faults
 
--- free of tab and LF
-pub record Plain (c : List ℕ) : Type 0 where
-  pub no-tab : Free 9 c
-  pub no-feed : Free 10 c
-
--- columns 1 to 7, and FORMAT, must be ended by a tab
-abbrev pub MustGoOn : ℕ → Type 0
-MustGoOn k = (k ≤ 7) ⊎ (k ≡ 9)
-
--- INFO and the samples may be the last
-abbrev pub MayEnd : ℕ → Type 0
-MayEnd k = (k ≡ 8) ⊎ (10 ≤ k)
-
 -- column k begins this text and is bad: the number that refuses it, and the bytes through its terminator
 -- 2: empty and ended by a tab; or empty, but for a CR, and ended by LF where it may be the last
--- 3: ended by LF where it must go on
--- 4: cut by the end of the input where it must go on, or empty there
+-- 3: ended by LF where it may not be the last
+-- 4: cut by the end of the input where it may not be the last, or empty there
 pub data Bad (k : ℕ) : List ℕ → ℕ → ℕ → Type 0 where
   empty-tabbed : {rest : List ℕ} → Bad k (9 ∷ rest) 2 1
   empty-fed : {rest : List ℕ} → MayEnd k → Bad k (10 ∷ rest) 2 1
   empty-returned : {rest : List ℕ} → MayEnd k → Bad k (13 ∷ 10 ∷ rest) 2 2
-  early-fed : (c rest : List ℕ) → MustGoOn k → Plain c → Bad k (c ++ 10 ∷ rest) 3 (length c + 1)
-  early-cut : {c : List ℕ} → MustGoOn k → Plain c → Bad k c 4 (length c)
+  early-fed : (c rest : List ℕ) → (MayEnd k → ⊥) → Free 9 c → Free 10 c → Bad k (c ++ 10 ∷ rest) 3 (length c + 1)
+  early-cut : {c : List ℕ} → (MayEnd k → ⊥) → Free 9 c → Free 10 c → Bad k c 4 (length c)
   empty-cut : Bad k [] 4 0
 
--- each column with a tab behind it
-unfoldable pub tabbed : List (List ℕ) → List ℕ
-tabbed [] = []
-tabbed (c ∷ cs) = c ++ 9 ∷ tabbed cs
-
--- these columns begin the input, none of them empty, each ended by a tab; then something is left
+-- these columns begin the input, each ended by a tab, and then this is left
 pub record Behind (s : List ℕ) (cs : List (List ℕ)) (left : List ℕ) : Type 0 where
-  pub full : (i : ℕ) → i < length cs → 0 < length (getD cs i [])
-  pub plains : (i : ℕ) → i < length cs → Plain (getD cs i [])
-  pub whole : tabbed cs ++ left ≡ s
-
--- no column is bad: as `Begins`, but for UTF-8
-pub record Shaped (s : List ℕ) (cs : List (List ℕ)) (e : Ending) (rest : List ℕ) : Type 0 where
-  pub count : MayEnd (length cs)
-  pub full : (i : ℕ) → i < length cs → 0 < length (getD cs i [])
-  pub plains : (i : ℕ) → i < length cs → Plain (getD cs i [])
-  pub whole : joined 9 cs ++ (endingBytes e ++ rest) ≡ s
-  pub ended : Ended (joined 9 cs) e rest
+  pub each : (i : ℕ) → i < length cs → Column (getD cs i [])
+  pub whole : joined 9 (cs ++ left ∷ []) ≡ s
 
 -- what refuses the line at a place, and where to go on: its first bad column, and past that column's terminator;
--- or, where no column is bad, one that is not UTF-8, and past the line
+-- or, where no column is bad, that not all are UTF-8, and past the line
 pub data Faulty (s : List ℕ) (at : ℕ) : ℕ → ℕ → Type 0 where
   bad-column : {cs : List (List ℕ)} {left : List ℕ} {number bytes : ℕ} → Behind (drop at s) cs left → Bad (1 + length cs) left number bytes
-      → Faulty s at number (at + length (tabbed cs) + bytes)
-  not-text : {cs : List (List ℕ)} {e : Ending} {rest : List ℕ} {i : ℕ} → Shaped (drop at s) cs e rest → i < length cs → isUtf8 (getD cs i []) ≡ false
+      → Faulty s at number (at + startIn cs (length cs) + bytes)
+  not-text : {cs : List (List ℕ)} {e : Ending} {rest : List ℕ} → Shaped (drop at s) cs e rest → allUtf8 cs ≡ false
       → Faulty s at 5 (at + length (joined 9 cs) + length (endingBytes e))
 
--- from a place in the input it answers a number from 2 to 5, with a next place and nothing more, exactly when the line is so faulty
+-- from a place in the input it answers a number and a next place, and nothing more, exactly when the line is so faulty
 unfoldable pub Faults : Reader → Type 0
-Faults read = (s : List ℕ) (at : ℕ) → at < length s → (number next : ℕ)
-    → ((2 ≤ number) × (number ≤ 5) × (read s at ≡ says number (next ∷ []))) ↔ Faulty s at number next
+Faults read = (s : List ℕ) (at : ℕ) → at < length s → (number next : ℕ) → (read s at ≡ says number (next ∷ [])) ↔ Faulty s at number next
 
 -- ---- moves on
 
@@ -237,3 +213,19 @@ Windowed read = (s : List ℕ) (at : ℕ) (w : List ℕ) (p : ℕ) → Window s 
 -- a text is UTF-8 exactly when each piece between tabs is
 unfoldable pub ByColumns : (List ℕ → Bool) → (List (List ℕ) → Bool) → (List ℕ → List (List ℕ)) → Type 0
 ByColumns check all columns = (t : List ℕ) → check t ≡ all (columns t)
+
+-- ---- the first nine tabs
+
+-- the columns with the first nine tabs out: the text that the Rust checks
+unfoldable pub untabbed : List (List ℕ) → List ℕ
+untabbed cs = flatten (take 9 cs) ++ joined 9 (drop 9 cs)
+
+-- the characters of that text, of which none stands across one of these tabs: the first so many are the columns before it
+pub record Uncrossed (cs : List (List ℕ)) : Type 0 where
+  pub chars : List (List ℕ)
+  pub are : Characters (untabbed cs) chars
+  pub each : (i : ℕ) → i < length cs → i ≤ 9 → (n : ℕ) × (flatten (take n chars) ≡ flatten (take i cs))
+
+-- each column is UTF-8 exactly when that text is, with no character across one of these tabs
+unfoldable pub WithoutTabs : Type 0
+WithoutTabs = (cs : List (List ℕ)) → (allUtf8 cs ≡ true) ↔ Uncrossed cs

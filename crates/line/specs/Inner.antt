@@ -5,7 +5,7 @@ use mathlib.Core.List.{List, [], _∷_, _++_}
 use lib.ListN.{length, getD, take, drop}
 use Rattle.text.specs.declared.range.Range.{Range}
 use Rattle.text.specs.Verdict.{Verdict, fine, refused}
-use Rattle.pieces.specs.Block.{Quiet}
+use Rattle.pieces.specs.Inner.{Quiet}
 use Rattle.pieces.specs.Pieces.{split}
 use Rattle.line.specs.Line.{endingBytes, Line, line, lineOf, verdict}
 use Rattle.line.specs.declared.read.Stop.{Stop}

@@ -6,7 +6,7 @@ use lib.Dec.{eqb, ltb}
 use Rattle.text.specs.Pick.{pick}
 use Rattle.text.specs.declared.range.Range.{Range}
 use Rattle.pieces.specs.Pieces.{joined}
-use Rattle.line.specs.Demands.{startIn}
+use Rattle.pieces.specs.Demands.{startIn}
 use Rattle.line.specs.declared.read.Record.{Record}
 use Rattle.line.specs.declared.place.Name.{Name}
 use Rattle.line.specs.declared.place.Name.the-variants as N

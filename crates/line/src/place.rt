@@ -1,8 +1,7 @@
 // The place of each field of a line that was read.
 use crate::read::Record;
 use text::range::Range;
-ghost use mathlib.Core.Path.{_≡_};
-ghost use Rattle.line.specs.Place.{rangeOf};
+ghost use Rattle.line.specs.Promises.{GivesPlace};
 
 // The ten fields of a line.
 pub enum Name {
@@ -20,7 +19,7 @@ pub enum Name {
 
 // The place of a field of the record's line, a `.` as it stands.
 pub fn place_of(line: Record, name: Name) -> Range
-    ensures { λ r. ⌜ r ≡ rangeOf line name ⌝ }
+    ensures { λ r. ⌜ GivesPlace line name r ⌝ }
 {
     match name {
         Name::Chrom => line.chrom,

@@ -9,8 +9,9 @@ ghost use mathlib.Core.List.{_++_};
 ghost use lib.ListN.{length, take, drop, set};
 ghost use Rattle.text.specs.Range.{rangePlaces};
 ghost use Rattle.pieces.specs.Pieces.{split};
-ghost use Rattle.line.specs.Line.{required, lineOf, fieldPlaces, lineAnswer, readAnswer};
+ghost use Rattle.line.specs.Line.{required, lineOf, fieldPlaces, lineAnswer};
 ghost use Rattle.line.specs.Paper.{recordPlaces, readPaper};
+ghost use Rattle.line.specs.Promises.{ReadsLine};
 ghost use Rattle.line.specs.Inner.{StopsAt, Stopped, Clear, TextEnd, judgementOf, judgedPaper, Unset, Marks, Spans, Rising, sevenPlaces, Told, InOrder};
 
 // The places of a line's ten fields. Others ask for them by `place_of`.
@@ -279,7 +280,7 @@ fn finish(s: &[u8], at: usize, end: usize, next: usize, tabs: &[usize]) -> Read
 
 // Reads the line at a place.
 pub fn read_line(s: &[u8], at: usize) -> Read
-    ensures { λ r. ⌜ readPaper r ≡ readAnswer (now (s .entry)) at ⌝ }
+    ensures { λ r. ⌜ ReadsLine (now (s .entry)) at r ⌝ }
 {
     if at > s.len() {
         return Read::Beyond(at);

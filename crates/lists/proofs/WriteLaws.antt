@@ -36,7 +36,8 @@ use Rattle.pieces.proofs.JoinedLaws.{joined-tells}
 use Rattle.lists.specs.Kind.{separatorOf, invalidOf}
 use Rattle.lists.specs.Judge.{entryAnswer}
 use Rattle.lists.specs.Paper.{verdictPaper, writePaper}
-use Rattle.lists.specs.Write.{listText, entriesJudged, entriesAnswer, listAnswer, writeAnswer, PutsList, WritesList, WritesListAt}
+use Rattle.lists.specs.Write.{listText, entriesJudged, entriesAnswer, listAnswer, writeAnswer, WritesListAt}
+use Rattle.lists.specs.Inner.{PutsList, WritesList}
 use Rattle.lists.specs.declared.write.Kind.{Kind}
 use Rattle.lists.specs.declared.write.Kind.the-variants as K
 use Rattle.lists.specs.declared.write.Verdict.{Verdict}

@@ -7,7 +7,7 @@ use lib.ListN.{drop}
 use lib.Dec.{eqb}
 use Rattle.text.specs.Pick.{pick}
 use Rattle.text.specs.Answer.{Answer, numberOf}
-use Rattle.text.specs.Over.{roomAnswer, laid, laidAt, roomLeft}
+use Rattle.text.specs.Over.{laidAt}
 use Rattle.text.specs.Place.{placed}
 use Rattle.text.specs.Verdict.{Verdict, fine, refused, fitted}
 use Rattle.pieces.specs.Pieces.{joined}
@@ -49,14 +49,6 @@ writeAnswer kind t ends out at = placed at out (listAnswer kind t ends (drop at 
 
 abbrev pub listLeft : Kind → List ℕ → List ℕ → List ℕ → ℕ → List ℕ
 listLeft kind t ends out at = laidAt (writeAnswer kind t ends out at) at (listText kind (entryList t ends)) out
-
-pub record PutsList (kind : Kind) (es : List (List ℕ)) (l : List ℕ) (r : Write) (l′ : List ℕ) : Type 0 where
-  pub answer : writePaper kind r ≡ roomAnswer (listText kind es) l
-  pub bytes : l′ ≡ roomLeft (listText kind es) l
-
-pub record WritesList (kind : Kind) (t ends l : List ℕ) (r : Write) (l′ : List ℕ) : Type 0 where
-  pub answer : writePaper kind r ≡ listAnswer kind t ends l
-  pub bytes : l′ ≡ laid (listAnswer kind t ends l) (listText kind (entryList t ends)) l
 
 pub record WritesListAt (kind : Kind) (t ends out : List ℕ) (at : ℕ) (r : Write) (out′ : List ℕ) : Type 0 where
   pub answer : writePaper kind r ≡ writeAnswer kind t ends out at

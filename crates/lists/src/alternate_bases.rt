@@ -7,15 +7,14 @@ use pieces::count::count_byte;
 use text::space::Space;
 use text::space::find_space;
 ghost use mathlib.Core.Path.{_≡_};
-ghost use Rattle.lists.specs.AlternateBases.{altCount};
-ghost use Rattle.lists.specs.Judge.{insideFine, symbolFine, altFine, entryAnswer};
-ghost use Rattle.lists.specs.Paper.{verdictPaper};
+ghost use Rattle.lists.specs.Judge.{insideFine, symbolFine, altFine};
 ghost use Rattle.lists.specs.Write.{WritesListAt};
+ghost use Rattle.lists.specs.Promises.{CountsAlts, JudgesEntry};
 ghost use Rattle.lists.specs.declared.write.Kind.the-variants.{Alts};
 
 // How many alternate alleles an ALT column has: its commas plus one.
 pub fn alt_count(column: &[u8]) -> usize
-    ensures { λ r. ⌜ r ≡ altCount (now (column .entry)) ⌝ }
+    ensures { λ r. ⌜ CountsAlts (now (column .entry)) r ⌝ }
 {
     count_byte(column, b',') + 1
 }
@@ -65,7 +64,7 @@ fn is_fine(alt: &[u8]) -> bool
 
 // Judges one ALT entry: 5, or 15, or fine.
 pub fn judge_alt(alt: &[u8]) -> Verdict
-    ensures { λ r. ⌜ verdictPaper Alts r ≡ entryAnswer Alts (now (alt .entry)) ⌝ }
+    ensures { λ r. ⌜ JudgesEntry Alts (now (alt .entry)) r ⌝ }
 {
     match find_space(alt) {
         Space::Broken => Verdict::NotUtf8,

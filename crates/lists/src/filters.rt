@@ -8,9 +8,9 @@ use text::same::same_bytes;
 use text::space::Space;
 use text::space::find_space;
 ghost use mathlib.Core.Path.{_≡_};
-ghost use Rattle.lists.specs.Judge.{filterFine, entryAnswer};
-ghost use Rattle.lists.specs.Paper.{verdictPaper};
+ghost use Rattle.lists.specs.Judge.{filterFine};
 ghost use Rattle.lists.specs.Write.{WritesListAt};
+ghost use Rattle.lists.specs.Promises.{JudgesEntry};
 ghost use Rattle.lists.specs.declared.write.Kind.the-variants.{Filters};
 
 // What the bytes of a filter say: it is not empty, `.` or `0`, and holds no `;`.
@@ -31,7 +31,7 @@ fn is_fine(filter: &[u8]) -> bool
 
 // Judges one filter: 5, or 14, or fine.
 pub fn judge_filter(filter: &[u8]) -> Verdict
-    ensures { λ r. ⌜ verdictPaper Filters r ≡ entryAnswer Filters (now (filter .entry)) ⌝ }
+    ensures { λ r. ⌜ JudgesEntry Filters (now (filter .entry)) r ⌝ }
 {
     match find_space(filter) {
         Space::Broken => Verdict::NotUtf8,

@@ -17,9 +17,10 @@ ghost use lib.ListN.{length, getD};
 ghost use Rattle.text.specs.Verdict.{fitted};
 ghost use Rattle.pieces.specs.Entries.{rising, entryList};
 ghost use Rattle.lists.specs.Kind.{separatorOf};
-ghost use Rattle.lists.specs.Judge.{entryAnswer};
-ghost use Rattle.lists.specs.Paper.{verdictPaper, writePaper};
-ghost use Rattle.lists.specs.Write.{entriesJudged, PutsList, WritesList, WritesListAt};
+ghost use Rattle.lists.specs.Paper.{writePaper};
+ghost use Rattle.lists.specs.Write.{entriesJudged, WritesListAt};
+ghost use Rattle.lists.specs.Promises.{JudgesEntry};
+ghost use Rattle.lists.specs.Inner.{PutsList, WritesList};
 
 // Which list is written.
 pub enum Kind {
@@ -63,7 +64,7 @@ fn separator(kind: Kind) -> u8
 }
 
 fn judge_entry(kind: Kind, entry: &[u8]) -> Verdict
-    ensures { λ r. ⌜ verdictPaper kind r ≡ entryAnswer kind (now (entry .entry)) ⌝ }
+    ensures { λ r. ⌜ JudgesEntry kind (now (entry .entry)) r ⌝ }
 {
     match kind {
         Kind::Filters => judge_filter(entry),
@@ -75,7 +76,7 @@ fn judge_entry(kind: Kind, entry: &[u8]) -> Verdict
 fn judge_at(kind: Kind, text: &[u8], ends: &[usize], i: usize) -> Verdict
     requires { ⌜ rising 0 (now ends) (length (now text)) ≡ true ⌝ }
     requires { ⌜ i < length (now ends) ⌝ }
-    ensures { λ r. ⌜ verdictPaper kind r ≡ entryAnswer kind (getD (entryList (now (text .entry)) (now (ends .entry))) i []) ⌝ }
+    ensures { λ r. ⌜ JudgesEntry kind (getD (entryList (now (text .entry)) (now (ends .entry))) i []) r ⌝ }
 {
     match entry_at(text, ends, i) {
         Entry::At(place) => {

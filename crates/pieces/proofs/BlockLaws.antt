@@ -12,7 +12,8 @@ use lib.Dec.{leb, eqb}
 use borrow.Author.Tests.{le-leb, lt-leb, leb-true, leb-false, eq-eqb, ne-eqb, eqb-false}
 use Rattle.text.specs.Pick.{pick}
 use Rattle.text.proofs.Lists.{here}
-use Rattle.pieces.specs.Block.{Quiet, beforeEither, quietLength, pastQuiet}
+use Rattle.pieces.specs.Before.{beforeEither}
+use Rattle.pieces.specs.Inner.{Quiet, quietLength, pastQuiet}
 
 -- ---- a byte that is one of the two
 

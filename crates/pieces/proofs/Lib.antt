@@ -9,5 +9,6 @@ pub mod EntryLaws
 pub mod PlaceLaws
 pub mod JoinedLaws
 pub mod Demands
+pub mod Impostors
 pub mod Determined
 pub mod CaseLaws

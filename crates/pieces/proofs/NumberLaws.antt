@@ -3,7 +3,7 @@ use Prim.Native.Nat.{ℕ, zero, suc, _+_, _<_, _≤_}
 use mathlib.Core.Path.{_≡_, refl, sym, _∙_}
 use mathlib.Core.List.{List, [], _∷_, flatten}
 use native.Mathlib.Omega.{arith}
-use native.Mathlib.Nat.{zero-add}
+use native.Mathlib.Nat.{zero-add, add-zero}
 use native.Mathlib.Decide.{decLe}
 use lib.ListN.{length, getD, take, drop, length-append}
 use lib.Seq.{take-append-seam, take-length, drop-append-add}
@@ -14,6 +14,7 @@ use Rattle.text.proofs.Lists.{cut-is}
 use Rattle.pieces.specs.Pieces.{pieces, joined}
 use Rattle.pieces.specs.Nth.{nthIn, nthAnswer}
 use Rattle.pieces.specs.Paper.{nthPaper}
+use Rattle.pieces.specs.Demands.{startIn}
 use Rattle.pieces.specs.declared.nth.Nth.{Nth}
 use Rattle.pieces.specs.declared.nth.Nth.the-variants as T
 use Rattle.pieces.proofs.PaperLaws.{nth-paper-injective}
@@ -21,12 +22,13 @@ use Rattle.pieces.proofs.PieceLaws.{split-joined, joined-one, joined-mo
 
 -- ---- the pieces by number
 
--- where piece n starts: past those before it and their separators
-abbrev startIn : List (List ℕ) → ℕ → ℕ
-startIn ps n = n + length (flatten (take n ps))
+-- where they start
+pub start-first : (ps : List (List ℕ)) → startIn ps 0 ≡ 0
+unfolding startIn flatten
+start-first ps = refl
 
-start-later : (p : List ℕ) (ps : List (List ℕ)) (n : ℕ) → startIn (p ∷ ps) (suc n) ≡ length p + suc (startIn ps n)
-unfolding flatten
+pub start-later : (p : List ℕ) (ps : List (List ℕ)) (n : ℕ) → startIn (p ∷ ps) (suc n) ≡ length p + 1 + startIn ps n
+unfolding startIn flatten
 start-later p ps n = let l = length-append p (flatten (take n ps)) in omega arith
 
 nth-after : (at : ℕ) (ps : List (List ℕ)) (n : ℕ) → length ps ≤ n → nthIn at ps n ≡ says 10 []
@@ -36,30 +38,29 @@ nth-after at (p ∷ ps) zero h = absurd (omega arith)
 nth-after at (p ∷ ps) (suc n) h = nth-after _ ps n (omega arith)
 
 nth-place : (at : ℕ) (ps : List (List ℕ)) (n : ℕ) → n < length ps → nthIn at ps n ≡ says 0 ((at + startIn ps n) ∷ length (getD ps n []) ∷ [])
-unfolding nthIn flatten
+unfolding nthIn
 nth-place at [] n h = absurd (omega arith)
-nth-place at (p ∷ ps) zero h = let e : at + 0 ≡ at = omega arith in rw e
+nth-place at (p ∷ ps) zero h = rw (start-first (p ∷ ps), add-zero)
 nth-place at (p ∷ ps) (suc n) h =
     let e : at + length p + 1 + startIn ps n ≡ at + startIn (p ∷ ps) (suc n) = omega (arith, start-later p ps n) in
     nth-place (at + length p + 1) ps n (omega arith) ∙ rw e
 
 -- there it stands in the pieces joined
 joined-cuts : (b : ℕ) (ps : List (List ℕ)) (n : ℕ) → n < length ps → take (length (getD ps n [])) (drop (startIn ps n) (joined b ps)) ≡ getD ps n []
-unfolding flatten
 joined-cuts b [] n h = absurd (omega arith)
-joined-cuts b (p ∷ []) zero h = rw joined-one (take-length p)
+joined-cuts b (p ∷ []) zero h = rw (start-first, joined-one) (take-length p)
 joined-cuts b (p ∷ []) (suc n) h = absurd (omega arith)
-joined-cuts b (p ∷ q ∷ ps) zero h = rw joined-more (take-append-seam p _)
+joined-cuts b (p ∷ q ∷ ps) zero h = rw (start-first, joined-more) (take-append-seam p _)
 joined-cuts b (p ∷ q ∷ ps) (suc n) h =
-    rw (start-later p (q ∷ ps) n, joined-more, drop-append-add p (b ∷ joined b (q ∷ ps)) (suc (startIn (q ∷ ps) n)))
+    let e : startIn (p ∷ q ∷ ps) (suc n) ≡ length p + suc (startIn (q ∷ ps) n) = omega (arith, start-later p (q ∷ ps) n) in
+    rw (e, joined-more, drop-append-add p (b ∷ joined b (q ∷ ps)) (suc (startIn (q ∷ ps) n)))
     (joined-cuts b (q ∷ ps) n (omega arith))
 
 joined-within : (b : ℕ) (ps : List (List ℕ)) (n : ℕ) → n < length ps → startIn ps n + length (getD ps n []) ≤ length (joined b ps)
-unfolding flatten
 joined-within b [] n h = absurd (omega arith)
-joined-within b (p ∷ []) zero h = rw joined-one (omega arith)
+joined-within b (p ∷ []) zero h = rw (start-first, joined-one) (omega arith)
 joined-within b (p ∷ []) (suc n) h = absurd (omega arith)
-joined-within b (p ∷ q ∷ ps) zero h = rw joined-more (simp length-append (omega arith))
+joined-within b (p ∷ q ∷ ps) zero h = rw (start-first, joined-more) (simp length-append (omega arith))
 joined-within b (p ∷ q ∷ ps) (suc n) h =
     let w = joined-within b (q ∷ ps) n (omega arith) in
     let l = start-later p (q ∷ ps) n in

@@ -8,7 +8,7 @@ use lib.ListN.{length, getD}
 use lib.Dec.{eqb}
 use borrow.Author.Tests.{eqb-true, eqb-false, eq-eqb, ne-eqb}
 use Rattle.text.specs.Pick.{pick, oneIf}
-use Rattle.pieces.specs.Pieces.{firstOf, longer, split, pieces, joined, countOf}
+use Rattle.pieces.specs.Pieces.{longer, split, pieces, joined, countOf}
 use Rattle.pieces.specs.Demands.{Free, Cut}
 
 -- ---- a piece free of the separator
@@ -117,10 +117,6 @@ split-joined b t = split-cut b t .whole
 -- the first piece is free of it
 pub first-free : (b : ℕ) (t : List ℕ) {p : List ℕ} {ps : List (List ℕ)} → split b t ≡ p ∷ ps → Free b p
 first-free b t h = rw h at (split-free b t 0 (split-some b t))
-
-pub first-is : (p : List ℕ) (ps : List (List ℕ)) → firstOf (p ∷ ps) ≡ p
-unfolding firstOf
-first-is p ps = refl
 
 -- ---- pieces joined
 

@@ -15,8 +15,8 @@ use Rattle.text.specs.Answer.{says}
 use Rattle.text.specs.Range.{cut}
 use Rattle.text.specs.declared.range.Range.{Range}
 use Rattle.text.proofs.Lists.{here, cut-is}
-use Rattle.pieces.specs.Block.{Quiet, pastQuiet}
-use Rattle.pieces.specs.Pieces.{firstOf, longer, split, pieceAnswer, innerAnswer, stepAnswer}
+use Rattle.pieces.specs.Inner.{firstOf, Quiet, pastQuiet}
+use Rattle.pieces.specs.Pieces.{longer, split, pieceAnswer, innerAnswer, stepAnswer}
 use Rattle.pieces.specs.Paper.{stepPaper}
 use Rattle.pieces.specs.declared.step.Step.{Step}
 use Rattle.pieces.specs.declared.step.Step.the-variants as S

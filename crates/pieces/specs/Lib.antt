@@ -1,7 +1,9 @@
 pub mod Paper
 pub mod Pieces
-pub mod Block
+pub mod Before
 pub mod Nth
 pub mod Entries
 pub mod Joined
+pub mod Promises
+pub mod Inner
 pub mod Demands

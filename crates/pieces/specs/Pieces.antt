@@ -10,10 +10,6 @@ use Rattle.text.specs.Place.{placed}
 
 -- ---- a list of pieces
 
-unfoldable pub firstOf : List (List ℕ) → List ℕ
-firstOf [] = []
-firstOf (p ∷ ps) = p
-
 -- the same pieces, with the byte b before the first
 unfoldable pub longer : ℕ → List (List ℕ) → List (List ℕ)
 longer b [] = (b ∷ []) ∷ []

@@ -3,8 +3,8 @@ use text::range::Range;
 ghost use mathlib.Core.Path.{_≡_};
 ghost use Prim.Native.Nat.{_≤_};
 ghost use lib.ListN.{length};
-ghost use Rattle.pieces.specs.Entries.{endsAnswer, entryAnswer, startOf};
-ghost use Rattle.pieces.specs.Paper.{endsPaper, entryPaper};
+ghost use Rattle.pieces.specs.Entries.{startOf};
+ghost use Rattle.pieces.specs.Promises.{JudgesEnds, FindsEntry};
 
 // Whether ends make a list of entries.
 pub enum Ends {
@@ -26,7 +26,7 @@ pub enum Entry {
 
 // Judges the ends of an entry list.
 pub fn judge_ends(text: &[u8], ends: &[usize]) -> Ends
-    ensures { λ r. ⌜ endsPaper r ≡ endsAnswer (now (text .entry)) (now (ends .entry)) ⌝ }
+    ensures { λ r. ⌜ JudgesEnds (now (text .entry)) (now (ends .entry)) r ⌝ }
 {
     let mut start = 0;
     let mut i = 0;
@@ -54,7 +54,7 @@ fn start_of(ends: &[usize], i: usize) -> usize
 
 // Entry i, counted from 0, as a place in the text. It looks at its own two ends and at no others.
 pub fn entry_at(text: &[u8], ends: &[usize], i: usize) -> Entry
-    ensures { λ r. ⌜ entryPaper r ≡ entryAnswer (now (text .entry)) (now (ends .entry)) i ⌝ }
+    ensures { λ r. ⌜ FindsEntry (now (text .entry)) (now (ends .entry)) i r ⌝ }
 {
     if i >= ends.len() {
         return Entry::Nothing;

@@ -2,9 +2,7 @@
 use crate::step::Step;
 use crate::step::piece_at;
 use text::range::Range;
-ghost use mathlib.Core.Path.{_≡_};
-ghost use Rattle.pieces.specs.Nth.{nthAnswer};
-ghost use Rattle.pieces.specs.Paper.{nthPaper};
+ghost use Rattle.pieces.specs.Promises.{FindsNth};
 
 // Which piece has a number.
 pub enum Nth {
@@ -16,7 +14,7 @@ pub enum Nth {
 
 // Piece n, counted from 0.
 pub fn piece_nth(s: &[u8], separator: u8, n: usize) -> Nth
-    ensures { λ r. ⌜ nthPaper r ≡ nthAnswer separator (now (s .entry)) n ⌝ }
+    ensures { λ r. ⌜ FindsNth separator (now (s .entry)) n r ⌝ }
 {
     let mut at = 0;
     let mut left = n;

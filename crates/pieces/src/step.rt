@@ -4,8 +4,9 @@ use text::range::Range;
 ghost use mathlib.Core.Path.{_≡_};
 ghost use Prim.Native.Nat.{_≤_, _+_};
 ghost use lib.ListN.{length, drop};
-ghost use Rattle.pieces.specs.Pieces.{firstOf, split, stepAnswer};
-ghost use Rattle.pieces.specs.Paper.{stepPaper};
+ghost use Rattle.pieces.specs.Pieces.{split};
+ghost use Rattle.pieces.specs.Promises.{FindsPiece};
+ghost use Rattle.pieces.specs.Inner.{firstOf};
 
 // What a step from a place finds.
 pub enum Step {
@@ -65,7 +66,7 @@ fn far_end(s: &[u8], separator: u8, from: usize) -> usize
 
 // The piece that starts at the place `at`.
 pub fn piece_at(s: &[u8], separator: u8, at: usize) -> Step
-    ensures { λ r. ⌜ stepPaper r ≡ stepAnswer separator (now (s .entry)) at ⌝ }
+    ensures { λ r. ⌜ FindsPiece separator (now (s .entry)) at r ⌝ }
 {
     if at > s.len() {
         return Step::Beyond;

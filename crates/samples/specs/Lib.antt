@@ -1,4 +1,5 @@
 pub mod Samples
 pub mod Keys
 pub mod Paper
+pub mod Promises
 pub mod Demands

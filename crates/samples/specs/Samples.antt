@@ -16,8 +16,5 @@ unfoldable pub sampleAnswer : List ℕ → ℕ → Answer
 sampleAnswer t n = nthAnswer 9 t n
 
 -- split at every colon; the empty sample has none
-unfoldable pub subfieldsOf : List ℕ → List (List ℕ)
-subfieldsOf sample = pieces 58 sample
-
 unfoldable pub subfieldAnswer : List ℕ → ℕ → Answer
 subfieldAnswer sample n = nthAnswer 58 sample n

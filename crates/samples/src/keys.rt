@@ -2,9 +2,7 @@
 use pieces::step::Step;
 use pieces::step::piece_at;
 use text::same::same_bytes;
-ghost use mathlib.Core.Path.{_≡_};
-ghost use Rattle.samples.specs.Keys.{keyAnswer};
-ghost use Rattle.samples.specs.Paper.{keyPaper};
+ghost use Rattle.samples.specs.Promises.{FindsKey};
 
 // Which key of FORMAT is the wanted one.
 pub enum Key {
@@ -16,7 +14,7 @@ pub enum Key {
 
 // The index of the first key that is equal.
 pub fn key_index(format: &[u8], key: &[u8]) -> Key
-    ensures { λ r. ⌜ keyPaper r ≡ keyAnswer (now (format .entry)) (now (key .entry)) ⌝ }
+    ensures { λ r. ⌜ FindsKey (now (format .entry)) (now (key .entry)) r ⌝ }
 {
     let mut at = 0;
     let mut i = 0;

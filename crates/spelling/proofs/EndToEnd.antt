@@ -1,7 +1,7 @@
 -- What the writer leaves reads back as the list written, by both contracts and nothing else: an answer that is done is the one for the
 -- list, what is written means the list, and what means a list reads as it. Assumes nothing.
 use Prim.Native.Nat.{ℕ, zero, suc, _≤_, _<_}
-use mathlib.Core.Path.{_≡_, refl, sym, ap, _∙_}
+use mathlib.Core.Path.{_≡_, sym, ap, _∙_}
 use mathlib.Core.Bool.{true}
 use mathlib.Core.List.{List, [], _∷_, append-nil}
 use native.Mathlib.Omega.{arith}
@@ -9,25 +9,20 @@ use lib.ListN.{length, getD, take, drop}
 use Rattle.text.specs.Answer.{says, numberOf}
 use Rattle.text.specs.Over.{over}
 use Rattle.text.proofs.Lists.{take-over}
-use Rattle.genotype.specs.Reading.{list, readingOf}
-use Rattle.genotype.specs.Row.{numbersOf, missingOf, phasedOf}
-use Rattle.genotype.specs.Answers.{ReadsText, Parallel}
+use Rattle.genotype.specs.Row.{numbersOf, missingOf, phasedOf, alleleOf, rowOf}
+use Rattle.genotype.specs.Answers.{Parallel}
 use Rattle.genotype.specs.declared.allele.Allele.{Allele}
-use Rattle.genotype.specs.declared.read.Read.{Read}
 use Rattle.genotype.proofs.MeansLaws.{reads-means}
 use Rattle.genotype.proofs.ColumnLaws.{numbersOf-length, missingOf-length, phasedOf-length}
 use Rattle.genotype.proofs.AnswerLaws.{Holds, reads-list}
 use Rattle.spelling.specs.Spelling.{from44}
-use Rattle.spelling.specs.Write.{Small}
-use Rattle.genotype.specs.Row.{alleleOf, rowOf}
 use Rattle.spelling.specs.Paper.{writePaper}
-use Rattle.spelling.specs.Write.{listAnswer, rowAnswer, WritesRow, SmallWhereDone}
-use Rattle.spelling.specs.Demands.{writer, Fitting, RoundTrip}
-use Rattle.spelling.specs.EndToEnd.{ReadBack}
-use Rattle.spelling.specs.declared.write.Write.the-variants.{Done}
-use Rattle.genotype.proofs.RowLaws.{row-length}
-use Rattle.spelling.proofs.WriteLaws.{row-list, row-parallel}
-use Rattle.genotype.proofs.RowLaws.{row-append}
+use Rattle.spelling.specs.Write.{rowAnswer, Small}
+use Rattle.spelling.specs.Demands.{writer, Fitting, RoundTrip, SlicesWriter}
+use Rattle.spelling.specs.EndToEnd.{Wrote, WrittenBack, ReadBack, ReadsBack}
+use Rattle.genotype.proofs.RowLaws.{row-length, row-append}
+use Rattle.spelling.proofs.WriteLaws.{row-parallel}
+use Rattle.spelling.proofs.Slices.{slices-writer}
 use Rattle.spelling.proofs.RoundTrip.{round-trip}
 
 -- ---- the list of three slices
@@ -58,38 +53,38 @@ begins vs l {k = k} e f = rw e (take-over vs l k (sym f))
 
 -- ---- the two contracts together
 
-module _ (n m p : List ℕ) (major minor : ℕ) (out : List ℕ) (at k : ℕ) (out′ : List ℕ) (w : WritesRow n m p major minor out at (Done k) out′)
-    (s : SmallWhereDone n (Done k)) where
+module _ {n m p : List ℕ} {major minor : ℕ} {out : List ℕ} {at k : ℕ} {out′ : List ℕ} (w : Wrote n m p major minor out at k out′) where
   answered : rowAnswer n m p (from44 major minor) out at ≡ says 0 (k ∷ [])
-  unfolding writePaper
-  answered = sym (w .answer)
+  answered = sym (w .row .answer) ∙ w .done
 
   one-length : Parallel n m p
   one-length = row-parallel n m p (from44 major minor) out at (ap numberOf answered)
 
-  as-list : rowAnswer n m p (from44 major minor) out at ≡ listAnswer (rowOf n m p) (from44 major minor) out at
-  as-list = row-list n m p (from44 major minor) out at (one-length .missing) (one-length .phased)
+  as-list : (writePaper (w .answer) ≡ writer major minor (rowOf n m p) out at .answer) × (out′ ≡ writer major minor (rowOf n m p) out at .output)
+  unfolding SlicesWriter
+  as-list = slices-writer n m p major minor out at (w .answer) out′ one-length (w .row)
 
-  -- what the writer leaves reads as the list written
-  pub written-back : readingOf (take k (drop at out′)) ≡ list (rowOf n m p)
-  unfolding RoundTrip writer writePaper
-  written-back =
-      reads-means _ _ .1
-      (rw (w .bytes, as-list) (round-trip major minor (rowOf n m p) out at k (row-fits n m p (s .small refl)) (sym as-list ∙ answered)))
+  fitting : Fitting (rowOf n m p)
+  fitting = row-fits n m p (w .small .small (ap numberOf (w .done)))
 
-  -- the reader, given that and slices of one length that are long enough, answers and leaves that list
-  pub read-back : (n₂ m₂ p₂ : List ℕ) (r : Read) (n₂′ m₂′ p₂′ : List ℕ) → length n₂ ≡ length m₂ → length n₂ ≡ length p₂ → length n ≤ length n₂
-      → ReadsText (take k (drop at out′)) n₂ m₂ p₂ r n₂′ m₂′ p₂′ → ReadBack n m p r n₂′ m₂′ p₂′
-  read-back n₂ m₂ p₂ r n₂′ m₂′ p₂′ e f h g =
-      let l = row-length n m p one-length in
-      by l (reads-list (take k (drop at out′)) n₂ m₂ p₂ (rowOf n m p) written-back e f (omega arith) g)
-    where
-      by : length (rowOf n m p) ≡ length n → Holds (rowOf n m p) n₂ m₂ p₂ r n₂′ m₂′ p₂′ → ReadBack n m p r n₂′ m₂′ p₂′
-      by l held =
-          record {
-            answer = rw l at (held .answer);
-            row =
-                rw
-                (begins _ n₂ (held .numbers) (numbersOf-length _ ∙ l), begins _ m₂ (held .missing) (missingOf-length _ ∙ l), begins _ p₂ (held .phased) (phasedOf-length _ ∙ l))
-                (columns-row (rowOf n m p));
-          }
+pub written-back : WrittenBack
+unfolding WrittenBack RoundTrip
+written-back n m p major minor out at k out′ w =
+    let s = as-list w in
+    rw (s .1) (round-trip major minor (rowOf n m p) out at k (fitting w) (sym (s .0) ∙ w .done))
+
+pub reads-back : ReadsBack
+unfolding ReadsBack WrittenBack
+reads-back n m p major minor out at k out′ w n₂ m₂ p₂ r n₂′ m₂′ p₂′ q h g =
+    let l = row-length n m p (one-length w) in
+    by l (reads-list (take k (drop at out′)) n₂ m₂ p₂ (rowOf n m p) (reads-means _ _ .1 (written-back n m p major minor out at k out′ w)) (q .missing) (q .phased) (omega arith) g)
+  where
+    by : length (rowOf n m p) ≡ length n → Holds (rowOf n m p) n₂ m₂ p₂ r n₂′ m₂′ p₂′ → ReadBack n m p r n₂′ m₂′ p₂′
+    by l held =
+        record {
+          answer = rw l at (held .answer);
+          row =
+              rw
+              (begins _ n₂ (held .numbers) (numbersOf-length _ ∙ l), begins _ m₂ (held .missing) (missingOf-length _ ∙ l), begins _ p₂ (held .phased) (phasedOf-length _ ∙ l))
+              (columns-row (rowOf n m p));
+        }

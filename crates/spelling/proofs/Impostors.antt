@@ -1,11 +1,10 @@
--- Three writers that the demands refuse, each on one small input: one phased 0, in the format 4.4, and an output of one byte that is
--- not `0`. Assumes nothing.
-use Prim.Native.Nat.{ℕ, _+_, _≤_}
+-- Writers that the demands refuse, each on one small input: one phased 0, in the format 4.4, and an output of one byte that is not `0`;
+-- or an empty list. Assumes nothing.
+use Prim.Native.Nat.{ℕ, _+_}
 use mathlib.Core.Path.{_≡_, refl, sym, ap, _∙_}
 use mathlib.Core.Bool.{Bool, true, false}
 use mathlib.Core.List.{List, [], _∷_}
 use native.Mathlib.Omega.{arith}
-use native.Mathlib.Decide.{decLe}
 use lib.ListN.{length, take}
 use Rattle.text.specs.Answer.{Answer, says, numberOf}
 use Rattle.text.specs.Over.{overAt}
@@ -15,27 +14,10 @@ use Rattle.genotype.specs.declared.allele.Allele.{Allele}
 use Rattle.genotype.proofs.PhasedLaws.{phased-none}
 use Rattle.spelling.specs.Spelling.{shaped}
 use Rattle.spelling.specs.Permitted.{Permitted, TheShortest}
-use Rattle.spelling.specs.Demands.{Writer, writer, Exact, WritesShortest}
+use Rattle.spelling.specs.Demands.{Writer, WritesShortest, empty, beyond, unspelled, Refusals, Exact, RoundTrip}
 use Rattle.genotype.proofs.RowLaws.{sound-there, unsound-none, unsound-more}
 use Rattle.spelling.proofs.SpellLaws.{body-number, list-none, list-bare, spell-sound}
-use Rattle.spelling.proofs.Shortest.{spelled-shortest}
-use Rattle.spelling.proofs.Exact.{exact, writes-shortest}
-
--- ---- the one shortest text of those with a property
-
-module _ {Q : List ℕ → Type 0} {t u : List ℕ} (p : TheShortest Q t) (q : TheShortest Q u) where
-  one-shortest : (t ≡ u → ⊥) → ⊥
-  one-shortest n =
-      let l = p .least u (q .has) (λ e. n (sym e)) in
-      let m = q .least t (p .has) n in
-      omega arith
-
-  one-length : length t ≤ length u
-  one-length =
-      elim (decLe (length t) (length u)) [
-        | yes h ↦ h
-        | no h ↦ absurd (one-shortest (λ e. let k = ap length e in omega arith))
-      ]
+use Rattle.spelling.proofs.Shortest.{one-text, spelled-shortest}
 
 -- ---- the input
 
@@ -59,7 +41,7 @@ zero-shortest late =
 must-write : (write : Writer) → Exact write → (numberOf (write 4 4 phased-zero blank 0 .answer) ≡ 0 → ⊥) → ⊥
 unfolding Exact blank
 must-write write e refused =
-    e 4 4 phased-zero blank 0 (omega arith) (λ t p. let l = one-length p (zero-shortest _) in omega arith) .0 refused (48 ∷ []) (zero-shortest _ .has)
+    e 4 4 phased-zero blank 0 (omega arith) (λ t p. let l = ap length (one-text p (zero-shortest _)) in omega arith) .0 refused (48 ∷ []) (zero-shortest _ .has)
 
 -- ---- refusing all
 
@@ -67,6 +49,27 @@ must-write write e refused =
 pub refuses-all-writer : (write : Writer) → ((major minor : ℕ) (as′ : List Allele) (out : List ℕ) (at : ℕ) → numberOf (write major minor as′ out at .answer) ≡ 0 → ⊥)
     → Exact write → ⊥
 refuses-all-writer write refuses e = must-write write e (refuses 4 4 phased-zero blank 0)
+
+-- the round trip alone lets it in, since it speaks only of what was written
+pub refuses-all-trips : (write : Writer) → ((major minor : ℕ) (as′ : List Allele) (out : List ℕ) (at : ℕ) → numberOf (write major minor as′ out at .answer) ≡ 0 → ⊥)
+    → RoundTrip write
+unfolding RoundTrip
+refuses-all-trips write refuses major minor as′ out at n f e = absurd (refuses major minor as′ out at (ap numberOf e))
+
+-- ---- one number for all refusals
+
+-- a writer that refuses always alike does not meet the refusals: an empty list, beyond an output and at its start
+pub one-number : (write : Writer) (a : Answer)
+    → ((major minor : ℕ) (as′ : List Allele) (out : List ℕ) (at : ℕ) → (numberOf (write major minor as′ out at .answer) ≡ 0 → ⊥) → write major minor as′ out at .answer ≡ a)
+    → Refusals write → ⊥
+unfolding Refusals
+one-number write a alike r =
+    let x = r 4 4 [] [] 1 (says 6 []) (λ z. omega arith) .1 (beyond (omega arith)) in
+    let y = r 4 4 [] [] 0 (says 11 []) (λ z. omega arith) .1 (unspelled (omega arith) empty) in
+    let p = alike 4 4 [] [] 1 (λ z. let n = ap numberOf x in omega arith) in
+    let q = alike 4 4 [] [] 0 (λ z. let n = ap numberOf y in omega arith) in
+    let z : _≡_ {A = ℕ} 6 11 = ap numberOf (sym x ∙ p ∙ sym q ∙ y) in
+    omega arith
 
 -- ---- writing nothing
 
@@ -87,7 +90,7 @@ touches-nothing write same claim e = must-write write e by
     by : numberOf (write 4 4 phased-zero blank 0 .answer) ≡ 0 → ⊥
     by z =
         let w = claim 4 4 phased-zero blank 0 z in
-        one-shortest (w .shortest) (zero-shortest _) (λ f. changes (w .text) f (sym (w .bytes) ∙ same 4 4 phased-zero blank 0))
+        changes (w .text) (one-text (w .shortest) (zero-shortest _)) (sym (w .bytes) ∙ same 4 4 phased-zero blank 0)
 
 -- ---- a count that is not the text's
 
@@ -101,19 +104,19 @@ unfolding oneMore
 same-number (says n []) = refl
 same-number (says n (k ∷ vs)) = refl
 
-abbrev pub overcounting : Writer
-overcounting major minor as′ out at = record { answer = oneMore (writer major minor as′ out at .answer); output = writer major minor as′ out at .output }
+abbrev pub overcounting : Writer → Writer
+overcounting write major minor as′ out at = record { answer = oneMore (write major minor as′ out at .answer); output = write major minor as′ out at .output }
 
--- a writer that counts a byte more doesn't write the spelling
-pub invented-count : WritesShortest overcounting → ⊥
+-- a writer that counts a byte more than one that writes the spelling doesn't write it
+pub invented-count : (write : Writer) → Exact write → WritesShortest write → WritesShortest (overcounting write) → ⊥
 unfolding WritesShortest oneMore
-invented-count claim = must-write writer exact by
+invented-count write e writes claim = must-write write e by
   where
-    by : numberOf (writer 4 4 phased-zero blank 0 .answer) ≡ 0 → ⊥
+    by : numberOf (write 4 4 phased-zero blank 0 .answer) ≡ 0 → ⊥
     by z =
-        let w = writes-shortest 4 4 phased-zero blank 0 z in
-        let v = claim 4 4 phased-zero blank 0 (same-number (writer 4 4 phased-zero blank 0 .answer) ∙ z) in
-        let m : oneMore (writer 4 4 phased-zero blank 0 .answer) ≡ says 0 ((length (w .text) + 1) ∷ []) = ap oneMore (w .count) in
+        let w = writes 4 4 phased-zero blank 0 z in
+        let v = claim 4 4 phased-zero blank 0 (same-number (write 4 4 phased-zero blank 0 .answer) ∙ z) in
+        let m : oneMore (write 4 4 phased-zero blank 0 .answer) ≡ says 0 ((length (w .text) + 1) ∷ []) = ap oneMore (w .count) in
         let k : length (w .text) + 1 ≡ length (v .text) = cc (m, v .count) in
-        let l = one-length (v .shortest) (w .shortest) in
+        let l = ap length (one-text (v .shortest) (w .shortest)) in
         omega arith

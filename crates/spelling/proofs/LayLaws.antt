@@ -12,7 +12,7 @@ use Rattle.genotype.specs.declared.allele.Allele.{Allele}
 use Rattle.genotype.specs.Answers.{Parallel}
 use Rattle.spelling.specs.Spelling.{alleleText, listText}
 use Rattle.genotype.specs.Row.{alleleAt, rowOf}
-use Rattle.spelling.specs.Put.{PutsAt}
+use Rattle.spelling.specs.Inner.{PutsAt}
 use Rattle.spelling.proofs.SpellLaws.{list-none, list-more}
 use Rattle.genotype.proofs.RowLaws.{row-here, row-past}
 use Rattle.spelling.proofs.PutLaws.{put-place, put-bytes}

@@ -9,7 +9,9 @@ pub mod PaperLaws
 pub mod Determined
 pub mod PermittedLaws
 pub mod Shortest
+pub mod RefusalLaws
 pub mod Exact
+pub mod OneWriter
 pub mod RoundTrip
 pub mod Impostors
 pub mod Slices

@@ -14,9 +14,9 @@ use Rattle.text.specs.Over.{over, overAt}
 use Rattle.text.proofs.Lists.{rest-all, rest-put, rest-back}
 use Rattle.genotype.specs.declared.allele.Allele.{Allele}
 use Rattle.spelling.specs.Spelling.{from44, spell}
-use Rattle.spelling.specs.Put.{fitsAt}
+use Rattle.spelling.specs.Inner.{fitsAt, WritesList}
 use Rattle.spelling.specs.Paper.{writePaper}
-use Rattle.spelling.specs.Write.{spelledAnswer, textOf, WritesList, listAnswer, listLeft}
+use Rattle.spelling.specs.Write.{spelledAnswer, textOf, listAnswer, listLeft}
 use Rattle.spelling.specs.Demands.{writer}
 use Rattle.spelling.specs.declared.write.Write.{Write}
 use Rattle.spelling.specs.declared.write.Write.the-variants as W

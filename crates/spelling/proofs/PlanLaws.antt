@@ -16,7 +16,7 @@ use Rattle.genotype.specs.declared.allele.Allele.{Allele}
 use Rattle.genotype.proofs.PhasedLaws.{phased-none, phased-more}
 use Rattle.spelling.specs.Spelling.{bodyText, alleleText, listText, text, bad, phasing, empty, shaped, spell}
 use Rattle.genotype.specs.Row.{isSound, firstUnsound}
-use Rattle.spelling.specs.Tally.{begun, shortened, counted, tallied, tallyFrom, tallyOf, shapeOf, planOf}
+use Rattle.spelling.specs.Inner.{begun, shortened, counted, tallied, tallyFrom, tallyOf, shapeOf, planOf}
 use Rattle.spelling.specs.declared.tally.Tally.{Tally}
 use Rattle.spelling.specs.declared.tally.Plan.{Plan}
 use Rattle.spelling.specs.declared.tally.Plan.the-variants as P

@@ -18,7 +18,7 @@ use Rattle.decimal.specs.Shortest.{shortest}
 use Rattle.genotype.specs.Means.{markByte}
 use Rattle.genotype.specs.declared.allele.Allele.{Allele}
 use Rattle.spelling.specs.Spelling.{bodyText, alleleText}
-use Rattle.spelling.specs.Put.{fitsAt, PutsAt}
+use Rattle.spelling.specs.Inner.{fitsAt, PutsAt}
 use Rattle.spelling.proofs.SpellLaws.{body-dot, body-number, bare-text, marked-text, marked-length}
 
 -- ---- without its mark

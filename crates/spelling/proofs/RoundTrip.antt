@@ -14,8 +14,8 @@ use Rattle.genotype.specs.Means as M
 use Rattle.genotype.specs.Means.{Body, Later, Means}
 use Rattle.genotype.specs.declared.allele.Allele.{Allele}
 use Rattle.spelling.specs.Permitted.{Plainly, dot, number, Following, none, more, Permitted, bare, marked}
-use Rattle.spelling.specs.Demands.{writer, Fitting, WritesShortest, RoundTrip}
-use Rattle.spelling.proofs.Exact.{writes-shortest}
+use Rattle.spelling.specs.Demands.{Writer, writer, WritesShortest, Meets, Fitting, RoundTrip, Follow}
+use Rattle.spelling.proofs.Exact.{meets, exactly}
 
 -- ---- a permitted spelling means its list
 
@@ -45,9 +45,17 @@ permitted-means f (marked e m p l) = M.marked m (plainly-body (fitting-head f) p
 
 -- ---- what is written means the list
 
-pub round-trip : RoundTrip writer
+-- of any writer
+trips : (write : Writer) → Meets write → RoundTrip write
 unfolding RoundTrip WritesShortest
-round-trip major minor as′ out at n f e =
-    let w = writes-shortest major minor as′ out at (ap numberOf e) in
+trips write m major minor as′ out at n f e =
+    let w = m .writes-shortest major minor as′ out at (ap numberOf e) in
     let k : n ≡ length (w .text) = cc (w .count) in
     rw (w .bytes, take-overAt at (w .text) out n (omega arith) k) (permitted-means f (w .shortest .has))
+
+pub round-trip : RoundTrip writer
+round-trip = trips writer meets
+
+pub follow : Follow
+unfolding Follow
+follow write m = (exactly write m, trips write m)

@@ -7,7 +7,7 @@ use native.Mathlib.Omega.{arith}
 use lib.ListN.{length, drop}
 use Rattle.genotype.specs.declared.allele.Allele.{Allele}
 use Rattle.genotype.specs.Answers.{Parallel}
-use Rattle.spelling.specs.Tally.{begun, tallied, tallyFrom, tallyOf}
+use Rattle.spelling.specs.Inner.{begun, tallied, tallyFrom, tallyOf}
 use Rattle.genotype.specs.Row.{alleleAt, rowOf}
 use Rattle.genotype.proofs.RowLaws.{row-here, row-past}
 use Rattle.spelling.specs.declared.tally.Tally.{Tally}

@@ -7,6 +7,8 @@ use mathlib.Core.List.{List, [], _∷_}
 use mathlib.Core.Option.{Option, some, none}
 use native.Mathlib.Omega.{arith}
 use lib.ListN.{length}
+use Rattle.text.specs.Same.{same}
+use Rattle.text.proofs.SameLaws.{same-is, same-other}
 use Rattle.genotype.specs.Means.{allPhased}
 use Rattle.genotype.specs.declared.allele.Allele.{Allele}
 use Rattle.spelling.specs.Spelling.{listText, text, shaped, spell}
@@ -16,13 +18,26 @@ use Rattle.genotype.proofs.RowLaws.{unsound-more, sound-parts}
 use Rattle.spelling.proofs.SpellLaws.{list-bare, list-marked, marked-longer, spell-none, spell-sound, spell-bad}
 use Rattle.spelling.proofs.PermittedLaws.{plainly-only, plainly-has, plainly-sound, following-only, following-has, following-sound}
 
+-- ---- the one shortest text of those with a property
+
+pub one-text : {Q : List ℕ → Type 0} {t u : List ℕ} → TheShortest Q t → TheShortest Q u → t ≡ u
+one-text {t = t} {u} p q = by (same t u) refl
+  where
+    by : (b : Bool) → same t u ≡ b → t ≡ u
+    by true e = same-is t u e
+    by false e =
+        let n = same-other t u e in
+        let l = p .least u (q .has) (λ f. n (sym f)) in
+        let m = q .least t (p .has) n in
+        absurd (omega arith)
+
 -- ---- a permitted spelling is one of two texts
 
-data OneOfTwo (late : Bool) (a : Allele) (as′ : List Allele) (u : List ℕ) : Type 0 where
+pub data OneOfTwo (late : Bool) (a : Allele) (as′ : List Allele) (u : List ℕ) : Type 0 where
   is-bare : a .phased ≡ allPhased as′ → u ≡ listText true (a ∷ as′) → OneOfTwo late a as′ u
   is-marked : late ≡ true → u ≡ listText false (a ∷ as′) → OneOfTwo late a as′ u
 
-one-of-two : {late : Bool} {a : Allele} {as′ : List Allele} {u : List ℕ} → Permitted late (a ∷ as′) u → OneOfTwo late a as′ u
+pub one-of-two : {late : Bool} {a : Allele} {as′ : List Allele} {u : List ℕ} → Permitted late (a ∷ as′) u → OneOfTwo late a as′ u
 one-of-two {a = a} {as′} (bare e p f) = is-bare e (rw (plainly-only p, following-only f) (sym (list-bare a as′)))
 one-of-two {a = a} {as′} (marked l m p f) = is-marked l (rw (m, plainly-only p, following-only f) (sym (list-marked a as′)))
 
@@ -34,7 +49,7 @@ same-yes true false e = sym e
 same-yes false true e = e
 same-yes false false e = refl
 
-same-no : (p q : Bool) → Bool·beq p q ≡ false → p ≡ q → ⊥
+pub same-no : (p q : Bool) → Bool·beq p q ≡ false → p ≡ q → ⊥
 same-no true true e f = let z : _≡_ {A = ℕ} 0 1 = cc in omega arith
 same-no true false e f = let z : _≡_ {A = ℕ} 0 1 = cc in omega arith
 same-no false true e f = let z : _≡_ {A = ℕ} 0 1 = cc in omega arith
@@ -78,7 +93,7 @@ spelled-shortest late (a ∷ as′) t e = judged-by (firstUnsound 0 (a ∷ as′
 
 -- ---- a list with a permitted spelling is spelled
 
-permitted-sound : {late : Bool} {as′ : List Allele} {u : List ℕ} → Permitted late as′ u → firstUnsound 0 as′ ≡ none
+pub permitted-sound : {late : Bool} {as′ : List Allele} {u : List ℕ} → Permitted late as′ u → firstUnsound 0 as′ ≡ none
 permitted-sound (bare e p f) = unsound-more 0 _ _ (plainly-sound p) ∙ following-sound 1 f
 permitted-sound (marked l m p f) = unsound-more 0 _ _ (plainly-sound p) ∙ following-sound 1 f
 

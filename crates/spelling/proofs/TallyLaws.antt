@@ -7,7 +7,7 @@ use borrow.Author.Tests.{lt-ltb, le-ltb, le-leb, lt-leb, eq-eqb, ne-eqb, not-tru
 use Rattle.genotype.specs.declared.allele.Allele.{Allele}
 use Rattle.spelling.specs.Spelling.{bodyText}
 use Rattle.genotype.specs.Row.{isSound}
-use Rattle.spelling.specs.Tally.{begun, shortened, counted, tallied, shapeOf, planOf}
+use Rattle.spelling.specs.Inner.{begun, shortened, counted, tallied, shapeOf, planOf}
 use Rattle.spelling.specs.declared.tally.Tally.{Tally}
 use Rattle.spelling.specs.declared.tally.Plan.{Plan}
 use Rattle.spelling.specs.declared.tally.Plan.the-variants as P

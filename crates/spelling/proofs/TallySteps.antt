@@ -12,7 +12,7 @@ use Rattle.text.specs.Pick.{pick}
 use Rattle.genotype.specs.declared.allele.Allele.{Allele}
 use Rattle.spelling.specs.Spelling.{listText, text, spell}
 use Rattle.genotype.specs.Row.{firstUnsound}
-use Rattle.spelling.specs.Tally.{begun, tallied, tallyFrom, tallyOf, shapeOf, planOf}
+use Rattle.spelling.specs.Inner.{begun, tallied, tallyFrom, tallyOf, shapeOf, planOf}
 use Rattle.spelling.specs.declared.tally.Tally.{Tally}
 use Rattle.spelling.specs.declared.tally.Plan.the-variants as P
 use Rattle.spelling.proofs.SpellLaws.{marked-longer, spell-none, spell-bad}

@@ -18,11 +18,11 @@ use Rattle.genotype.specs.declared.allele.Allele.{Allele}
 use Rattle.genotype.proofs.AnswerLaws.{row-even, row-uneven-nm, row-uneven-np, row-done-nm, row-done-np}
 use Rattle.genotype.specs.Answers.{Parallel}
 use Rattle.spelling.specs.Spelling.{listText, from44, Spelled, bad, phasing, empty, spell}
-use Rattle.spelling.specs.Tally.{tallyOf, planOf}
+use Rattle.spelling.specs.Inner.{tallyOf, planOf, WritesList}
 use Rattle.spelling.specs.Write.{Small}
 use Rattle.genotype.specs.Row.{rowOf}
 use Rattle.spelling.specs.Paper.{writePaper}
-use Rattle.spelling.specs.Write.{spelledAnswer, textOf, WritesList, listAnswer, rowAnswer, WritesRow, SmallWhereDone}
+use Rattle.spelling.specs.Write.{spelledAnswer, textOf, listAnswer, rowAnswer, WritesRow, SmallWhereDone}
 use Rattle.spelling.specs.declared.tally.Tally.{Tally}
 use Rattle.spelling.specs.declared.tally.Plan.{Plan}
 use Rattle.spelling.specs.declared.tally.Plan.the-variants as P

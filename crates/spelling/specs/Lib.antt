@@ -1,8 +1,8 @@
 pub mod Spelling
 pub mod Permitted
-pub mod Tally
-pub mod Put
 pub mod Paper
 pub mod Write
+pub mod Inner
+pub mod Promises
 pub mod Demands
 pub mod EndToEnd

@@ -5,7 +5,7 @@ use mathlib.Core.Bool.{Bool}
 use mathlib.Core.List.{List, [], _∷_}
 use lib.ListN.{length, getD, drop}
 use Rattle.text.specs.Answer.{Answer, says, numberOf}
-use Rattle.text.specs.Over.{roomAnswer, laid, laidAt}
+use Rattle.text.specs.Over.{roomAnswer, laidAt}
 use Rattle.text.specs.Place.{placed}
 use Rattle.genotype.specs.Answers as G
 use Rattle.genotype.specs.Row.{rowOf}
@@ -26,13 +26,6 @@ textOf (text t) = t
 textOf (bad k) = []
 textOf phasing = []
 textOf empty = []
-
--- ---- at the start of an output
-
--- only an answer that is done changes it
-pub record WritesList (as′ : List Allele) (late : Bool) (l : List ℕ) (r : Write) (l′ : List ℕ) : Type 0 where
-  pub answer : writePaper r ≡ spelledAnswer (spell late as′) l
-  pub bytes : l′ ≡ laid (spelledAnswer (spell late as′) l) (textOf (spell late as′)) l
 
 -- ---- from a place of an output
 

@@ -6,8 +6,8 @@ use text::copy::copy;
 ghost use mathlib.Core.Path.{_≡_};
 ghost use Rattle.text.specs.Over.{Writes};
 ghost use Rattle.genotype.specs.Means.{markByte};
-ghost use Rattle.spelling.specs.Spelling.{bodyText, alleleText};
-ghost use Rattle.spelling.specs.Put.{PutsAt};
+ghost use Rattle.spelling.specs.Spelling.{bodyText};
+ghost use Rattle.spelling.specs.Promises.{PutsAllele};
 
 // Writes an allele without its mark at the start of the output: `.` or its number.
 fn put_body(a: Allele, out: &mut [u8]) -> Written
@@ -29,7 +29,7 @@ fn mark_byte(phased: bool) -> u8
 // Writes an allele, without its mark where it is bare, at the place `at`, and returns the place past it; where it does not
 // fit there, nothing is written and the place is returned.
 pub fn put_allele(a: Allele, bare: bool, out: &mut [u8], at: usize) -> usize
-    ensures { λ r. ⌜ PutsAt (alleleText bare a) at (now (out .entry)) r (now (out .exit)) ⌝ }
+    ensures { λ r. ⌜ PutsAllele a bare (now (out .entry)) at r (now (out .exit)) ⌝ }
 {
     if at > out.len() {
         return at;

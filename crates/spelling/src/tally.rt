@@ -7,7 +7,8 @@ ghost use Prim.Native.Nat.{_≤_};
 ghost use lib.ListN.{length};
 ghost use Rattle.spelling.specs.Spelling.{bodyText, from44};
 ghost use Rattle.genotype.specs.Row.{isSound};
-ghost use Rattle.spelling.specs.Tally.{begun, shortened, tallied, planOf};
+ghost use Rattle.spelling.specs.Inner.{shortened};
+ghost use Rattle.spelling.specs.Promises.{Begins, Adds, Plans};
 
 pub struct Tally {
     // Whether each missing allele has the number 0, and the index of the first that has not.
@@ -38,7 +39,7 @@ pub enum Plan {
 
 // Before the first allele, with so much room.
 pub fn begin(room: usize) -> Tally
-    ensures { λ r. ⌜ r ≡ begun room ⌝ }
+    ensures { λ r. ⌜ Begins room r ⌝ }
 {
     Tally {
         sound: true,
@@ -83,7 +84,7 @@ fn shorten(tally: Tally, n: usize) -> Tally
 
 // After the allele with index k. The first is counted without its mark.
 pub fn add(tally: Tally, a: Allele, k: usize) -> Tally
-    ensures { λ r. ⌜ r ≡ tallied tally a k ⌝ }
+    ensures { λ r. ⌜ Adds tally a k r ⌝ }
 {
     let mut t = tally;
     if !t.sound {
@@ -120,7 +121,7 @@ fn from_44(major: u32, minor: u32) -> bool
 
 // How a list of `count` alleles with this tally is to be written. The first mark takes a byte more.
 pub fn plan_for(tally: Tally, count: usize, major: u32, minor: u32) -> Plan
-    ensures { λ r. ⌜ r ≡ planOf tally count (from44 major minor) ⌝ }
+    ensures { λ r. ⌜ Plans tally count major minor r ⌝ }
 {
     if count == 0 {
         return Plan::Empty;

@@ -12,10 +12,9 @@ ghost use lib.ListN.{length};
 ghost use Rattle.genotype.specs.Answers.{Parallel};
 ghost use Rattle.text.specs.Over.{over};
 ghost use Rattle.spelling.specs.Spelling.{listText, from44};
-ghost use Rattle.spelling.specs.Tally.{tallyOf};
-ghost use Rattle.spelling.specs.Write.{Small};
+ghost use Rattle.spelling.specs.Inner.{tallyOf, WritesList};
+ghost use Rattle.spelling.specs.Write.{Small, WritesRow, SmallWhereDone};
 ghost use Rattle.genotype.specs.Row.{alleleAt, rowOf};
-ghost use Rattle.spelling.specs.Write.{WritesList, WritesRow, SmallWhereDone};
 
 // The answer of the writer.
 pub enum Write {

@@ -3,7 +3,7 @@
 use Prim.Native.Nat.{ℕ, zero, suc, _≤_, _<_}
 use mathlib.Core.Path.{_≡_, refl, sym, ap, _∙_}
 use mathlib.Core.Bool.{true, and-eq-true-iff}
-use mathlib.Core.List.{List, [], _∷_, _++_, append-assoc, flatten}
+use mathlib.Core.List.{List, [], _∷_, _++_, flatten}
 use mathlib.Core.Option.{Option, some, none}
 use native.Mathlib.Omega.{arith}
 use native.Mathlib.Decide.{ℕ-discrete}
@@ -12,6 +12,7 @@ use lib.ListN.{length, take, drop, length-drop, length-append, take-append-drop}
 use lib.Seq.{take-at, drop-at}
 use Rattle.text.specs.Utf8.{isChar, allChars, charSize, before, charsFrom, charsOf, there, isUtf8}
 use Rattle.text.specs.Demands.{Characters, Cuts, Parted}
+use Rattle.text.proofs.TextLaws.{no-characters, both-are}
 use Rattle.text.proofs.CharLaws.{size-fits, size-char, char-size, chars-stop, chars-next, alone-char, char-alone, High, more, tail-high}
 
 -- ---- what is cut is a list of characters
@@ -27,7 +28,7 @@ one-more c h k = record { each = rw (h, k .each); whole = ap (λ (t : List ℕ).
 first-is : (t : List ℕ) (cs : List (List ℕ)) → charsOf t ≡ some cs
     → ((ds : List (List ℕ)) → (charSize t ≡ 0 → ⊥) → charsOf (drop (charSize t) t) ≡ some ds → Characters (drop (charSize t) t) ds) → Characters t cs
 unfolding charsOf charsFrom allChars flatten before
-first-is [] cs e rest = let q : [] ≡ cs = cc in rw (← q) (record { each = refl; whole = refl })
+first-is [] cs e rest = let q : [] ≡ cs = cc in rw (← q) no-characters
 first-is (a ∷ s) cs e rest = by (ℕ-discrete (charSize (a ∷ s)) 0)
   where
     t : List ℕ
@@ -89,32 +90,24 @@ pub is-text : (t : List ℕ) → Text t → isUtf8 t ≡ true
 unfolding isUtf8 there
 is-text t k = rw (cuts .only t (k .chars) (k .are))
 
--- a byte below 80 hex is a text
+-- the empty text is one
+pub nil-text : isUtf8 [] ≡ true
+nil-text = is-text [] (record { chars = []; are = no-characters })
+
+-- so is a byte below 80 hex
 pub byte-text : (b : ℕ) → b < 0x80 → isUtf8 (b ∷ []) ≡ true
 unfolding allChars flatten
 byte-text b h = is-text (b ∷ []) (record { chars = (b ∷ []) ∷ []; are = record { each = rw (alone-char b h); whole = refl } })
 
-flatten-append : (xs ys : List (List ℕ)) → flatten (xs ++ ys) ≡ flatten xs ++ flatten ys
-unfolding flatten
-flatten-append [] ys = refl
-flatten-append (x ∷ xs) ys = ap (λ (t : List ℕ). x ++ t) (flatten-append xs ys) ∙ sym (append-assoc x (flatten xs) (flatten ys))
+text-more : (d : List ℕ) {o : List ℕ} → isChar d ≡ true → Text o → Text (d ++ o)
+text-more d x t = record { chars = d ∷ t .chars; are = one-more d x (t .are) }
 
-all-append : (xs ys : List (List ℕ)) → allChars xs ≡ true → allChars ys ≡ true → allChars (xs ++ ys) ≡ true
-unfolding allChars
-all-append [] ys p q = q
-all-append (x ∷ xs) ys p q = let b = and-eq-true-iff (isChar x) (allChars xs) .0 p in rw (b .0, all-append xs ys (b .1) q)
+text-append : {a c : List ℕ} → Text a → Text c → Text (a ++ c)
+text-append x y = record { chars = x .chars ++ y .chars; are = both-are (x .are) (y .are) }
 
-part-join : (a c : List ℕ) (b : ℕ) → b < 0x80 → Text a → Text c → Text (a ++ b ∷ c)
-unfolding allChars flatten
-part-join a c b h x y =
-    record {
-      chars = x .chars ++ (b ∷ []) ∷ y .chars;
-      are =
-          record {
-            each = all-append (x .chars) _ (x .are .each) (rw (alone-char b h, y .are .each));
-            whole = flatten-append (x .chars) _ ∙ (rw (x .are .whole, y .are .whole));
-          };
-    }
+-- two texts are one, one after the other
+pub append-text : (a c : List ℕ) → isUtf8 a ≡ true → isUtf8 c ≡ true → isUtf8 (a ++ c) ≡ true
+append-text a c p q = is-text (a ++ c) (text-append (text-is a p) (text-is c q))
 
 -- the two sides of the byte
 record Sides (a c : List ℕ) : Type 0 where
@@ -135,9 +128,6 @@ carried [] a rest b c h k e = record { others = a; here = refl; rests = e }
 carried (y ∷ r) [] rest b c h (more p k) e = absurd (let q : y ≡ b = cc in omega arith)
 carried (y ∷ r) (z ∷ a) rest b c h (more p k) e = carried-more (cc) (carried r a rest b c h k (cc))
 
-text-more : (d : List ℕ) {o : List ℕ} → isChar d ≡ true → Text o → Text (d ++ o)
-text-more d x t = record { chars = d ∷ t .chars; are = one-more d x (t .are) }
-
 -- the first character is the byte, or stands before it
 first-side : (e : List ℕ) (es : List (List ℕ)) (a : List ℕ) (b : ℕ) (c : List ℕ) → b < 0x80 → isChar e ≡ true → allChars es ≡ true
     → e ++ flatten es ≡ a ++ b ∷ c → ((o : List ℕ) → Characters (o ++ b ∷ c) es → Sides o c) → Sides a c
@@ -148,7 +138,7 @@ first-side (z ∷ r) es [] b c h x y w rest =
     let n : r ≡ [] = char-alone b r h (rw q at x) in
     let t : r ++ flatten es ≡ c = cc in
     record {
-      left = record { chars = []; are = record { each = refl; whole = refl } };
+      left = record { chars = []; are = no-characters };
       right = record { chars = es; are = record { each = y; whole = rw n at t } };
     }
 first-side (z ∷ r) es (u ∷ a) b c h x y w rest =
@@ -168,5 +158,5 @@ parted-at (e ∷ es) a b c h k =
 pub parted : Parted isUtf8
 parted a c b h = (
   λ e. (let s = text-is (a ++ b ∷ c) e in let p = parted-at (s .chars) a b c h (s .are) in (is-text a (p .left), is-text c (p .right))),
-  λ e. is-text (a ++ b ∷ c) (part-join a c b h (text-is a (e .0)) (text-is c (e .1))),
+  λ e. is-text (a ++ b ∷ c) (text-append (text-is a (e .0)) (text-more (b ∷ []) (alone-char b h) (text-is c (e .1)))),
 )

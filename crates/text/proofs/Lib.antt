@@ -10,6 +10,7 @@ pub mod FirstLaws
 pub mod ByteLaws
 pub mod SpaceLaws
 pub mod FoundLaws
+pub mod TextLaws
 pub mod Demands
 pub mod Determined
 pub mod CaseLaws

@@ -55,8 +55,7 @@ use Rattle.genotype.specs.declared.allele.Allele.{Allele}
 use Rattle.genotype.specs.declared.read.Read.{Read}
 use Rattle.genotype.proofs.read.Read as N
 use Rattle.genotype.proofs.read.Read.Laws as N′
-use Rattle.alleles.specs.Turn.{turnAt}
-use Rattle.alleles.specs.Fill.{fillOn, filledRow}
+use Rattle.alleles.specs.Inner.{turnAt, fillOn, filledRow}
 use Rattle.alleles.specs.declared.read.Turn.{Turn}
 use Rattle.alleles.proofs.Row.{R, IsR, yes-is, no-is, tail, typed, takes, puts, answered}
 use Rattle.alleles.proofs.Turns.{has-room, fill-done, fill-more}

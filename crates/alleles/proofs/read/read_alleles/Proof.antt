@@ -48,7 +48,7 @@ use Rattle.genotype.proofs.read.judge as judge
 use Rattle.genotype.proofs.read.judge.Symbol as judge-def
 use Rattle.genotype.proofs.read.judge.Symbol.{name as #genotype·read·judge}
 use Rattle.genotype.proofs.read.judge.Met as judge-thm
-use Rattle.alleles.specs.Fill.{filledRow}
+use Rattle.alleles.specs.Inner.{filledRow}
 use Rattle.alleles.specs.Read.{ReadsRow}
 use Rattle.alleles.proofs.Row.{R, is-lowered, answered}
 use Rattle.alleles.proofs.FillLaws.{reads-row}

@@ -49,7 +49,7 @@ use Rattle.genotype.proofs.read.judge_checked as judge
 use Rattle.genotype.proofs.read.judge_checked.Symbol as judge-def
 use Rattle.genotype.proofs.read.judge_checked.Symbol.{name as #genotype·read·judge-checked}
 use Rattle.genotype.proofs.read.judge_checked.Met as judge-thm
-use Rattle.alleles.specs.Fill.{filledRow}
+use Rattle.alleles.specs.Inner.{filledRow}
 use Rattle.alleles.specs.Read.{ReadsRowChecked}
 use Rattle.alleles.proofs.Row.{R, is-lowered, answered}
 use Rattle.alleles.proofs.FillLaws.{reads-row-checked}

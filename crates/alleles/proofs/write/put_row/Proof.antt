@@ -50,7 +50,7 @@ use borrow.Author.Needs.{scaled-fits}
 use Rattle.genotype.specs.declared.allele.Allele.{Allele}
 use Rattle.genotype.proofs.allele.Allele as T
 use Rattle.genotype.proofs.allele.Allele.Laws as T′
-use Rattle.alleles.specs.Put.{putAll}
+use Rattle.alleles.specs.Inner.{putAll}
 use Rattle.alleles.specs.declared.write.Decision.{Decision}
 use Rattle.alleles.proofs.Rest.{LentRest, lends-rest, rest-back}
 use Rattle.alleles.proofs.Row.{R, IsR, blank, tail, typed, made, takes, puts-back}

@@ -48,7 +48,7 @@ use borrow.Author.Needs.{scaled-fits}
 use Rattle.genotype.specs.declared.allele.Allele.{Allele}
 use Rattle.genotype.proofs.allele.Allele as T
 use Rattle.genotype.proofs.allele.Allele.Laws as T′
-use Rattle.spelling.specs.Tally.{begun, tallied, tallyOf}
+use Rattle.spelling.specs.Inner.{begun, tallied, tallyOf}
 use Rattle.spelling.specs.declared.tally.Tally.{Tally}
 use Rattle.spelling.proofs.tally.Tally as TT
 use Rattle.spelling.proofs.tally.Tally.Laws as TT′

@@ -46,7 +46,7 @@ use denote.Exit.{yes}
 use Rattle.genotype.specs.declared.allele.Allele.{Allele}
 use Rattle.spelling.specs.Spelling.{from44}
 use Rattle.spelling.specs.Demands.{Fitting}
-use Rattle.spelling.specs.Write.{WritesList}
+use Rattle.spelling.specs.Inner.{WritesList}
 use Rattle.spelling.specs.declared.write.Write.{Write}
 use Rattle.spelling.specs.declared.write.Write.the-variants as V′
 use Rattle.spelling.proofs.write.Write as W₀

@@ -43,15 +43,13 @@ use denote.Triple.Walked.{says, Stays, gave-slice, stay-dropped, walkOf, goes-ga
 use denote.Exit.{yes}
 use Rattle.genotype.specs.declared.allele.Allele.{Allele}
 use Rattle.spelling.specs.Spelling.{from44}
-use Rattle.spelling.specs.Tally.{tallyOf}
-use Rattle.spelling.specs.Write.{WritesList}
+use Rattle.spelling.specs.Inner.{tallyOf, WritesList}
 use Rattle.spelling.specs.declared.tally.Tally.{Tally}
 use Rattle.spelling.proofs.tally.Tally as TT
 use Rattle.spelling.proofs.tally.Tally.Laws as TT′
 use Rattle.spelling.proofs.write.Write as W₀
 use Rattle.spelling.proofs.write.Write.Laws as W′
-use Rattle.alleles.specs.Decide.{decided}
-use Rattle.alleles.specs.Put.{putAll}
+use Rattle.alleles.specs.Inner.{decided, putAll}
 use Rattle.alleles.specs.declared.write.Decision.{Decision}
 use Rattle.alleles.proofs.Row.{R}
 use Rattle.alleles.proofs.Tallying.{Tallies, IsTally, written, is-written, tally-typed}

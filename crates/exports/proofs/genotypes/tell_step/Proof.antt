@@ -30,6 +30,12 @@ enum-told-3 c = search needs
 tell-none-requires-3 : tie.Need-tell-none-requires-3
 tell-none-requires-3 c κs = search needs
 
+enum-told-4 : tie.Need-enum-told-4
+enum-told-4 c = search needs
+
+tell-none-requires-4 : tie.Need-tell-none-requires-4
+tell-none-requires-4 c κs = search needs
+
 same-length : tie.Need-same-length
 same-length c = search needs
 
@@ -54,5 +60,11 @@ same-length-4 c = search needs
 returns-4 : tie.Need-returns-4
 returns-4 c = search (needs, arms, cases)
 
+same-length-5 : tie.Need-same-length-5
+same-length-5 c = search needs
+
+returns-5 : tie.Need-returns-5
+returns-5 c = search (needs, arms, cases)
+
 pub tell-step-spec : {M : Type 1} → statement M
-tell-step-spec = tie.close (tie.spec enum-known-step tell-allele-requires enum-told tell-none-requires enum-told-2 tell-none-requires-2 enum-told-3 tell-none-requires-3 same-length returns same-length-2 returns-2 same-length-3 returns-3 same-length-4 returns-4)
+tell-step-spec = tie.close (tie.spec enum-known-step tell-allele-requires enum-told tell-none-requires enum-told-2 tell-none-requires-2 enum-told-3 tell-none-requires-3 enum-told-4 tell-none-requires-4 same-length returns same-length-2 returns-2 same-length-3 returns-3 same-length-4 returns-4 same-length-5 returns-5)

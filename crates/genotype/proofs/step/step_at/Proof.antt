@@ -10,6 +10,9 @@ returns c = search (needs, laws)
 returns-2 : tie.Need-returns-2
 returns-2 c = search (needs, laws)
 
+returns-3 : tie.Need-returns-3
+returns-3 c = search (needs, laws)
+
 add-next-mark : tie.Need-add-next-mark
 add-next-mark c = search (needs, laws)
 
@@ -34,8 +37,8 @@ part-read-body-end c = search (needs, laws)
 read-body-requires : tie.Need-read-body-requires
 read-body-requires c κs = search (needs, laws)
 
-returns-3 : tie.Need-returns-3
-returns-3 c = search (needs, laws)
+returns-4 : tie.Need-returns-4
+returns-4 c = search (needs, laws)
 
 add-read-body-2 : tie.Need-add-read-body-2
 add-read-body-2 c = search (needs, laws)
@@ -52,8 +55,8 @@ part-read-body-end-2 c = search (needs, laws)
 read-body-requires-2 : tie.Need-read-body-requires-2
 read-body-requires-2 c κs = search (needs, laws)
 
-returns-4 : tie.Need-returns-4
-returns-4 c = search (needs, laws)
+returns-5 : tie.Need-returns-5
+returns-5 c = search (needs, laws)
 
 sub-read-body-3 : tie.Need-sub-read-body-3
 sub-read-body-3 c = search (needs, laws)
@@ -73,8 +76,8 @@ implied-requires c κs = search (needs, laws)
 read-body-requires-3 : tie.Need-read-body-requires-3
 read-body-requires-3 c κs = search (needs, laws)
 
-returns-5 : tie.Need-returns-5
-returns-5 c = search (needs, laws)
+returns-6 : tie.Need-returns-6
+returns-6 c = search (needs, laws)
 
 pub step-at-spec : {M : Type 1} → statement M
 step-at-spec =
@@ -82,6 +85,7 @@ step-at-spec =
     (tie.spec
     returns
     returns-2
+    returns-3
     add-next-mark
     next-mark-requires
     shared-slice-read-b
@@ -90,17 +94,17 @@ step-at-spec =
     part-read-body-start
     part-read-body-end
     read-body-requires
-    returns-3
+    returns-4
     add-read-body-2
     sub-read-body-2
     part-read-body-start-2
     part-read-body-end-2
     read-body-requires-2
-    returns-4
+    returns-5
     sub-read-body-3
     part-read-body-start-3
     part-read-body-end-3
     add-implied
     implied-requires
     read-body-requires-3
-    returns-5)
+    returns-6)

@@ -1,5 +1,5 @@
 -- `info::reader::step_from` meets its contract, by a walk: the readers that `open` and `moved` return are each held in a local and passed on, and `open`, `moved` and `next` are cited; the column is Copy and kept for the exit. Assumes nothing.
-use mathlib.Core.Path.{_≡_, ap, _∙_, refl}
+use mathlib.Core.Path.{ap, _∙_, refl}
 use Prim.Native.Nat.{ℕ, _<_, _^_}
 use mathlib.Core.List.{List, [], _∷_}
 use lib.ListN.{length}
@@ -37,7 +37,7 @@ use denote.Triple.Walked.{says, Stays, stay-none, stay-none-slice, walkOf, goes-
 use denote.Exit.{yes}
 use denote.Triple.Clauses.{ensured, lasts}
 use Rattle.info.specs.Info.{stepAnswer}
-use Rattle.info.specs.Paper.{stepPaper}
+use Rattle.info.specs.Promises.{TakesStep, Opens, Moves, TakesNext}
 use Rattle.info.specs.declared.reader.Reader.{Reader}
 use Rattle.info.specs.declared.step.Step.{Step}
 use Rattle.info.proofs.reader.Reader as T
@@ -97,20 +97,8 @@ module _ {M : Type 1} (𝓤 : URA M) (H : Heap 𝓤) (A : Atoms 𝓤) (W : Given
   abbrev Own : Fml
   Own = ShrSlice (named 0) κ u8 .own s (v ∷ [])
 
-  -- what is said of what each call returns, and of the result
-  abbrev AtStart : Reader → Type 0
-  AtStart r = (r .column ≡ s) × (r .at ≡ 0)
-
-  abbrev AtPlace : Reader → Reader → Type 0
-  AtPlace r d = (d .column ≡ r .column) × (d .at ≡ n)
-
-  abbrev FoundAt : Reader → Step → Type 0
-  FoundAt d t = stepPaper t ≡ stepAnswer (now (d .column)) (d .at)
-
-  abbrev Found : Step → Type 0
-  Found t = stepPaper t ≡ stepAnswer (now s) n
-
-  found : (r d : Reader) (t : Step) → AtStart r → AtPlace r d → FoundAt d t → Found t
+  -- what is said of what each call returns gives what is said of the result
+  found : (r d : Reader) (t : Step) → Opens s r → Moves r n d → TakesNext d t → TakesStep (now s) n t
   found r d t e e′ e″ = e″ ∙ (ap (λ (x : RefT (List ℕ)). stepAnswer (now x) (d .at)) (e′ .0 ∙ e .0) ∙ ap (stepAnswer (now s)) (e′ .1))
 
   -- the call of `open`: what it is passed, what it asks, and what is known of its result
@@ -123,8 +111,8 @@ module _ {M : Type 1} (𝓤 : URA M) (H : Heap 𝓤) (A : Atoms 𝓤) (W : Given
       move ! (1 ∷ []) $ fsplit ! $ move ! (1 ∷ []) $ drop ! $ use1 W (‵ Own ⊛ ‵ Own) (shr-slice-copy 𝓤 H A W (named 0) κ u8 .twice s (v ∷ [])) $ split ! $
       nothing ! $ move ! (1 ∷ 0 ∷ []) $ fjoin ! $ move ! (2 ∷ 0 ∷ []) $ use2 W (raw (Open 𝓤 H A mem run .pre to-open)) (qed W ((‵ (flft κ q) ⊛ ‵ ftrue) ∷ ‵ (owns (ShrSlice (named 0) κ u8 ∷ []) (s, tt) (v ∷ [], tt)) ∷ []) ∵ join ! $ frame ! $ done !) $ frame ! $ done !
 
-  open-said : (r : Reader) → ent 𝓤 (ensured 𝓤 H A opened.ended (opened.clauses 𝓤 H A mem run) (κ, tt) (s, tt) tt r) (fact 𝓤 (AtStart r))
-  open-said r = exE 𝓤 _ (λ ws. snd∗ 𝓤 (sem 𝓤 H A (lasts opened.ended (κ, tt) (s, tt) ws)) (fact 𝓤 (AtStart r)))
+  open-said : (r : Reader) → ent 𝓤 (ensured 𝓤 H A opened.ended (opened.clauses 𝓤 H A mem run) (κ, tt) (s, tt) tt r) (fact 𝓤 (Opens s r))
+  open-said r = exE 𝓤 _ (λ ws. snd∗ 𝓤 (sem 𝓤 H A (lasts opened.ended (κ, tt) (s, tt) ws)) (fact 𝓤 (Opens s r)))
 
   -- the call of `moved`, at the struct r with the machine value u
   abbrev to-moved : Reader → Val → Moved 𝓤 H A mem run .Ghost
@@ -135,8 +123,8 @@ module _ {M : Type 1} (𝓤 : URA M) (H : Heap 𝓤) (A : Atoms 𝓤) (W : Given
       qed W (‵ (B (κ, tt) .own r (u ∷ [])) ∷ (‵ (flft κ q) ⊛ ‵ ftrue) ∷ []) ∵
       nothing ! $ owned ! usize (Is usize) (uint-makes 𝓤 H A W w64) n _ (refl, ok) $ fjoin ! $ move ! (1 ∷ 0 ∷ []) $ fjoin ! $ move ! (1 ∷ 0 ∷ []) $ join ! $ frame ! $ done !
 
-  moved-said : (r d : Reader) → ent 𝓤 (ensured 𝓤 H A moved.ended (moved.clauses 𝓤 H A mem run) (κ, tt) (r, (n, tt)) tt d) (fact 𝓤 (AtPlace r d))
-  moved-said r d = exE 𝓤 _ (λ ws. snd∗ 𝓤 (sem 𝓤 H A (lasts moved.ended (κ, tt) (r, (n, tt)) ws)) (fact 𝓤 (AtPlace r d)))
+  moved-said : (r d : Reader) → ent 𝓤 (ensured 𝓤 H A moved.ended (moved.clauses 𝓤 H A mem run) (κ, tt) (r, (n, tt)) tt d) (fact 𝓤 (Moves r n d))
+  moved-said r d = exE 𝓤 _ (λ ws. snd∗ 𝓤 (sem 𝓤 H A (lasts moved.ended (κ, tt) (r, (n, tt)) ws)) (fact 𝓤 (Moves r n d)))
 
   -- the call of `next`, at the struct d with the machine value u
   abbrev to-next : Reader → Val → Next 𝓤 H A mem run .Ghost
@@ -145,10 +133,10 @@ module _ {M : Type 1} (𝓤 : URA M) (H : Heap 𝓤) (A : Atoms 𝓤) (W : Given
   goes-next : (d : Reader) (u : Val) → ent 𝓤 (⋆ 𝓤 H A (‵ (B (κ, tt) .own d (u ∷ [])) ∷ (‵ (flft κ q) ⊛ ‵ ftrue) ∷ [])) (Next 𝓤 H A mem run .pre (to-next d u))
   goes-next d u = qed W (‵ (B (κ, tt) .own d (u ∷ [])) ∷ (‵ (flft κ q) ⊛ ‵ ftrue) ∷ []) ∵ nothing ! $ move ! (1 ∷ 0 ∷ []) $ fjoin ! $ move ! (1 ∷ 0 ∷ []) $ join ! $ frame ! $ done !
 
-  next-said : (d : Reader) (t : Step) → ent 𝓤 (ensured 𝓤 H A next.ended (next.clauses 𝓤 H A mem run) (κ, tt) (d, tt) tt t) (fact 𝓤 (FoundAt d t))
-  next-said d t = exE 𝓤 _ (λ ws. snd∗ 𝓤 (sem 𝓤 H A (lasts next.ended (κ, tt) (d, tt) ws)) (fact 𝓤 (FoundAt d t)))
+  next-said : (d : Reader) (t : Step) → ent 𝓤 (ensured 𝓤 H A next.ended (next.clauses 𝓤 H A mem run) (κ, tt) (d, tt) tt t) (fact 𝓤 (TakesNext d t))
+  next-said d t = exE 𝓤 _ (λ ws. snd∗ 𝓤 (sem 𝓤 H A (lasts next.ended (κ, tt) (d, tt) ws)) (fact 𝓤 (TakesNext d t)))
 
-  exits : (t : Step) (u : Val) → Found t → ent 𝓤 (⋆ 𝓤 H A (‵ (S.the-row .own t (u ∷ [])) ∷ (‵ (flft κ q) ⊛ ‵ ftrue) ∷ ‵ Own ∷ [])) (Post u)
+  exits : (t : Step) (u : Val) → TakesStep (now s) n t → ent 𝓤 (⋆ 𝓤 H A (‵ (S.the-row .own t (u ∷ [])) ∷ (‵ (flft κ q) ⊛ ‵ ftrue) ∷ ‵ Own ∷ [])) (Post u)
   exits t u e =
       qed W (‵ (S.the-row .own t (u ∷ [])) ∷ (‵ (flft κ q) ⊛ ‵ ftrue) ∷ ‵ Own ∷ []) ∵
       suffices ! _ (ends-at 𝓤 H A stepped.ended stayed (stepped.clauses 𝓤 H A mem run) W (((κ, tt), (q, tt), tt, (s, (n, tt)), at), tt) u t (tt, (tt, tt)) (tt, (tt, tt))) $ says ! e $
@@ -162,21 +150,21 @@ module _ {M : Type 1} (𝓤 : URA M) (H : Heap 𝓤) (A : Atoms 𝓤) (W : Given
         move ! (10 ∷ []) $ use1 W (raw (Open 𝓤 H A mem run .pre to-open) ⊛ ‵ Own) goes-open $ split ! $
         calls-at ! fm (Open 𝓤 H A mem run) known-open to-open (and-then ! (load ! (from ! (stop !)) (look ! 8 refl)) (no-more !)) (λ u.
         use1 W (later (some (λ (r : Reader). ((‵ (flft κ q) ⊛ ‵ ftrue) ⊛ ‵ (B (κ, tt) .own r (u ∷ []))) ⊛ raw (ensured 𝓤 H A opened.ended (opened.clauses 𝓤 H A mem run) (κ, tt) (s, tt) tt r)))) (id⊢ 𝓤 _) $ await ! tt $ pick ! (λ r.
-        split ! $ move ! (1 ∷ []) $ use1 W (raw (fact 𝓤 (AtStart r))) (open-said r) $ heard ! (AtStart r) (λ e. split ! $ move ! (1 ∷ []) $
+        split ! $ move ! (1 ∷ []) $ use1 W (raw (fact 𝓤 (Opens s r))) (open-said r) $ heard ! (Opens s r) (λ e. split ! $ move ! (1 ∷ []) $
         -- [what the struct owns; the token; what s owns; room for _4; …; room for _3; …; _2; …; _1; …; room for _0; …]
         peeks ! (B (κ, tt)) (Is (B (κ, tt))) (shows 𝓤 H A (B (κ, tt))) r (u ∷ []) (λ is.
         land ! (from ! (stop !)) (init ! 3 refl (LL.lawful (T.the-type αᵉ) (T′.the-laws αᵉ) 𝓤 H A W .typed r _ is .0)) $
         use2 W (raw (Moved 𝓤 H A mem run .pre (to-moved r u))) (goes-moved r u) $
         calls-at ! fm (Moved 𝓤 H A mem run) known-moved (to-moved r u) (and-then ! (load ! (from ! (stop !)) (look ! 2 refl)) (and-then ! (load ! (from ! (stop !)) (look ! 6 refl)) (no-more !))) (λ u′.
         use1 W (later (some (λ (d : Reader). ((‵ (flft κ q) ⊛ ‵ ftrue) ⊛ ‵ (B (κ, tt) .own d (u′ ∷ []))) ⊛ raw (ensured 𝓤 H A moved.ended (moved.clauses 𝓤 H A mem run) (κ, tt) (r, (n, tt)) tt d)))) (id⊢ 𝓤 _) $ await ! tt $ pick ! (λ d.
-        split ! $ move ! (1 ∷ []) $ use1 W (raw (fact 𝓤 (AtPlace r d))) (moved-said r d) $ heard ! (AtPlace r d) (λ e′. split ! $ move ! (1 ∷ []) $
+        split ! $ move ! (1 ∷ []) $ use1 W (raw (fact 𝓤 (Moves r n d))) (moved-said r d) $ heard ! (Moves r n d) (λ e′. split ! $ move ! (1 ∷ []) $
         -- [what the struct owns; the token; what s owns; _4; …; room for _3; …; _2; …; _1; …; room for _0; …]
         peeks ! (B (κ, tt)) (Is (B (κ, tt))) (shows 𝓤 H A (B (κ, tt))) d (u′ ∷ []) (λ is′.
         land ! (from ! (stop !)) (init ! 5 refl (LL.lawful (T.the-type αᵉ) (T′.the-laws αᵉ) 𝓤 H A W .typed d _ is′ .0)) $
         use2 W (raw (Next 𝓤 H A mem run .pre (to-next d u′))) (goes-next d u′) $
         calls-at ! fm (Next 𝓤 H A mem run) known-next (to-next d u′) (and-then ! (load ! (from ! (stop !)) (look ! 4 refl)) (no-more !)) (λ u″.
         use1 W (later (some (λ (t : Step). ((‵ (flft κ q) ⊛ ‵ ftrue) ⊛ ‵ (S.the-row .own t (u″ ∷ []))) ⊛ raw (ensured 𝓤 H A next.ended (next.clauses 𝓤 H A mem run) (κ, tt) (d, tt) tt t)))) (id⊢ 𝓤 _) $ await ! tt $ pick ! (λ t.
-        split ! $ move ! (1 ∷ []) $ use1 W (raw (fact 𝓤 (FoundAt d t))) (next-said d t) $ heard ! (FoundAt d t) (λ e″. split ! $ move ! (1 ∷ []) $
+        split ! $ move ! (1 ∷ []) $ use1 W (raw (fact 𝓤 (TakesNext d t))) (next-said d t) $ heard ! (TakesNext d t) (λ e″. split ! $ move ! (1 ∷ []) $
         -- [the result; the token; what s owns; _4; …; _3; …; _2; …; _1; …; room for _0; …]
         peeks ! S.the-row (Is S.the-row) (shows 𝓤 H A S.the-row) t (u″ ∷ []) (λ is″.
         land ! (from ! (stop !)) (init ! 11 refl (EL.lawful S.the-type S′.the-laws 𝓤 H A W tt .typed t _ is″ .0)) $

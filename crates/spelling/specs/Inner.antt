@@ -1,17 +1,23 @@
--- What one pass over a list of alleles gathers, and the plan made of it: promises between the functions that judge a list.
--- Assumes nothing.
+-- What functions promise each other, also those of `alleles`. Assumes nothing.
 use Prim.Native.Nat.{ℕ, _+_, _-_}
+use mathlib.Core.Path.{_≡_}
 use mathlib.Core.Bool.{Bool, true, false, _&&_, Bool·beq}
 use mathlib.Core.List.{List, [], _∷_}
 use lib.ListN.{length}
 use lib.Dec.{leb, ltb, eqb}
 use Rattle.text.specs.Pick.{pick}
-use Rattle.genotype.specs.declared.allele.Allele.{Allele}
-use Rattle.spelling.specs.Spelling.{bodyText}
+use Rattle.text.specs.Over.{overAt, laid}
 use Rattle.genotype.specs.Row.{isSound}
+use Rattle.genotype.specs.declared.allele.Allele.{Allele}
+use Rattle.spelling.specs.Spelling.{bodyText, spell}
+use Rattle.spelling.specs.Paper.{writePaper}
+use Rattle.spelling.specs.Write.{spelledAnswer, textOf}
 use Rattle.spelling.specs.declared.tally.Tally.{Tally}
 use Rattle.spelling.specs.declared.tally.Plan.{Plan}
 use Rattle.spelling.specs.declared.tally.Plan.the-variants as P
+use Rattle.spelling.specs.declared.write.Write.{Write}
+
+-- ---- what one pass over a list of alleles gathers
 
 unfoldable pub begun : ℕ → Tally
 begun room = record { sound = true; bad = 0; first = true; later = true; fits = true; left = room }
@@ -43,6 +49,8 @@ tallyFrom t k (a ∷ as′) = tallyFrom (tallied t a k) (k + 1) as′
 unfoldable pub tallyOf : ℕ → List Allele → Tally
 tallyOf room as′ = tallyFrom (begun room) 0 as′
 
+-- ---- the plan made of it
+
 -- 11, 12, then by the first phasing: 13, and 17 last
 unfoldable pub shapeOf : Tally → Bool → Plan
 shapeOf t late =
@@ -50,3 +58,26 @@ shapeOf t late =
 
 unfoldable pub planOf : Tally → ℕ → Bool → Plan
 planOf t count late = pick (eqb count 0) P.Empty (pick (t .sound) (shapeOf t late) (P.Bad (t .bad)))
+
+-- ---- what is written at a place, where it fits
+
+unfoldable pub fitsAt : List ℕ → ℕ → List ℕ → Bool
+fitsAt vs at l = leb (at + length vs) (length l)
+
+-- the place past it, or the place where it does not fit
+abbrev pub placeAfter : List ℕ → ℕ → List ℕ → ℕ
+placeAfter vs at l = pick (fitsAt vs at l) (at + length vs) at
+
+abbrev pub bytesAfter : List ℕ → ℕ → List ℕ → List ℕ
+bytesAfter vs at l = pick (fitsAt vs at l) (overAt at vs l) l
+
+pub record PutsAt (vs : List ℕ) (at : ℕ) (l : List ℕ) (r : ℕ) (l′ : List ℕ) : Type 0 where
+  pub place : r ≡ placeAfter vs at l
+  pub bytes : l′ ≡ bytesAfter vs at l
+
+-- ---- a list written at the start of an output
+
+-- only an answer that is done changes it
+pub record WritesList (as′ : List Allele) (late : Bool) (l : List ℕ) (r : Write) (l′ : List ℕ) : Type 0 where
+  pub answer : writePaper r ≡ spelledAnswer (spell late as′) l
+  pub bytes : l′ ≡ laid (spelledAnswer (spell late as′) l) (textOf (spell late as′)) l

@@ -1,0 +1,24 @@
+-- That the functions over rows of records are the reader and the writer of which demand 3 is proved (docs/STATEMENTS.md). Assumes
+-- nothing.
+use Prim.Native.Nat.{ℕ}
+use mathlib.Core.Path.{_≡_}
+use mathlib.Core.List.{List}
+use Rattle.genotype.specs.Paper.{readPaper}
+use Rattle.genotype.specs.Demands.{reader}
+use Rattle.genotype.specs.declared.allele.Allele.{Allele}
+use Rattle.genotype.specs.declared.read.Read.{Read}
+use Rattle.spelling.specs.Paper.{writePaper}
+use Rattle.spelling.specs.Demands.{writer}
+use Rattle.spelling.specs.declared.write.Write.{Write}
+use Rattle.alleles.specs.Read.{ReadsRow}
+use Rattle.alleles.specs.Write.{WritesAlleles}
+
+-- `read_alleles` answers and leaves what the reader does
+unfoldable pub RowReader : Type 0
+RowReader = (t : List ℕ) (row : List Allele) (r : Read) (row′ : List Allele) → ReadsRow t row r row′
+    → (readPaper r ≡ reader t row .answer) × (row′ ≡ reader t row .row)
+
+-- `write_alleles` answers and leaves what the writer does
+unfoldable pub AllelesWriter : Type 0
+AllelesWriter = (as′ : List Allele) (major minor : ℕ) (out : List ℕ) (at : ℕ) (r : Write) (out′ : List ℕ) → WritesAlleles as′ major minor out at r out′
+    → (writePaper r ≡ writer major minor as′ out at .answer) × (out′ ≡ writer major minor as′ out at .output)

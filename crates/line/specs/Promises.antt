@@ -1,0 +1,22 @@
+-- The promise of each public function of this crate, by its name, and that each determines the outcome. Assumes nothing.
+use Prim.Native.Nat.{ℕ}
+use mathlib.Core.Path.{_≡_}
+use mathlib.Core.List.{List}
+use Rattle.text.specs.Outcome.{OneAnswer}
+use Rattle.text.specs.declared.range.Range.{Range}
+use Rattle.line.specs.Line.{readAnswer}
+use Rattle.line.specs.Place.{rangeOf}
+use Rattle.line.specs.Paper.{readPaper}
+use Rattle.line.specs.declared.read.Record.{Record}
+use Rattle.line.specs.declared.read.Read.{Read}
+use Rattle.line.specs.declared.place.Name.{Name}
+
+abbrev pub ReadsLine : List ℕ → ℕ → Read → Type 0
+ReadsLine s at r = readPaper r ≡ readAnswer s at
+
+abbrev pub GivesPlace : Record → Name → Range → Type 0
+GivesPlace line name r = r ≡ rangeOf line name
+
+pub record Determined : Type 0 where
+  pub read-line : (s : List ℕ) (at : ℕ) → OneAnswer (ReadsLine s at)
+  pub place-of : (line : Record) (name : Name) → OneAnswer (GivesPlace line name)

@@ -1,0 +1,47 @@
+-- The promise of each public function of this crate, by its name, and that each determines the outcome. Assumes nothing.
+use Prim.Native.Nat.{ℕ}
+use mathlib.Core.Path.{_≡_}
+use mathlib.Core.List.{List}
+use lib.ListN.{length}
+use Rattle.text.specs.Outcome.{OneAnswer, OneOutcome}
+use Rattle.pieces.specs.Paper.{stepPaper, nthPaper, endsPaper, entryPaper}
+use Rattle.pieces.specs.Pieces.{pieces, countOf, stepAnswer}
+use Rattle.pieces.specs.Nth.{nthAnswer}
+use Rattle.pieces.specs.Entries.{endsAnswer, entryAnswer}
+use Rattle.pieces.specs.Joined.{JoinsList}
+use Rattle.pieces.specs.Inner.{pastQuiet}
+use Rattle.pieces.specs.declared.step.Step.{Step}
+use Rattle.pieces.specs.declared.nth.Nth.{Nth}
+use Rattle.pieces.specs.declared.entries.Ends.{Ends}
+use Rattle.pieces.specs.declared.entries.Entry.{Entry}
+
+abbrev pub CountsByte : ℕ → List ℕ → ℕ → Type 0
+CountsByte b s r = r ≡ countOf b s
+
+abbrev pub CountsPieces : ℕ → List ℕ → ℕ → Type 0
+CountsPieces separator s r = r ≡ length (pieces separator s)
+
+abbrev pub PassesQuiet : ℕ → ℕ → List ℕ → ℕ → ℕ → Type 0
+PassesQuiet a b s at r = r ≡ pastQuiet a b s at
+
+abbrev pub FindsPiece : ℕ → List ℕ → ℕ → Step → Type 0
+FindsPiece separator s at r = stepPaper r ≡ stepAnswer separator s at
+
+abbrev pub FindsNth : ℕ → List ℕ → ℕ → Nth → Type 0
+FindsNth separator s n r = nthPaper r ≡ nthAnswer separator s n
+
+abbrev pub JudgesEnds : List ℕ → List ℕ → Ends → Type 0
+JudgesEnds t ends r = endsPaper r ≡ endsAnswer t ends
+
+abbrev pub FindsEntry : List ℕ → List ℕ → ℕ → Entry → Type 0
+FindsEntry t ends i r = entryPaper r ≡ entryAnswer t ends i
+
+pub record Determined : Type 0 where
+  pub count-byte : (b : ℕ) (s : List ℕ) → OneAnswer (CountsByte b s)
+  pub count-pieces : (separator : ℕ) (s : List ℕ) → OneAnswer (CountsPieces separator s)
+  pub past-quiet : (a b : ℕ) (s : List ℕ) (at : ℕ) → OneAnswer (PassesQuiet a b s at)
+  pub piece-at : (separator : ℕ) (s : List ℕ) (at : ℕ) → OneAnswer (FindsPiece separator s at)
+  pub piece-nth : (separator : ℕ) (s : List ℕ) (n : ℕ) → OneAnswer (FindsNth separator s n)
+  pub judge-ends : (t ends : List ℕ) → OneAnswer (JudgesEnds t ends)
+  pub entry-at : (t ends : List ℕ) (i : ℕ) → OneAnswer (FindsEntry t ends i)
+  pub put-joined : (separator : ℕ) (t ends l : List ℕ) → OneOutcome (JoinsList separator t ends l)
