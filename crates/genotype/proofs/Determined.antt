@@ -9,13 +9,12 @@ use Rattle.genotype.specs.declared.allele.Allele.{Allele}
 use Rattle.genotype.proofs.PaperLaws.{step-paper-injective, read-paper-injective}
 
 one-reading : (a : Answer) (as′ : List Allele) (n m p : List ℕ) → OneReading (Reads a as′ n m p)
-one-reading a as′ n m p r r′ n₁ n₂ m₁ m₂ p₁ p₂ u w =
-    (
-      read-paper-injective r r′ (u .answer ∙ sym (w .answer)),
-      u .numbers ∙ sym (w .numbers),
-      u .missing ∙ sym (w .missing),
-      u .phased ∙ sym (w .phased),
-    )
+one-reading a as′ n m p r r′ n₁ n₂ m₁ m₂ p₁ p₂ u w = (
+  read-paper-injective r r′ (u .answer ∙ sym (w .answer)),
+  u .numbers ∙ sym (w .numbers),
+  u .missing ∙ sym (w .missing),
+  u .phased ∙ sym (w .phased),
+)
 
 pub determined : Determined
 determined =
