@@ -8,8 +8,7 @@ use Rattle.text.specs.Answer.{Answer, says, numberOf}
 use Rattle.text.specs.Range.{rangeAt}
 use Rattle.text.specs.Same.{same}
 use Rattle.text.proofs.SameLaws.{same-self, same-not}
-use Rattle.line.specs.Line.{readAnswer}
-use Rattle.line.specs.Paper.{readPaper}
+use Rattle.line.specs.Promises.{ReadsLine}
 use Rattle.line.specs.declared.read.Record.{Record}
 use Rattle.line.specs.declared.read.Read.the-variants as R
 use Rattle.line.specs.declared.place.Name.{Name}
@@ -19,7 +18,7 @@ use Rattle.fields.specs.Fields.{dotOf, dotPlaces, fieldAnswer}
 use Rattle.fields.specs.Demands.{ReadsAs, other, dot-itself, dot-empty, dot-absent, Made, Finds, FieldFinds, OneFinder}
 use Rattle.fields.proofs.RecordLaws.{field-reads}
 
-read-recorded : (s : List ℕ) (at next : ℕ) (r : Record) → readPaper (R.Line r next) ≡ readAnswer s at → Recorded s at r
+read-recorded : (s : List ℕ) (at next : ℕ) (r : Record) → ReadsLine s at (R.Line r next) → Recorded s at r
 read-recorded s at next r m = recorded s at (sym m ∙ read-record refl)
 
 pub finds : Finds fieldAnswer

@@ -4,9 +4,9 @@ use mathlib.Core.Path.{_≡_}
 use mathlib.Core.List.{List, [], _∷_}
 use lib.ListN.{length, drop}
 use Rattle.text.specs.Answer.{Answer, says}
-use Rattle.line.specs.Line.{Ending, readAnswer}
-use Rattle.line.specs.Paper.{readPaper}
+use Rattle.line.specs.Line.{Ending}
 use Rattle.line.specs.Place.{columnOf, columnStart}
+use Rattle.line.specs.Promises.{ReadsLine}
 use Rattle.line.specs.Demands.{Begins}
 use Rattle.line.specs.declared.read.Record.{Record}
 use Rattle.line.specs.declared.read.Read.the-variants as R
@@ -31,7 +31,7 @@ pub data ReadsAs (n : Name) (start : ℕ) (c : List ℕ) : Answer → Type 0 whe
 -- the line reader made this record of the line at a place, which begins with these columns
 pub record Made (s : List ℕ) (at : ℕ) (r : Record) (cs : List (List ℕ)) : Type 0 where
   pub next : ℕ
-  pub read : readPaper (R.Line r next) ≡ readAnswer s at
+  pub read : ReadsLine s at (R.Line r next)
   pub ending : Ending
   pub rest : List ℕ
   pub begin : Begins (drop at s) cs ending rest
@@ -48,5 +48,5 @@ FieldFinds = (s : List ℕ) (at : ℕ) (r : Record) (cs : List (List ℕ)) → M
 
 -- two that do so give one answer for each field of a record that the line reader made
 unfoldable pub OneFinder : Type 0
-OneFinder = (find other : Finder) → Finds find → Finds other → (s : List ℕ) (at next : ℕ) (r : Record) → readPaper (R.Line r next) ≡ readAnswer s at
+OneFinder = (find other : Finder) → Finds find → Finds other → (s : List ℕ) (at next : ℕ) (r : Record) → ReadsLine s at (R.Line r next)
     → (n : Name) → find s r n ≡ other s r n
