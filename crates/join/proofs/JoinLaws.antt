@@ -30,8 +30,8 @@ use mathlib.Core.Logic.{inl, inr, ⊎-elim}
 use Rattle.line.proofs.ColumnLaws.{required-count, count-required}
 use Rattle.line.specs.Line.{required}
 use Rattle.pieces.specs.Pieces.{countOf, lacks, joined}
-use Rattle.pieces.specs.Entries.{rising, entryList, endsAnswer, startOf}
-use Rattle.pieces.specs.Joined.{JoinsList}
+use Rattle.pieces.specs.Entries.{rising, entryList}
+use Rattle.pieces.specs.Inner.{endsAnswer, startOf, JoinsList}
 use Rattle.pieces.specs.Paper.{endsPaper}
 use Rattle.pieces.specs.declared.entries.Ends.{Ends}
 use Rattle.pieces.specs.declared.entries.Ends.the-variants as N

@@ -17,7 +17,8 @@ ghost use Rattle.text.specs.Utf8.{isUtf8};
 ghost use Rattle.text.specs.Verdict.{fitted};
 ghost use Rattle.line.specs.Line.{required};
 ghost use Rattle.pieces.specs.Pieces.{lacks};
-ghost use Rattle.pieces.specs.Entries.{rising, entryList, startOf};
+ghost use Rattle.pieces.specs.Entries.{rising, entryList};
+ghost use Rattle.pieces.specs.Inner.{startOf};
 ghost use Rattle.join.specs.Join.{JoinsAt, isBad, columnsJudged, lineText, listAnswer};
 ghost use Rattle.join.specs.Paper.{joinedPaper};
 

@@ -21,8 +21,8 @@ use Rattle.text.proofs.CopyLaws.{room-fits, room-lacks}
 use Rattle.text.proofs.WrittenLaws.{Wrote, Lacked, writes-done, writes-short}
 use Rattle.text.proofs.Lists.{rest-all, rest-put, rest-back}
 use Rattle.pieces.specs.Pieces.{joined}
-use Rattle.pieces.specs.Entries.{rising, entryList, endsAnswer, entryAnswer as placeAnswer}
-use Rattle.pieces.specs.Joined.{JoinsList}
+use Rattle.pieces.specs.Entries.{rising, entryList}
+use Rattle.pieces.specs.Inner.{endsAnswer, entryAnswer as placeAnswer, JoinsList}
 use Rattle.pieces.specs.Paper.{endsPaper, entryPaper}
 use Rattle.pieces.specs.declared.entries.Ends.{Ends}
 use Rattle.pieces.specs.declared.entries.Ends.the-variants as N

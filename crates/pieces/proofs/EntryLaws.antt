@@ -14,7 +14,8 @@ use Rattle.text.specs.Answer.{says}
 use Rattle.text.specs.Range.{cut}
 use Rattle.text.specs.declared.range.Range.{Range}
 use Rattle.text.proofs.Lists.{here, cut-is}
-use Rattle.pieces.specs.Entries.{rising, entriesFrom, entryList, endsAnswer, startOf, placeAnswer, entryAnswer}
+use Rattle.pieces.specs.Entries.{rising, entriesFrom, entryList}
+use Rattle.pieces.specs.Inner.{endsAnswer, startOf, placeAnswer, entryAnswer}
 use Rattle.pieces.specs.Paper.{endsPaper, entryPaper}
 use Rattle.pieces.specs.declared.entries.Ends.{Ends}
 use Rattle.pieces.specs.declared.entries.Ends.the-variants as N

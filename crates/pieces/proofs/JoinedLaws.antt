@@ -16,8 +16,8 @@ use Rattle.text.proofs.CopyLaws.{room-fits, room-lacks, writes-fits}
 use Rattle.text.proofs.WrittenLaws.{Wrote, Lacked}
 use Rattle.text.proofs.Lists.{length-rest, rest-put, over-nil, over-append, overAt-nil, overAt-append, overAt-before, length-over, length-overAt}
 use Rattle.pieces.specs.Pieces.{joined}
-use Rattle.pieces.specs.Entries.{rising, entryList, endsAnswer, startOf}
-use Rattle.pieces.specs.Joined.{joinedAnswer, JoinsList}
+use Rattle.pieces.specs.Entries.{rising, entryList}
+use Rattle.pieces.specs.Inner.{endsAnswer, startOf, joinedAnswer, JoinsList}
 use Rattle.pieces.specs.Paper.{endsPaper, joinedPaper}
 use Rattle.pieces.specs.declared.entries.Ends.{Ends}
 use Rattle.pieces.specs.declared.entries.Ends.the-variants as N

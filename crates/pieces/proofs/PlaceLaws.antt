@@ -11,7 +11,8 @@ use mir.Val.{Fits}
 use lib.ListN.{length, getD, take, drop}
 use Rattle.text.specs.declared.range.Range.{Range}
 use Rattle.text.proofs.Lists.{cut-is}
-use Rattle.pieces.specs.Entries.{rising, entryList, entryAnswer}
+use Rattle.pieces.specs.Entries.{rising, entryList}
+use Rattle.pieces.specs.Inner.{entryAnswer}
 use Rattle.pieces.specs.Paper.{entryPaper}
 use Rattle.pieces.specs.declared.entries.Entry.{Entry}
 use Rattle.pieces.specs.declared.entries.Entry.the-variants as E

@@ -1,9 +1,17 @@
 -- What functions promise each other, here and in the crates above. Assumes nothing.
-use Prim.Native.Nat.{ℕ, _+_, _*_, _/_, _≤_, _<_}
+use Prim.Native.Nat.{ℕ, zero, suc, _+_, _-_, _*_, _/_, _≤_, _<_}
 use mathlib.Core.Path.{_≡_}
 use mathlib.Core.List.{List, [], _∷_}
 use lib.ListN.{length, getD, drop}
+use lib.Dec.{ltb}
+use Rattle.text.specs.Pick.{pick, within}
+use Rattle.text.specs.Answer.{Answer, says}
+use Rattle.text.specs.Over.{roomAnswer, laid}
 use Rattle.pieces.specs.Before.{beforeEither}
+use Rattle.pieces.specs.Pieces.{joined}
+use Rattle.pieces.specs.Entries.{entryList, ordered}
+use Rattle.pieces.specs.Paper.{joinedPaper}
+use Rattle.pieces.specs.declared.joined.Joined.{Joined}
 
 -- ---- where a piece ends
 
@@ -26,3 +34,34 @@ quietLength a b s = length (beforeEither a b s)
 -- the place past all whole blocks of 32 such bytes from the place `at` on
 unfoldable pub pastQuiet : ℕ → ℕ → List ℕ → ℕ → ℕ
 pastQuiet a b s at = at + 32 * (quietLength a b (drop at s) / 32)
+
+-- ---- the ends of an entry list, and one entry
+
+-- 16 where the ends fall or pass the text
+unfoldable pub endsAnswer : List ℕ → List ℕ → Answer
+endsAnswer t ends = ordered t ends (says 0 [])
+
+-- where entry i starts: the first at 0, each later one at the end before it
+unfoldable pub startOf : List ℕ → ℕ → ℕ
+startOf ends zero = 0
+startOf ends (suc i) = getD ends i 0
+
+-- the place from start to end in a text of n bytes, or 16
+unfoldable pub placeAnswer : ℕ → ℕ → ℕ → Answer
+placeAnswer start end n = pick (within start n end) (says 0 (start ∷ (end - start) ∷ [])) (says 16 [])
+
+-- 10 where there are not so many ends
+unfoldable pub entryAnswer : List ℕ → List ℕ → ℕ → Answer
+unfolding startOf
+entryAnswer t ends i = pick (ltb i (length ends)) (placeAnswer (startOf ends i) (getD ends i 0) (length t)) (says 10 [])
+
+-- ---- entries joined by a separator
+
+-- 16, then 17
+unfoldable pub joinedAnswer : ℕ → List ℕ → List ℕ → List ℕ → Answer
+joinedAnswer separator t ends l = ordered t ends (roomAnswer (joined separator (entryList t ends)) l)
+
+-- only an answer that is done changes the output
+pub record JoinsList (separator : ℕ) (t ends l : List ℕ) (r : Joined) (l′ : List ℕ) : Type 0 where
+  pub answer : joinedPaper r ≡ joinedAnswer separator t ends l
+  pub bytes : l′ ≡ laid (joinedAnswer separator t ends l) (joined separator (entryList t ends)) l

@@ -3,7 +3,6 @@ pub mod Pieces
 pub mod Before
 pub mod Nth
 pub mod Entries
-pub mod Joined
 pub mod Promises
 pub mod Inner
 pub mod Demands

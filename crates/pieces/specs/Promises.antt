@@ -7,9 +7,7 @@ use Rattle.text.specs.Outcome.{OneAnswer, OneOutcome}
 use Rattle.pieces.specs.Paper.{stepPaper, nthPaper, endsPaper, entryPaper}
 use Rattle.pieces.specs.Pieces.{pieces, countOf, stepAnswer}
 use Rattle.pieces.specs.Nth.{nthAnswer}
-use Rattle.pieces.specs.Entries.{endsAnswer, entryAnswer}
-use Rattle.pieces.specs.Joined.{JoinsList}
-use Rattle.pieces.specs.Inner.{pastQuiet}
+use Rattle.pieces.specs.Inner.{endsAnswer, entryAnswer, pastQuiet, JoinsList}
 use Rattle.pieces.specs.declared.step.Step.{Step}
 use Rattle.pieces.specs.declared.nth.Nth.{Nth}
 use Rattle.pieces.specs.declared.entries.Ends.{Ends}

@@ -3,7 +3,7 @@ use text::range::Range;
 ghost use mathlib.Core.Path.{_≡_};
 ghost use Prim.Native.Nat.{_≤_};
 ghost use lib.ListN.{length};
-ghost use Rattle.pieces.specs.Entries.{startOf};
+ghost use Rattle.pieces.specs.Inner.{startOf};
 ghost use Rattle.pieces.specs.Promises.{JudgesEnds, FindsEntry};
 
 // Whether ends make a list of entries.

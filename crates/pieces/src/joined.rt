@@ -13,7 +13,7 @@ ghost use lib.Dec.{leb};
 ghost use Rattle.text.specs.Over.{over, overAt};
 ghost use Rattle.pieces.specs.Pieces.{joined};
 ghost use Rattle.pieces.specs.Entries.{rising, entryList};
-ghost use Rattle.pieces.specs.Joined.{JoinsList};
+ghost use Rattle.pieces.specs.Inner.{JoinsList};
 
 // The answer of the writer.
 pub enum Joined {
