@@ -20,11 +20,12 @@ use Rattle.genotype.proofs.BrokenLaws.{reads-broken}
 
 -- ---- a text is empty, or means a list, or is broken
 
-gathered-some : (k : ℕ) (ps : List (Option Allele)) → gathered k ps ≡ empty → ⊥
+-- pieces never read as the empty text
+never-empty : (k : ℕ) (ps : List (Option Allele)) → gathered k ps ≡ empty → ⊥
 unfolding gathered with
-gathered-some k [] e = let z : _≡_ {A = ℕ} 0 1 = cc in omega arith
-gathered-some k (none ∷ ps) e = let z : _≡_ {A = ℕ} 0 1 = cc in omega arith
-gathered-some k (some a ∷ ps) e = by (gathered (k + 1) ps) refl e (gathered-some (k + 1) ps)
+never-empty k [] e = let z : _≡_ {A = ℕ} 0 1 = cc in omega arith
+never-empty k (none ∷ ps) e = let z : _≡_ {A = ℕ} 0 1 = cc in omega arith
+never-empty k (some a ∷ ps) e = by (gathered (k + 1) ps) refl e (never-empty (k + 1) ps)
   where
     by : (r : Reading) → gathered (k + 1) ps ≡ r → with a r ≡ empty → (gathered (k + 1) ps ≡ empty → ⊥) → ⊥
     by (list as′) g e n = let z : _≡_ {A = ℕ} 0 1 = cc in omega arith
@@ -33,7 +34,7 @@ gathered-some k (some a ∷ ps) e = by (gathered (k + 1) ps) refl e (gathered-so
 
 reading-empty : (t : List ℕ) → readingOf t ≡ empty → t ≡ []
 reading-empty [] e = refl
-reading-empty (b ∷ s) e = absurd (gathered-some 0 (partsOf (b ∷ s)) (sym (reading-some (b ∷ s) (λ z. omega arith)) ∙ e))
+reading-empty (b ∷ s) e = absurd (never-empty 0 (partsOf (b ∷ s)) (sym (reading-some (b ∷ s) (λ z. omega arith)) ∙ e))
 
 module _ (t : List ℕ) where
   means-some : {as′ : List Allele} → Means t as′ → t ≡ [] → ⊥
