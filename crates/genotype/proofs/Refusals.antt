@@ -17,6 +17,7 @@ use Rattle.genotype.proofs.JudgeLaws.{reading-some, reading-none}
 use Rattle.genotype.proofs.AnswerLaws.{answer-list, answer-short, answer-bad, answer-empty}
 use Rattle.genotype.proofs.MeansLaws.{reads-means, means-one}
 use Rattle.genotype.proofs.BrokenLaws.{reads-broken}
+use Rattle.genotype.proofs.Exact.{exact, untouched}
 
 -- ---- a text is empty, or means a list, or is broken
 
@@ -127,6 +128,10 @@ stands read w t row as′ m h = x .one (elim (ℕ-discrete (numberOf (read t row
   where
     x : ExactAt t row (read t row)
     x = w .exact t row (λ bs k. rw (means-one t bs as′ k m) h)
+
+-- ours meets the three
+pub meets : Meets reader
+meets = record { exact = exact; refusals = refusals; untouched = untouched }
 
 pub one-reader : OneReader
 unfolding OneReader Refusals Untouched
