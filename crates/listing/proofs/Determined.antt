@@ -1,91 +1,129 @@
--- Two outcomes that a contract allows are equal: a turn, its row and what was kept can be read back from their paper. Assumes nothing.
-use Prim.Native.Nat.{ℕ}
-use mathlib.Core.Path.{_≡_, refl, sym, ap, ap₂, _∙_}
-use mathlib.Core.List.{List, [], _∷_}
-use mathlib.Mathlib.Logic.Function.Defs.{LeftInverse·injective}
-use lib.ListN.{getD}
-use Rattle.text.specs.Answer.{Answer, says}
-use Rattle.text.proofs.Determined as text
-use Rattle.listing.specs.Output.{rowBytes, totalBytes}
-use Rattle.listing.specs.Turn.{Move, beyond, more, ended, on, gives}
-use Rattle.listing.specs.Paper.{refusalNumber, rowPaper, turnPaper, keptPaper}
+-- Two outcomes that a contract allows are equal: from a state there is one turn, and it goes on or stops; why it stops says what is asked for.
+-- Assumes nothing.
+use Prim.Native.Nat.{ℕ, _≤_}
+use mathlib.Core.Path.{_≡_, refl, sym, ap, ap₂, _∙_, subst}
+use mathlib.Core.Bool.{Bool}
+use mathlib.Core.List.{List, _∷_}
+use native.Mathlib.Omega.{arith}
+use lib.ListN.{length}
+use Rattle.text.specs.Answer.{Answer}
+use Rattle.text.specs.Over.{overAt}
+use Rattle.listing.specs.Output.{rowBytes, rowsBytes}
+use Rattle.listing.specs.Turn.{Move, on, gives}
+use Rattle.listing.specs.Drive.{turnOf, passed, filled, printed, Steps, here, passes, prints, Stops, misplaced, wants, lacks, ends, Drives}
+use Rattle.listing.specs.Ask.{Wants, reads, writes, lasts, clears, Asks, asks, strays}
 use Rattle.listing.specs.Promises.{Determined}
-use Rattle.listing.specs.declared.keep.Kept.{Kept}
-use Rattle.listing.specs.declared.keep.Kept.the-variants as K
-use Rattle.listing.specs.declared.turn.Row.{Row}
-use Rattle.listing.specs.declared.turn.Row.the-variants as R
-use Rattle.listing.specs.declared.turn.Refusal.{Refusal}
-use Rattle.listing.specs.declared.turn.Refusal.the-variants as F
-use Rattle.listing.specs.declared.turn.Turn.{Turn}
-use Rattle.listing.specs.declared.turn.Turn.the-variants as T
+use Rattle.listing.specs.declared.turn.Phase.{Phase}
+use Rattle.listing.specs.declared.drive.State.{State}
+use Rattle.listing.specs.declared.drive.Why.{Why}
+use Rattle.listing.specs.declared.drive.Driven.{Driven}
+use Rattle.listing.specs.declared.ask.Ask.{Ask}
 
--- ---- a row
+-- ---- one turn
 
--- by its number; 1 is none's
-rowIn : ℕ → List ℕ → Row
-rowIn n l = getD (read ∷ read ∷ R.Refused F.Empty ∷ R.Refused F.Fed ∷ R.Refused F.Cut ∷ R.Refused F.NotUtf8 ∷ []) n (R.Refused F.Long)
-  where
-    read : Row
-    read = R.Read (getD l 0 0) (getD l 1 0) (getD l 2 0)
+row-same : {t : Move} {r q : Answer} {a b : Phase} {n m : ℕ} → t ≡ gives r a n → t ≡ gives q b m → r ≡ q
+row-same e f = cc
 
-rowBack : Answer → Row
-rowBack (says n l) = rowIn n l
+pass-same : (s : State) {t : Move} {a b : Phase} {n m : ℕ} → t ≡ on a n → t ≡ on b m → passed s a n ≡ passed s b m
+pass-same s {t} {a} {b} {n} {m} e f =
+    let p : a ≡ b = cc in
+    let q : n ≡ m = cc in
+    λ i. passed s (p i) (q i)
 
-refusal-back : (why : Refusal) → rowIn (refusalNumber why) [] ≡ R.Refused why
-unfolding rowIn refusalNumber
-refusal-back F.Empty = refl
-refusal-back F.Fed = refl
-refusal-back F.Cut = refl
-refusal-back F.NotUtf8 = refl
-refusal-back F.Long = refl
+print-same : (s : State) {t : Move} {r q : Answer} {a b : Phase} {n m : ℕ} → t ≡ gives r a n → t ≡ gives q b m → printed s r a n ≡ printed s q b m
+print-same s {t} {r} {q} {a} {b} {n} {m} e f =
+    let o : r ≡ q = cc in
+    let p : a ≡ b = cc in
+    let x : n ≡ m = cc in
+    λ i. printed s (o i) (p i) (x i)
 
-row-back : (x : Row) → rowBack (rowPaper x) ≡ x
-unfolding rowBack rowIn rowPaper
-row-back (R.Read columns infos samples) = refl
-row-back (R.Refused why) = refusal-back why
+-- ---- one state
 
-pub row-paper-injective : (r r′ : Row) → rowPaper r ≡ rowPaper r′ → r ≡ r′
-row-paper-injective = LeftInverse·injective rowBack rowPaper row-back
+module _ {last : Bool} {w : List ℕ} {size : ℕ} {s : State} where
+  -- where it stops it does not go on
+  stops-pass : {why : Why} {then : Phase} {next : ℕ} → Stops last w size s why → turnOf last w s ≡ on then next → ⊥
+  stops-pass (misplaced a) e = let z : _≡_ {A = ℕ} 0 1 = cc in omega arith
+  stops-pass (wants a) e = let z : _≡_ {A = ℕ} 0 1 = cc in omega arith
+  stops-pass (lacks a f) e = let z : _≡_ {A = ℕ} 0 1 = cc in omega arith
+  stops-pass (ends a) e = let z : _≡_ {A = ℕ} 0 1 = cc in omega arith
 
--- ---- a turn
+  stops-print : {why : Why} {r : Answer} {then : Phase} {next : ℕ} → Stops last w size s why → turnOf last w s ≡ gives r then next → filled s r ≤ size → ⊥
+  stops-print (misplaced a) e h = let z : _≡_ {A = ℕ} 0 1 = cc in omega arith
+  stops-print (wants a) e h = let z : _≡_ {A = ℕ} 0 1 = cc in omega arith
+  stops-print (lacks a f) e h = let k = ap (λ (r : Answer). length (rowBytes r)) (row-same a e) in omega arith
+  stops-print (ends a) e h = let z : _≡_ {A = ℕ} 0 1 = cc in omega arith
 
-turnBack : Move → Turn
-turnBack beyond = T.Beyond
-turnBack more = T.More
-turnBack ended = T.End
-turnBack (on phase next) = T.On phase next
-turnBack (gives a phase next) = T.Found (rowBack a) phase next
+  stops-same : {why other : Why} → Stops last w size s why → Stops last w size s other → why ≡ other
+  stops-same (misplaced a) (misplaced b) = refl
+  stops-same (misplaced a) (wants b) = cc
+  stops-same (misplaced a) (lacks b g) = cc
+  stops-same (misplaced a) (ends b) = cc
+  stops-same (wants a) (misplaced b) = cc
+  stops-same (wants a) (wants b) = refl
+  stops-same (wants a) (lacks b g) = cc
+  stops-same (wants a) (ends b) = cc
+  stops-same (lacks a f) (misplaced b) = cc
+  stops-same (lacks a f) (wants b) = cc
+  stops-same (lacks a f) (lacks b g) = refl
+  stops-same (lacks a f) (ends b) = cc
+  stops-same (ends a) (misplaced b) = cc
+  stops-same (ends a) (wants b) = cc
+  stops-same (ends a) (lacks b g) = cc
+  stops-same (ends a) (ends b) = refl
 
-turn-back : (x : Turn) → turnBack (turnPaper x) ≡ x
-unfolding turnBack turnPaper
-turn-back T.Beyond = refl
-turn-back T.More = refl
-turn-back T.End = refl
-turn-back (T.On phase next) = refl
-turn-back (T.Found row phase next) = ap (λ (r : Row). T.Found r phase next) (row-back row)
+-- ---- turns
 
-pub turn-paper-injective : (r r′ : Turn) → turnPaper r ≡ turnPaper r′ → r ≡ r′
-turn-paper-injective = LeftInverse·injective turnBack turnPaper turn-back
+record Same (r q : List Answer) (e f : State) (y z : Why) : Type 0 where
+  rows : r ≡ q
+  state : e ≡ f
+  why : y ≡ z
 
--- ---- what is kept
+steps-same : {last : Bool} {w : List ℕ} {size : ℕ} {s e f : State} {r q : List Answer} {y z : Why} → Steps last w size s r e → Stops last w size e y
+    → Steps last w size s q f → Stops last w size f z → Same r q e f y z
+steps-same here y here z = record { rows = refl; state = refl; why = stops-same y z }
+steps-same here y (passes m x) z = absurd (stops-pass y m)
+steps-same here y (prints m f x) z = absurd (stops-print y m f)
+steps-same (passes m x) y here z = absurd (stops-pass z m)
+steps-same (passes {s = s} m x) y (passes n u) z = steps-same x y (rw (pass-same s n m) at u) z
+steps-same (passes m x) y (prints n f u) z = let o : _≡_ {A = ℕ} 0 1 = cc in absurd (omega arith)
+steps-same (prints m f x) y here z = absurd (stops-print z m f)
+steps-same (prints m f x) y (passes n u) z = let o : _≡_ {A = ℕ} 0 1 = cc in absurd (omega arith)
+steps-same (prints {s = s} m f x) y (prints n g u) z =
+    let o = steps-same x y (rw (print-same s n m) at u) z in
+    record { rows = ap₂ (λ (a : Answer) (b : List Answer). a ∷ b) (row-same m n) (o .rows); state = o .state; why = o .why }
 
-pub kept-paper-injective : (r r′ : Kept) → keptPaper r ≡ keptPaper r′ → r ≡ r′
-unfolding keptPaper
-kept-paper-injective (K.Done n) (K.Done m) e = cc
-kept-paper-injective (K.Done n) K.Beyond e = cc
-kept-paper-injective K.Beyond (K.Done m) e = cc
-kept-paper-injective K.Beyond K.Beyond e = cc
+drive-determined : {last : Bool} {w : List ℕ} {s : State} {l l′ l″ : List ℕ} {d d″ : Driven} → Drives last w s l d l′ → Drives last w s l d″ l″
+    → (d ≡ d″) × (l′ ≡ l″)
+drive-determined {s = s} {l = l} x y =
+    let o = steps-same (x .steps) (x .stops) (y .steps) (y .stops) in (
+      ap₂ (λ (a : Why) (b : State). record { why = a; state = b }) (o .why) (o .state),
+      x .bytes ∙ ap (λ (r : List Answer). overAt (s .put) (rowsBytes r) l) (o .rows) ∙ sym (y .bytes),
+    )
 
--- ---- the promises
+-- ---- what is asked for
+
+wants-same : {end : ℕ} {e : State} {b m b′ b″ l′ l″ : List ℕ} {r r″ : Ask} {why : Why} → Wants end e b m r b′ l′ why → Wants end e b m r″ b″ l″ why
+    → (r ≡ r″) × (b′ ≡ b″) × (l′ ≡ l″)
+wants-same (reads p k v) (reads q j u) = (p ∙ sym q, k ∙ sym j, v ∙ sym u)
+wants-same (writes p k v) (writes q j u) = (p ∙ sym q, k ∙ sym j, v ∙ sym u)
+wants-same (lasts h p k v) (lasts g q j u) = (p ∙ sym q, k ∙ sym j, v ∙ sym u)
+wants-same (lasts h p k v) (clears g q j u) = absurd (omega arith)
+wants-same (clears h p k v) (lasts g q j u) = absurd (omega arith)
+wants-same (clears h p k v) (clears g q j u) = (p ∙ sym q, k ∙ sym j, v ∙ sym u)
+
+ask-determined : {last : Bool} {end : ℕ} {s : State} {b l b′ b″ l′ l″ : List ℕ} {r r″ : Ask} → Asks last end s b l r b′ l′ → Asks last end s b l r″ b″ l″
+    → (r ≡ r″) × (b′ ≡ b″) × (l′ ≡ l″)
+ask-determined {end = end} {b = b} {b″ = b″} {l″ = l″} {r″ = r″} (asks {d = d} {m = m} i x v) (asks j y u) =
+    let o = drive-determined y x in
+    wants-same v (subst (λ (f : Driven). Wants end (f .state) b m r″ b″ l″ (f .why)) (o .0) (rw (o .1) at u))
+ask-determined (asks i x v) (strays j p k u) = absurd (j i)
+ask-determined (strays i p k v) (asks j y u) = absurd (i j)
+ask-determined (strays i p k v) (strays j q m u) = (p ∙ sym q, k ∙ sym m, v ∙ sym u)
 
 pub determined : Determined
 determined =
     record {
-      take-turn = λ w last phase at r r′ e e′. turn-paper-injective r r′ (e ∙ sym e′);
-      keep-rest = λ l from end r r′ l′ l″ p q. (kept-paper-injective r r′ (p .answer ∙ sym (q .answer)), p .bytes ∙ sym (q .bytes));
-      print-row = λ row l. text.determined .copy (rowBytes (rowPaper row)) l;
-      print-totals = λ totals l. text.determined .copy (totalBytes (totals .read) (totals .refused)) l;
-      count-row =
-          λ totals row r r′ p q.
-          ap₂ (λ (n m : ℕ). record { read = n; refused = m }) (p .read ∙ sym (q .read)) (p .refused ∙ sym (q .refused));
+      first-state = λ r r′ e e′. e ∙ sym e′;
+      drive = λ w last s l r r′ m m′ x y. drive-determined x y;
+      ask-next = λ b end last s l r r′ c c′ m m′ x y. ask-determined x y;
     }

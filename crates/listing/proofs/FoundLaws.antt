@@ -29,7 +29,21 @@ stays (tab-2 a) = (λ e. absurd (omega arith), λ e. absurd (omega arith))
 stays (feed-3 a) = (λ e. absurd (omega arith), λ e. absurd (omega arith))
 stays (end-4 a) = (λ e. absurd (omega arith), λ e. absurd (omega arith))
 
+-- no other number is greater
+small : {s : List ℕ} {at n next : ℕ} → GoesOn s at n next → n ≤ 6
+small (stays-1 a) = omega arith
+small (stays-6 a) = omega arith
+small (line-0 a) = omega arith
+small (line-5 a) = omega arith
+small (feed-2 a b) = omega arith
+small (tab-2 a) = omega arith
+small (feed-3 a) = omega arith
+small (end-4 a) = omega arith
+
 module _ (s : List ℕ) (at : ℕ) where
+  pub read-small : numberOf (readAnswer s at) ≤ 6
+  read-small = small (read-moved s at .goes)
+
   pub read-next : at ≤ length s → (numberOf (readAnswer s at) ≡ 1 → ⊥) → (at < nextOf (readAnswer s at)) × (nextOf (readAnswer s at) ≤ length s)
   read-next h n =
       let m = read-moved s at in

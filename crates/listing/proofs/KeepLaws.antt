@@ -1,18 +1,14 @@
 -- Moving bytes to the front of their own buffer, from the first on: no byte is stored over one that is still to be read. Assumes nothing.
 use Prim.Native.Nat.{ℕ, _+_, _-_, _<_, _≤_}
 use mathlib.Core.Path.{_≡_, refl, sym, ap, _∙_}
-use mathlib.Core.Bool.{true, false, and-false}
 use mathlib.Core.List.{List}
 use native.Mathlib.Omega.{arith}
 use native.Mathlib.Nat.{add-comm}
 use lib.ListN.{length, getD, take, drop, set, length-drop, length-set}
 use lib.Seq.{getD-drop, getD-take, length-take-le, drop-drop, drop-set-lt}
-use lib.Dec.{leb}
-use borrow.Author.Tests.{le-leb, lt-leb}
 use Rattle.text.proofs.CopyLaws.{Copying, copy-first, copy-turn, copy-past, writes-fits}
-use Rattle.listing.specs.Kept.{inOrder, keptAnswer, keptBytes}
-use Rattle.listing.specs.Paper.{keptPaper, Keeps}
-use Rattle.listing.specs.declared.keep.Kept.the-variants.{Done, Beyond}
+use Rattle.listing.specs.Ask.{keptBytes}
+use Rattle.listing.specs.Inner.{Keeps}
 
 -- ---- the bytes between two places
 
@@ -25,10 +21,6 @@ module _ (from end : ℕ) (l : List ℕ) (p : from ≤ end) (q : end ≤ length 
 
   getD-between : (i : ℕ) → i < end - from → getD (between from end l) i 0 ≡ getD l (from + i) 0
   getD-between i h = getD-take (end - from) (drop from l) i 0 h ∙ getD-drop from l i 0
-
-  order : inOrder from end l ≡ true
-  unfolding inOrder
-  order = rw (le-leb _ _ p, le-leb _ _ q)
 
 -- ---- the loop
 
@@ -75,28 +67,10 @@ module _ {from end n i : ℕ} {l₀ l : List ℕ} (g : Moving from end n l₀ l 
             ∙ drop-drop 1 i l₀;
       }
 
-  pub move-past : n ≤ i → Keeps from end l₀ (Done n) l
-  unfolding keptPaper keptAnswer keptBytes
+  pub move-past : n ≤ i → Keeps from end l₀ n l
+  unfolding keptBytes
   move-past h =
       let k = length-between from end l₀ (g .inside) (g .fits) in
-      let o = order from end l₀ (g .inside) (g .fits) in
-      record {
-        answer = rw (o, g .size);
-        bytes = rw o (writes-fits (copy-past (g .copied) (omega arith)) (omega arith));
-      }
+      record { count = g .size; bytes = writes-fits (copy-past (g .copied) (omega arith)) (omega arith) }
 
--- ---- the refusals
-
-refused : {from end : ℕ} {l : List ℕ} → inOrder from end l ≡ false → Keeps from end l Beyond l
-unfolding keptPaper keptAnswer keptBytes
-refused e = record { answer = rw e; bytes = rw e }
-
-pub keep-crossed : {from end : ℕ} {l : List ℕ} → end < from → Keeps from end l Beyond l
-unfolding inOrder
-keep-crossed h = refused (rw (lt-leb _ _ h))
-
-pub keep-beyond : {from end : ℕ} {l : List ℕ} → length l < end → Keeps from end l Beyond l
-unfolding inOrder
-keep-beyond {from} {end} h = refused (rw (lt-leb _ _ h) (and-false (leb from end)))
-
-pub ruleset laws = (move-first, move-turn, move-past, keep-crossed, keep-beyond)
+pub ruleset laws = (move-first, move-turn, move-past)

@@ -1,6 +1,7 @@
 pub mod Windows
 pub mod LineLaws
 pub mod FoundLaws
+pub mod RowSizes
 pub mod Turns
 pub mod Runs
 pub mod StreamLaws
@@ -14,3 +15,10 @@ pub mod KeepLaws
 pub mod PrintLaws
 pub mod Determined
 pub mod Totals
+pub mod DriveLaws
+pub mod Told
+pub mod AskLaws
+pub mod WritesAll
+pub mod ListsAll
+pub mod InRoom
+pub mod Serves

@@ -72,7 +72,7 @@ size-some u h = by (at-feed u)
     by (one t rest f e) = rw e (omega (arith, size-feed t f rest))
 
 -- passing over bytes without LF passes over part of a line
-size-after : (u r : List ℕ) → Free 10 u → sizeOf (lineOf (u ++ r)) ≡ length u + sizeOf (lineOf r)
+pub size-after : (u r : List ℕ) → Free 10 u → sizeOf (lineOf (u ++ r)) ≡ length u + sizeOf (lineOf r)
 size-after u r g = by (at-feed r)
   where
     by : AtFeed r → sizeOf (lineOf (u ++ r)) ≡ length u + sizeOf (lineOf r)
@@ -81,6 +81,14 @@ size-after u r g = by (at-feed r)
     by (one t rest f e) =
         rw (e, ← append-assoc u t (10 ∷ rest))
         (omega (arith, size-feed t f rest, length-append u t, size-feed (u ++ t) (free-append u g f) rest))
+
+pub whole-after : (last : Bool) (u r : List ℕ) → Free 10 u → isWhole last (lineOf (u ++ r)) ≡ isWhole last (lineOf r)
+whole-after last u r g = by (at-feed r)
+  where
+    by : AtFeed r → isWhole last (lineOf (u ++ r)) ≡ isWhole last (lineOf r)
+    by (none f) = whole-open (u ++ r) (free-append u g f) last ∙ sym (whole-open r f last)
+    by (one t rest f e) =
+        rw (e, ← append-assoc u t (10 ∷ rest)) (whole-feed (u ++ t) (free-append u g f) rest last ∙ sym (whole-feed t f rest last))
 
 -- ---- the line at a place of a window
 

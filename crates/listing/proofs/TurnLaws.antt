@@ -1,33 +1,38 @@
 -- The line at a place is told by the first LF from there on; each way through a turn is then the definition's clause. Assumes nothing.
 use Prim.Native.Nat.{ℕ, _+_, _-_, _<_, _≤_}
-use mathlib.Core.Path.{_≡_, refl, _∙_}
-use mathlib.Core.Bool.{Bool, true, false}
+use mathlib.Core.Path.{_≡_, refl, sym, ap, _∙_}
+use mathlib.Core.Bool.{Bool, true, false, _||_}
 use mathlib.Core.List.{List, [], _∷_, _++_}
 use native.Mathlib.Omega.{arith}
-use lib.ListN.{length, getD, drop, drop-of-length-le, length-drop}
+use lib.ListN.{length, getD, take, drop, drop-of-length-le, length-drop, take-append-drop}
+use lib.Seq.{drop-drop, take-append-le, length-take-le}
+use lib.Dec.{ltb}
 use borrow.Author.Tests.{lt-ltb, le-ltb, eq-eqb, ne-eqb}
 use Rattle.text.specs.Pick.{pick}
 use Rattle.text.specs.Answer.{says}
 use Rattle.text.specs.Range.{cut}
 use Rattle.text.specs.declared.range.Range.{Range}
 use Rattle.text.proofs.Lists.{here, cut-length}
+use Rattle.pieces.specs.Inner.{pastQuiet}
 use Rattle.pieces.specs.Pieces.{split, stepAnswer}
 use Rattle.pieces.specs.Demands.{Free}
 use Rattle.pieces.specs.Paper.{stepPaper}
 use Rattle.pieces.specs.declared.step.Step.{Step}
 use Rattle.pieces.specs.declared.step.Step.the-variants as S
-use Rattle.pieces.proofs.PieceLaws.{free-nil, split-nil, first-free, one-text, more-text}
+use Rattle.pieces.proofs.BlockLaws.{past-quiet}
+use Rattle.pieces.proofs.PieceLaws.{free-nil, free-left, split-nil, first-free, one-text, more-text}
 use Rattle.pieces.proofs.StepLaws.{Further, step-tells, further-fits}
+use Rattle.line.proofs.ReadLaws.{part-free}
+use Rattle.line.proofs.LineLaws.{AtFeed, none, one, at-feed}
 use Rattle.line.specs.Line.{nothing, feed, return-feed, Line, line, lineOf, readAnswer}
 use Rattle.listing.specs.Listing.{sizeOf, longest, beginsHash}
 use Rattle.listing.specs.Turn.{isWhole, passMove, leadMove, readMove, lineMove, phaseMove, turnMove, gives}
 use Rattle.listing.specs.Paper.{refusalNumber, rowPaper, turnPaper}
-use Rattle.listing.specs.Inner.{Ends, Reaches}
-use Rattle.listing.proofs.LineLaws.{size-open, whole-open, size-feed, whole-feed}
+use Rattle.listing.specs.Inner.{Ends, Reaches, Known}
+use Rattle.listing.proofs.LineLaws.{pastLine, size-open, whole-open, size-feed, whole-feed, size-after, whole-after}
 use Rattle.listing.specs.declared.turn.Phase.{Phase}
 use Rattle.listing.specs.declared.turn.Phase.the-variants as P
 use Rattle.listing.specs.declared.turn.Reach.{Reach}
-use Rattle.listing.specs.declared.turn.Reach.the-variants as R
 use Rattle.listing.specs.declared.turn.Row.the-variants as W
 use Rattle.listing.specs.declared.turn.Refusal.the-variants as F
 use Rattle.listing.specs.declared.turn.Turn.{Turn}
@@ -45,80 +50,141 @@ fed-ends : {w : List ℕ} {at : ℕ} (t rest : List ℕ) {next : ℕ} → Free 1
 fed-ends t rest f e n h =
     record { size = rw e (omega (arith, size-feed t f rest)); within = h; whole = rw e (whole-feed t f rest false) }
 
-module _ (w : List ℕ) (at : ℕ) {x : Step} (e : stepPaper x ≡ stepAnswer 10 w at) (h : at ≤ length w) where
-  pub reach-more : {r : Range} {next : ℕ} → x ≡ S.More r next → Reaches w at (R.Fed next)
-  reach-more {r} {next} q = by (step-tells 10 w at (S.More r next) (rw q at e))
+-- where no LF stands between two places, the lines at both end alike
+module _ (w : List ℕ) (from at : ℕ) (h : from ≤ at) (l : at ≤ length w) (f : Free 10 (take (at - from) (drop from w))) where
+  parted : drop from w ≡ take (at - from) (drop from w) ++ drop at w
+  parted =
+      let i : from + (at - from) ≡ at = omega arith in
+      sym (take-append-drop (at - from) (drop from w)) ∙ rw (drop-drop (at - from) from w, i)
+
+  past-same : pastLine w from ≡ pastLine w at
+  past-same =
+      let n : length (take (at - from) (drop from w)) ≡ at - from = length-take-le (at - from) (drop from w) (simp length-drop (omega arith)) in
+      let z = ap (λ (u : List ℕ). sizeOf (lineOf u)) parted ∙ size-after (take (at - from) (drop from w)) (drop at w) f in
+      omega arith
+
+  whole-same : isWhole false (lineOf (drop from w)) ≡ isWhole false (lineOf (drop at w))
+  whole-same = ap (λ (u : List ℕ). isWhole false (lineOf u)) parted ∙ whole-after false (take (at - from) (drop from w)) (drop at w) f
+
+  ends-earlier : {next : ℕ} {fed : Bool} → Ends w at next fed → Ends w from next fed
+  ends-earlier e = record { size = e .size ∙ sym past-same; within = e .within; whole = whole-same ∙ e .whole }
+
+  ends-later : {next : ℕ} {fed : Bool} → Ends w from next fed → Ends w at next fed
+  ends-later e = record { size = e .size ∙ past-same; within = e .within; whole = sym whole-same ∙ e .whole }
+
+-- what is found past quiet blocks
+module _ (w : List ℕ) (at : ℕ) {from : ℕ} (q : from ≡ pastQuiet 10 10 w at) (h : at ≤ length w) where
+  inside : from ≤ length w
+  inside = past-quiet h q .within
+
+  found-past : {next : ℕ} {fed : Bool} → Ends w from next fed → Ends w at next fed
+  found-past =
+      let c = past-quiet h q in
+      ends-earlier w at from (c .after) (c .within) (part-free w 10 at from (c .after) (c .within) (c .no-first))
+
+module _ (w : List ℕ) (at : ℕ) {from : ℕ} (q : from ≡ pastQuiet 10 10 w at) (h : at ≤ length w) {x : Step} (e : stepPaper x ≡ stepAnswer 10 w from) where
+  pub reach-more : {r : Range} {next : ℕ} → x ≡ S.More r next → Reaches w at (record { end = next; fed = true })
+  reach-more {r} {next} z = found-past w at q h (by (step-tells 10 w from (S.More r next) (rw z at e)))
     where
-      by : Further 10 w at r next → Ends w at next true
+      by : Further 10 w from r next → Ends w from next true
       by f = behind (split 10 (drop next w)) (f .pieces) refl
         where
-          behind : (ps : List (List ℕ)) → split 10 (drop at w) ≡ cut r w ∷ ps → split 10 (drop next w) ≡ ps → Ends w at next true
+          behind : (ps : List (List ℕ)) → split 10 (drop from w) ≡ cut r w ∷ ps → split 10 (drop next w) ≡ ps → Ends w from next true
           behind [] s z = absurd (split-nil 10 _ z)
           behind (p ∷ ps) s z =
               let l = cut-length r w (further-fits f) in
               let b = f .past in
-              fed-ends (cut r w) _ (first-free 10 (drop at w) s) (more-text 10 (drop at w) s) (omega arith) (f .within)
+              fed-ends (cut r w) _ (first-free 10 (drop from w) s) (more-text 10 (drop from w) s) (omega arith) (f .within)
 
-  pub reach-last : {r : Range} → x ≡ S.Last r → Reaches w at (R.Open (length w))
-  reach-last {r} q =
-      let p = step-tells 10 w at (S.Last r) (rw q at e) .pieces in
-      open-ends h (rw (one-text 10 p) (first-free 10 (drop at w) p))
+  pub reach-last : {r : Range} → x ≡ S.Last r → Reaches w at (record { end = length w; fed = false })
+  reach-last {r} z =
+      let p = step-tells 10 w from (S.Last r) (rw z at e) .pieces in
+      found-past w at q h (open-ends (inside w at q h) (rw (one-text 10 p) (first-free 10 (drop from w) p)))
 
-  pub reach-nothing : x ≡ S.Nothing → Reaches w at (R.Open (length w))
-  reach-nothing q =
-      let z = step-tells 10 w at S.Nothing (rw q at e) in
+  pub reach-nothing : x ≡ S.Nothing → Reaches w at (record { end = length w; fed = false })
+  reach-nothing z =
+      let n = step-tells 10 w from S.Nothing (rw z at e) in
       open-ends h (rw (drop-of-length-le w {i = at} (omega arith)) free-nil)
 
-  pub reach-beyond : x ≡ S.Beyond → Reaches w at (R.Open (length w))
-  reach-beyond q = absurd (let l = step-tells 10 w at S.Beyond (rw q at e) in omega arith)
+  pub reach-beyond : x ≡ S.Beyond → Reaches w at (record { end = length w; fed = false })
+  reach-beyond z = absurd (let l = step-tells 10 w from S.Beyond (rw z at e) in omega (arith, inside w at q h))
+
+-- no LF stands in a line before its end
+free-before : {w : List ℕ} {from next : ℕ} {fed : Bool} (at : ℕ) → Ends w from next fed → from ≤ at → at < next → Free 10 (take (at - from) (drop from w))
+free-before {w} {from} {next} at n a b = by (at-feed (drop from w))
+  where
+    by : AtFeed (drop from w) → Free 10 (take (at - from) (drop from w))
+    by (none f) = free-left (take (at - from) (drop from w)) (drop (at - from) (drop from w)) (rw take-append-drop f)
+    by (one t rest f e) =
+        let s : next ≡ from + (length t + 1) = n .size ∙ rw (e, size-feed t f rest) in
+        rw (e, take-append-le (at - from) t (10 ∷ rest) (omega arith))
+        (free-left (take (at - from) t) (drop (at - from) t) (rw take-append-drop f))
+
+-- so it is the same line from each place in it
+pub reach-later : (w : List ℕ) (from : ℕ) (x : Reach) (at : ℕ) → Reaches w from x → from ≤ at → Known w at x
+reach-later w from x at n a b = let c = n .within in ends-later w from at a (omega arith) (free-before at n a b) n
+
+pub reach-known : {w : List ℕ} {at : ℕ} {x : Reach} → Known w at x → at < x .end → Reaches w at x
+reach-known k h = k h
 
 -- ---- whether it is whole
 
-stays-whole : (last : Bool) (l : Line) → isWhole false l ≡ true → isWhole last l ≡ true
+pub whole-fed : {fed : Bool} (last : Bool) → fed ≡ true → true ≡ (fed || last)
+whole-fed last e = rw e
+
+pub whole-last : {fed : Bool} (last : Bool) → fed ≡ false → last ≡ (fed || last)
+whole-last last e = rw e
+
+whole-or : (last : Bool) (l : Line) → isWhole last l ≡ (isWhole false l || last)
 unfolding isWhole
-stays-whole true (line t nothing rest) e = refl
-stays-whole false (line t nothing rest) e = e
-stays-whole last (line t feed rest) e = refl
-stays-whole last (line t return-feed rest) e = refl
+whole-or last (line t nothing rest) = refl
+whole-or last (line t feed rest) = refl
+whole-or last (line t return-feed rest) = refl
 
-by-last : (last : Bool) (l : Line) → isWhole false l ≡ false → isWhole last l ≡ last
-unfolding isWhole
-by-last last (line t nothing rest) e = refl
-by-last true (line t feed rest) e = refl
-by-last false (line t feed rest) e = e
-by-last true (line t return-feed rest) e = refl
-by-last false (line t return-feed rest) e = e
+module _ (w : List ℕ) (at : ℕ) (x : Reach) (last : Bool) {whole : Bool} (g : Reaches w at x) (o : whole ≡ (x .fed || last)) where
+  is-whole : {c : Bool} → whole ≡ c → isWhole last (lineOf (drop at w)) ≡ c
+  is-whole q = whole-or last (lineOf (drop at w)) ∙ rw (g .whole) (sym o ∙ q)
 
-is-fed : {w : List ℕ} {at next : ℕ} {x : Reach} → x ≡ R.Fed next → Reaches w at x → Ends w at next true
-is-fed q g = rw q at g
+  -- ---- the rest of a line passed over
 
-is-open : {w : List ℕ} {at next : ℕ} {x : Reach} → x ≡ R.Open next → Reaches w at x → Ends w at next false
-is-open q g = rw q at g
+  module _ (within after : Phase) where
+    pub pass-whole : whole ≡ true → turnPaper (T.On after (x .end)) ≡ passMove last within after at (lineOf (drop at w))
+    unfolding turnPaper passMove
+    pass-whole q = rw (is-whole q, ← g .size)
 
--- ---- the rest of a line passed over
+    pub pass-none : whole ≡ false → x .end ≡ at → turnPaper T.More ≡ passMove last within after at (lineOf (drop at w))
+    unfolding turnPaper passMove
+    pass-none q e =
+        let z : sizeOf (lineOf (drop at w)) ≡ 0 = omega (arith, g .size) in
+        rw (is-whole q, z)
 
-module _ (w : List ℕ) (at : ℕ) (x : Reach) (g : Reaches w at x) (last : Bool) (within after : Phase) where
-  pub pass-fed : {next : ℕ} → x ≡ R.Fed next → turnPaper (T.On after next) ≡ passMove last within after at (lineOf (drop at w))
-  unfolding turnPaper passMove
-  pass-fed q = let n = is-fed q g in rw (stays-whole last (lineOf (drop at w)) (n .whole), ← n .size)
+    pub pass-some : whole ≡ false → (x .end ≡ at → ⊥) → turnPaper (T.On within (x .end)) ≡ passMove last within after at (lineOf (drop at w))
+    unfolding turnPaper passMove
+    pass-some q e =
+        let z : sizeOf (lineOf (drop at w)) ≡ 0 → ⊥ = λ z. omega (arith, g .size) in
+        rw (is-whole q, ne-eqb _ 0 z, ← g .size)
 
-  pub pass-last : {next : ℕ} → x ≡ R.Open next → last ≡ true → turnPaper (T.On after next) ≡ passMove last within after at (lineOf (drop at w))
-  unfolding turnPaper passMove
-  pass-last q l = let n = is-open q g in rw (by-last last (lineOf (drop at w)) (n .whole), l, ← n .size)
+  -- ---- a line to read
 
-  pub pass-none : {next : ℕ} → x ≡ R.Open next → last ≡ false → next ≡ at → turnPaper T.More ≡ passMove last within after at (lineOf (drop at w))
-  unfolding turnPaper passMove
-  pass-none q l e =
-      let n = is-open q g in
-      let z : sizeOf (lineOf (drop at w)) ≡ 0 = omega (arith, n .size) in
-      rw (by-last last (lineOf (drop at w)) (n .whole), l, z)
+  pub read-long : (r : Turn) → 65536 < x .end - at → turnPaper r ≡ gives (says 22 []) (pick whole P.Lines P.Rest) (x .end)
+      → turnPaper r ≡ lineMove last w at (lineOf (drop at w))
+  unfolding lineMove
+  read-long r h e = e ∙ rw (lt-ltb longest (sizeOf (lineOf (drop at w))) (omega (arith, g .size)), is-whole refl, ← g .size)
 
-  pub pass-some : {next : ℕ} → x ≡ R.Open next → last ≡ false → (next ≡ at → ⊥) → turnPaper (T.On within next) ≡ passMove last within after at (lineOf (drop at w))
-  unfolding turnPaper passMove
-  pass-some q l e =
-      let n = is-open q g in
-      let z : sizeOf (lineOf (drop at w)) ≡ 0 → ⊥ = λ z. omega (arith, n .size) in
-      rw (by-last last (lineOf (drop at w)) (n .whole), l, ne-eqb _ 0 z, ← n .size)
+  module _ (h : x .end - at ≤ 65536) where
+    short : ltb longest (sizeOf (lineOf (drop at w))) ≡ false
+    short = le-ltb longest (sizeOf (lineOf (drop at w))) (omega (arith, g .size))
+
+    pub read-line : (r : Turn) → whole ≡ true → turnPaper r ≡ readMove (lineOf (drop at w)) (readAnswer w at) → turnPaper r ≡ lineMove last w at (lineOf (drop at w))
+    unfolding lineMove
+    read-line r q e = e ∙ rw (short, is-whole q)
+
+    pub read-more : whole ≡ false → turnPaper T.More ≡ lineMove last w at (lineOf (drop at w))
+    unfolding turnPaper lineMove
+    read-more q = rw (short, is-whole q)
+
+pub end-after : {w : List ℕ} {at : ℕ} {x : Reach} → Reaches w at x → at ≤ x .end
+end-after g = omega (arith, g .size)
 
 -- ---- a leading line
 
@@ -150,73 +216,24 @@ pub long-open : {whole : Bool} (next : ℕ) → whole ≡ false → turnPaper (T
 unfolding turnPaper rowPaper refusalNumber
 long-open next e = rw e
 
--- ---- a line to read
-
-module _ (w : List ℕ) (at : ℕ) (x : Reach) (g : Reaches w at x) {next : ℕ} where
-  pub fed-after : x ≡ R.Fed next → at ≤ next
-  fed-after q = omega (arith, is-fed q g .size)
-
-  pub open-after : x ≡ R.Open next → at ≤ next
-  open-after q = omega (arith, is-open q g .size)
-
-module _ (w : List ℕ) (at : ℕ) (x : Reach) (g : Reaches w at x) (last : Bool) {next : ℕ} where
-  pub read-fed-long : (r : Turn) → x ≡ R.Fed next → 65536 < next - at → turnPaper r ≡ gives (says 22 []) (pick true P.Lines P.Rest) next
-      → turnPaper r ≡ lineMove last w at (lineOf (drop at w))
-  unfolding lineMove
-  read-fed-long r q h e =
-      let n = is-fed q g in
-      e ∙ rw (lt-ltb longest (sizeOf (lineOf (drop at w))) (omega (arith, n .size)), stays-whole last (lineOf (drop at w)) (n .whole), ← n .size)
-
-  pub read-fed : (r : Turn) → x ≡ R.Fed next → next - at ≤ 65536 → turnPaper r ≡ readMove (lineOf (drop at w)) (readAnswer w at)
-      → turnPaper r ≡ lineMove last w at (lineOf (drop at w))
-  unfolding lineMove
-  read-fed r q h e =
-      let n = is-fed q g in
-      e ∙ rw (le-ltb longest (sizeOf (lineOf (drop at w))) (omega (arith, n .size)), stays-whole last (lineOf (drop at w)) (n .whole))
-
-  pub read-open-long : (r : Turn) → x ≡ R.Open next → 65536 < next - at → turnPaper r ≡ gives (says 22 []) (pick last P.Lines P.Rest) next
-      → turnPaper r ≡ lineMove last w at (lineOf (drop at w))
-  unfolding lineMove
-  read-open-long r q h e =
-      let n = is-open q g in
-      e ∙ rw (lt-ltb longest (sizeOf (lineOf (drop at w))) (omega (arith, n .size)), by-last last (lineOf (drop at w)) (n .whole), ← n .size)
-
-  pub read-last : (r : Turn) → x ≡ R.Open next → next - at ≤ 65536 → last ≡ true → turnPaper r ≡ readMove (lineOf (drop at w)) (readAnswer w at)
-      → turnPaper r ≡ lineMove last w at (lineOf (drop at w))
-  unfolding lineMove
-  read-last r q h l e =
-      let n = is-open q g in
-      e ∙ rw (le-ltb longest (sizeOf (lineOf (drop at w))) (omega (arith, n .size)), by-last last (lineOf (drop at w)) (n .whole), l)
-
-  pub read-more : x ≡ R.Open next → next - at ≤ 65536 → last ≡ false → turnPaper T.More ≡ lineMove last w at (lineOf (drop at w))
-  unfolding turnPaper lineMove
-  read-more q h l =
-      let n = is-open q g in
-      rw (le-ltb longest (sizeOf (lineOf (drop at w))) (omega (arith, n .size)), by-last last (lineOf (drop at w)) (n .whole), l)
-
 -- ---- a turn
 
-module _ (last : Bool) (w : List ℕ) (at : ℕ) where
-  pub turn-beyond : (phase : Phase) → length w < at → turnPaper T.Beyond ≡ turnMove last phase w at
-  unfolding turnPaper turnMove
-  turn-beyond phase h = rw (lt-ltb _ _ h)
+module _ (last : Bool) (w : List ℕ) (at : ℕ) {phase : Phase} (r : Turn) (h : at ≤ length w) where
+  pub turn-lead : phase ≡ P.Lead → turnPaper r ≡ leadMove last at (drop at w) → turnPaper r ≡ turnMove last phase w at
+  unfolding turnMove phaseMove
+  turn-lead q e = rw (le-ltb (length w) at h, q) e
 
-  module _ {phase : Phase} (r : Turn) (h : at ≤ length w) where
-    pub turn-lead : phase ≡ P.Lead → turnPaper r ≡ leadMove last at (drop at w) → turnPaper r ≡ turnMove last phase w at
-    unfolding turnMove phaseMove
-    turn-lead q e = rw (le-ltb (length w) at h, q) e
+  pub turn-comment : phase ≡ P.Comment → turnPaper r ≡ passMove last P.Comment P.Lead at (lineOf (drop at w)) → turnPaper r ≡ turnMove last phase w at
+  unfolding turnMove phaseMove
+  turn-comment q e = rw (le-ltb (length w) at h, q) e
 
-    pub turn-comment : phase ≡ P.Comment → turnPaper r ≡ passMove last P.Comment P.Lead at (lineOf (drop at w)) → turnPaper r ≡ turnMove last phase w at
-    unfolding turnMove phaseMove
-    turn-comment q e = rw (le-ltb (length w) at h, q) e
+  pub turn-lines : phase ≡ P.Lines → turnPaper r ≡ lineMove last w at (lineOf (drop at w)) → turnPaper r ≡ turnMove last phase w at
+  unfolding turnMove phaseMove
+  turn-lines q e = rw (le-ltb (length w) at h, q) e
 
-    pub turn-lines : phase ≡ P.Lines → turnPaper r ≡ lineMove last w at (lineOf (drop at w)) → turnPaper r ≡ turnMove last phase w at
-    unfolding turnMove phaseMove
-    turn-lines q e = rw (le-ltb (length w) at h, q) e
-
-    pub turn-rest : phase ≡ P.Rest → turnPaper r ≡ passMove last P.Rest P.Lines at (lineOf (drop at w)) → turnPaper r ≡ turnMove last phase w at
-    unfolding turnMove phaseMove
-    turn-rest q e = rw (le-ltb (length w) at h, q) e
+  pub turn-rest : phase ≡ P.Rest → turnPaper r ≡ passMove last P.Rest P.Lines at (lineOf (drop at w)) → turnPaper r ≡ turnMove last phase w at
+  unfolding turnMove phaseMove
+  turn-rest q e = rw (le-ltb (length w) at h, q) e
 
 pub ruleset laws =
-    (reach-more, reach-last, reach-nothing, reach-beyond, pass-fed, pass-last, pass-none, pass-some, lead-last, lead-none, lead-hash, lead-other, long-whole, long-open, fed-after, open-after, read-fed-long, read-fed, read-open-long, read-last, read-more, turn-beyond, turn-lead, turn-comment, turn-lines, turn-rest)
+    (reach-known, reach-more, reach-last, reach-nothing, reach-beyond, whole-fed, whole-last, pass-whole, pass-none, pass-some, end-after, read-long, read-line, read-more, lead-last, lead-none, lead-hash, lead-other, long-whole, long-open, turn-lead, turn-comment, turn-lines, turn-rest)

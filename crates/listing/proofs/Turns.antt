@@ -12,13 +12,15 @@ use borrow.Author.Tests.{ltb-true, ltb-false, le-ltb, eqb-true, eqb-false}
 use Rattle.text.specs.Pick.{pick}
 use Rattle.text.specs.Answer.{Answer, says, numberOf, nextOf}
 use Rattle.line.specs.Line.{lineOf, readAnswer}
+use Rattle.listing.specs.Output.{rowBytes}
 use Rattle.listing.specs.Listing.{sizeOf, longest, rowOf, beginsHash}
 use Rattle.listing.specs.Turn.{Move, beyond, more, ended, on, gives, isWhole, passMove, leadMove, readMove, lineMove, phaseMove, turnMove}
-use Rattle.listing.specs.Demands.{rank, Further, Turned, Turns}
+use Rattle.listing.specs.Demands.{longestRow, rank, Further, Turned, Turns}
 use Rattle.listing.specs.declared.turn.Phase.{Phase}
 use Rattle.listing.specs.declared.turn.Phase.the-variants as P
 use Rattle.listing.proofs.LineLaws.{pastLine, size-within, size-some, open-end}
-use Rattle.listing.proofs.FoundLaws.{read-next}
+use Rattle.listing.proofs.FoundLaws.{read-small, read-next}
+use Rattle.listing.proofs.RowSizes.{refused-few, row-few}
 
 -- ---- the outcomes
 
@@ -26,14 +28,14 @@ data Outcome (last : Bool) (phase : Phase) (w : List ℕ) (p : ℕ) : Move → T
   asking : last ≡ false → length w ≤ p + longest → Outcome last phase w p more
   ending : Outcome last phase w p ended
   passing : {then : Phase} {next : ℕ} → Further w phase p then next → Outcome last phase w p (on then next)
-  printing : {r : Answer} {then : Phase} {next : ℕ} → p < next → next ≤ length w → Outcome last phase w p (gives r then next)
+  printing : {r : Answer} {then : Phase} {next : ℕ} → p < next → next ≤ length w → length (rowBytes r) ≤ longestRow → Outcome last phase w p (gives r then next)
 
 module _ {last : Bool} {phase : Phase} {w : List ℕ} {p : ℕ} where
   not-beyond : {m : Move} → Outcome last phase w p m → m ≡ beyond → ⊥
   not-beyond (asking a b) e = let z : _≡_ {A = ℕ} 0 1 = cc in omega arith
   not-beyond ending e = let z : _≡_ {A = ℕ} 0 1 = cc in omega arith
   not-beyond (passing f) e = let z : _≡_ {A = ℕ} 0 1 = cc in omega arith
-  not-beyond (printing a b) e = let z : _≡_ {A = ℕ} 0 1 = cc in omega arith
+  not-beyond (printing a b c) e = let z : _≡_ {A = ℕ} 0 1 = cc in omega arith
 
   asked : Outcome last phase w p more → (last ≡ false) × (length w ≤ p + longest)
   asked (asking a b) = (a, b)
@@ -42,7 +44,10 @@ module _ {last : Bool} {phase : Phase} {w : List ℕ} {p : ℕ} where
   passed (passing f) = f
 
   printed : {r : Answer} {then : Phase} {next : ℕ} → Outcome last phase w p (gives r then next) → (p < next) × (next ≤ length w)
-  printed (printing a b) = (a, b)
+  printed (printing a b c) = (a, b)
+
+  shortened : {r : Answer} {then : Phase} {next : ℕ} → Outcome last phase w p (gives r then next) → length (rowBytes r) ≤ longestRow
+  shortened (printing a b c) = c
 
   -- each is as asked
   turned : {m : Move} → Outcome last phase w p m → Turned last phase w p m
@@ -52,6 +57,7 @@ module _ {last : Bool} {phase : Phase} {w : List ℕ} {p : ℕ} where
         asks = λ e. asked (rw e at o);
         passes = λ then next e. passed (rw e at o);
         prints = λ r then next e. printed (rw e at o);
+        short = λ r then next e. shortened (rw e at o);
       }
 
 module _ (last : Bool) (w : List ℕ) (p : ℕ) (l : p ≤ length w) where
@@ -102,14 +108,14 @@ module _ (last : Bool) (w : List ℕ) (p : ℕ) (l : p ≤ length w) where
 
   -- ---- reading a line
 
-  read-outcome : {phase : Phase} → Outcome last phase w p (readMove (lineOf (drop p w)) (readAnswer w p))
+  read-outcome : {phase : Phase} → sizeOf (lineOf (drop p w)) ≤ longest → Outcome last phase w p (readMove (lineOf (drop p w)) (readAnswer w p))
   unfolding readMove
-  read-outcome {phase} = by (eqb (numberOf (readAnswer w p)) 1) refl
+  read-outcome {phase} h = by (eqb (numberOf (readAnswer w p)) 1) refl
     where
       by : (c : Bool) → eqb (numberOf (readAnswer w p)) 1 ≡ c
           → Outcome last phase w p (pick c ended (gives (rowOf (lineOf (drop p w)) (readAnswer w p)) P.Lines (nextOf (readAnswer w p))))
       by true e = ending
-      by false e = let n = read-next w p l (eqb-false _ _ e) in printing (n .0) (n .1)
+      by false e = let n = read-next w p l (eqb-false _ _ e) in printing (n .0) (n .1) (row-few (lineOf (drop p w)) (readAnswer w p) h (read-small w p))
 
   line-outcome : {phase : Phase} → Outcome last phase w p (lineMove last w p (lineOf (drop p w)))
   unfolding lineMove
@@ -117,8 +123,8 @@ module _ (last : Bool) (w : List ℕ) (p : ℕ) (l : p ≤ length w) where
     where
       by : (c d : Bool) → ltb longest (sizeOf (lineOf (drop p w))) ≡ c → isWhole last (lineOf (drop p w)) ≡ d
           → Outcome last phase w p (pick c (gives (says 22 []) (pick d P.Lines P.Rest) (pastLine w p)) (pick d (readMove (lineOf (drop p w)) (readAnswer w p)) more))
-      by true d e f = printing {next = pastLine w p} (omega (arith, ltb-true longest (sizeOf (lineOf (drop p w))) e)) past-within
-      by false true e f = read-outcome
+      by true d e f = printing {next = pastLine w p} (omega (arith, ltb-true longest (sizeOf (lineOf (drop p w))) e)) past-within (refused-few 21 [] (omega arith))
+      by false true e f = read-outcome (ltb-false longest (sizeOf (lineOf (drop p w))) e)
       by false false e f =
           let o = open-end last w p l f in
           asking (o .0) (omega (arith, ltb-false longest (sizeOf (lineOf (drop p w))) e))

@@ -1,14 +1,13 @@
 -- What the input holds from a place of a window on is the window from there on, then what follows it; both laws of buffers are that. Assumes nothing.
 use Prim.Native.Nat.{ℕ, _+_, _-_, _≤_}
 use mathlib.Core.Path.{_≡_, sym, ap, _∙_}
-use mathlib.Core.Bool.{Bool, true, false≢true}
+use mathlib.Core.Bool.{Bool, true}
 use mathlib.Core.List.{List, _++_, append-nil}
 use native.Mathlib.Omega.{arith}
 use lib.ListN.{length, take, drop, length-append, length-take, length-drop, take-append-drop, drop-of-length-le}
 use lib.Seq.{take-append-seam, take-add, drop-append-le, drop-drop}
-use borrow.Author.Tests.{le-leb}
-use Rattle.text.proofs.Lists.{drop-take, take-over}
-use Rattle.listing.specs.Kept.{inOrder, keptBytes, keptAnswer}
+use Rattle.text.proofs.Lists.{drop-take, length-over, take-over}
+use Rattle.listing.specs.Ask.{keptBytes}
 use Rattle.listing.specs.Demands.{Holds, KeepsWindow, Grows}
 
 module _ {s : List ℕ} {base : ℕ} {w : List ℕ} {last : Bool} (h : Holds s base w last) where
@@ -38,10 +37,17 @@ module _ {s : List ℕ} {base : ℕ} {w : List ℕ} {last : Bool} (h : Holds s b
       }
 
 kept-bytes : (at end : ℕ) (l : List ℕ) → at ≤ end → end ≤ length l → take (end - at) (keptBytes at end l) ≡ drop at (take end l)
-unfolding keptBytes keptAnswer inOrder
+unfolding keptBytes
 kept-bytes at end l a b =
-    rw (le-leb at end a, le-leb end (length l) b)
-    (take-over (take (end - at) (drop at l)) l (end - at) (simp (length-take, length-drop) (omega arith)) ∙ sym (drop-take l at end a b))
+    take-over (take (end - at) (drop at l)) l (end - at) (simp (length-take, length-drop) (omega arith)) ∙ sym (drop-take l at end a b)
+
+pub kept-length : (at end : ℕ) (l : List ℕ) → at ≤ end → end ≤ length l → length (take (end - at) (keptBytes at end l)) ≡ end - at
+kept-length at end l a b = ap length (kept-bytes at end l a b) ∙ simp (length-drop, length-take) (omega arith)
+
+pub kept-size : (at end : ℕ) (l : List ℕ) → at ≤ end → end ≤ length l → length (keptBytes at end l) ≡ length l
+unfolding keptBytes
+kept-size at end l a b =
+    length-over (take (end - at) (drop at l)) l (simp (length-take, length-drop) (omega arith))
 
 pub keeps-window : KeepsWindow keptBytes
 unfolding KeepsWindow
@@ -49,10 +55,10 @@ keeps-window s base at end l last a b h =
     rw (kept-bytes at end l a b) (holds-later h at (simp length-take (omega arith)))
 
 pub grows : Grows
-grows s base w v h k =
+grows s base w v last h k =
     let n = length-append w v in
     record {
       within = omega arith;
       part = rw (n, take-add (length w) (length v) (drop base s), h .part, drop-drop (length w) base s, k .part);
-      all = λ e. absurd (false≢true e);
+      all = λ e. (let z = k .all e in omega arith);
     }

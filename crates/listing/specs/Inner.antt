@@ -1,17 +1,25 @@
 -- What the private functions of this crate promise each other. Assumes nothing.
-use Prim.Native.Nat.{ℕ, _+_, _≤_}
+use Prim.Native.Nat.{ℕ, _+_, _-_, _<_, _≤_}
 use mathlib.Core.Path.{_≡_}
-use mathlib.Core.Bool.{Bool, true, false}
+use mathlib.Core.Bool.{Bool, false}
 use mathlib.Core.List.{List, _∷_, _++_}
 use lib.ListN.{length, take, drop}
-use Rattle.text.specs.Answer.{says}
+use Rattle.text.specs.Answer.{Answer, says}
+use Rattle.text.specs.Over.{overAt}
+use Rattle.text.specs.declared.copy.Written.{Written}
+use Rattle.text.specs.declared.copy.Written.the-variants.{Done, Short}
 use Rattle.line.specs.Line.{lineOf, readAnswer}
 use Rattle.line.specs.Paper.{recordPlaces}
 use Rattle.line.specs.declared.read.Record.{Record}
+use Rattle.listing.specs.Output.{readAfter, refusedAfter}
 use Rattle.listing.specs.Listing.{sizeOf}
-use Rattle.listing.specs.Turn.{isWhole}
+use Rattle.listing.specs.Turn.{isWhole, turnMove}
+use Rattle.listing.specs.Paper.{turnPaper}
+use Rattle.listing.specs.Ask.{keptBytes}
+use Rattle.listing.specs.declared.turn.Phase.{Phase}
+use Rattle.listing.specs.declared.turn.Turn.{Turn}
 use Rattle.listing.specs.declared.turn.Reach.{Reach}
-use Rattle.listing.specs.declared.turn.Reach.the-variants as R
+use Rattle.listing.specs.declared.print.Totals.{Totals}
 
 -- the line at a place ends at `next`, which is in the window; an LF ends it, or not
 pub record Ends (w : List ℕ) (at next : ℕ) (fed : Bool) : Type 0 where
@@ -20,8 +28,14 @@ pub record Ends (w : List ℕ) (at next : ℕ) (fed : Bool) : Type 0 where
   pub whole : isWhole false (lineOf (drop at w)) ≡ fed
 
 abbrev pub Reaches : List ℕ → ℕ → Reach → Type 0
-Reaches w at (R.Fed next) = Ends w at next true
-Reaches w at (R.Open next) = Ends w at next false
+Reaches w at x = Ends w at (x .end) (x .fed)
+
+-- where a line was found to end further on than a place, so does the line at that place
+abbrev pub Known : List ℕ → ℕ → Reach → Type 0
+Known w at x = at < x .end → Reaches w at x
+
+abbrev pub TakesTurn : List ℕ → Bool → Phase → ℕ → Turn → Type 0
+TakesTurn w last phase at r = turnPaper r ≡ turnMove last phase w at
 
 -- the line reader gave this record and next place
 pub record ReadAt (w : List ℕ) (at next : ℕ) (r : Record) : Type 0 where
@@ -33,3 +47,18 @@ pub record Put (at : ℕ) (s l : List ℕ) (n : ℕ) (l′ : List ℕ) : Type 0 
   pub room : length l′ ≡ length l
   pub within : n ≤ length l′
   pub begun : take n l′ ≡ take at l ++ s
+
+-- bytes laid behind the first `at` of an output l, which holds n of them then; or no room for them
+pub data Lays (at : ℕ) (vs l : List ℕ) : Written → List ℕ → Type 0 where
+  has-room : {n : ℕ} {l′ : List ℕ} → n ≡ at + length vs → n ≤ length l → l′ ≡ overAt at vs l → Lays at vs l (Done n) l′
+  no-room : {l′ : List ℕ} → length l < at + length vs → l′ ≡ l → Lays at vs l Short l′
+
+-- the bytes of a buffer from one place up to another moved to its front
+pub record Keeps (from end : ℕ) (b : List ℕ) (n : ℕ) (b′ : List ℕ) : Type 0 where
+  pub count : n ≡ end - from
+  pub bytes : b′ ≡ keptBytes from end b
+
+-- the totals after one more row
+pub record Counts (t : Totals) (a : Answer) (r : Totals) : Type 0 where
+  pub read : r .read ≡ readAfter (t .read) a
+  pub refused : r .refused ≡ refusedAfter (t .refused) a

@@ -1,8 +1,9 @@
 pub mod Listing
 pub mod Output
 pub mod Turn
-pub mod Kept
 pub mod Paper
-pub mod Promises
 pub mod Inner
+pub mod Drive
+pub mod Ask
+pub mod Promises
 pub mod Demands

@@ -3,32 +3,20 @@ use Prim.Native.Nat.{ℕ}
 use mathlib.Core.Path.{_≡_}
 use mathlib.Core.Bool.{Bool}
 use mathlib.Core.List.{List}
-use Rattle.text.specs.Over.{Writes}
 use Rattle.text.specs.Outcome.{OneAnswer, OneOutcome}
-use Rattle.text.specs.declared.copy.Written.{Written}
-use Rattle.listing.specs.Output.{rowBytes, totalBytes}
-use Rattle.listing.specs.Turn.{turnMove}
-use Rattle.listing.specs.Paper.{rowPaper, turnPaper, Keeps, Counts}
-use Rattle.listing.specs.declared.print.Totals.{Totals}
-use Rattle.listing.specs.declared.turn.Phase.{Phase}
-use Rattle.listing.specs.declared.turn.Row.{Row}
-use Rattle.listing.specs.declared.turn.Turn.{Turn}
+use Rattle.listing.specs.Drive.{start, Drives}
+use Rattle.listing.specs.Ask.{Asks}
+use Rattle.listing.specs.declared.ask.Ask.{Ask}
+use Rattle.listing.specs.declared.drive.State.{State}
 
-abbrev pub TakesTurn : List ℕ → Bool → Phase → ℕ → Turn → Type 0
-TakesTurn w last phase at r = turnPaper r ≡ turnMove last phase w at
+abbrev pub BeginsListing : State → Type 0
+BeginsListing r = r ≡ start
 
-abbrev pub PrintsRow : Row → List ℕ → Written → List ℕ → Type 0
-PrintsRow row = Writes (rowBytes (rowPaper row))
-
-abbrev pub PrintsTotals : Totals → List ℕ → Written → List ℕ → Type 0
-PrintsTotals totals = Writes (totalBytes (totals .read) (totals .refused))
-
-abbrev pub CountsRow : Totals → Row → Totals → Type 0
-CountsRow totals row = Counts totals (rowPaper row)
+-- two outcomes over a buffer and an output are equal: the answer, and what is left in each
+abbrev pub OneAsking : (Ask → List ℕ → List ℕ → Type 0) → Type 0
+OneAsking allows = (r r′ : Ask) (b b′ l l′ : List ℕ) → allows r b l → allows r′ b′ l′ → (r ≡ r′) × (b ≡ b′) × (l ≡ l′)
 
 pub record Determined : Type 0 where
-  pub take-turn : (w : List ℕ) (last : Bool) (phase : Phase) (at : ℕ) → OneAnswer (TakesTurn w last phase at)
-  pub keep-rest : (l : List ℕ) (from end : ℕ) → OneOutcome (Keeps from end l)
-  pub print-row : (row : Row) (l : List ℕ) → OneOutcome (PrintsRow row l)
-  pub print-totals : (totals : Totals) (l : List ℕ) → OneOutcome (PrintsTotals totals l)
-  pub count-row : (totals : Totals) (row : Row) → OneAnswer (CountsRow totals row)
+  pub first-state : OneAnswer BeginsListing
+  pub drive : (w : List ℕ) (last : Bool) (s : State) (l : List ℕ) → OneOutcome (Drives last w s l)
+  pub ask-next : (b : List ℕ) (end : ℕ) (last : Bool) (s : State) (l : List ℕ) → OneAsking (Asks last end s b l)

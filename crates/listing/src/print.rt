@@ -9,11 +9,9 @@ ghost use Prim.Native.Nat.{_≤_, _+_};
 ghost use lib.ListN.{length};
 ghost use mathlib.Core.List.{[], _∷_};
 ghost use Rattle.text.specs.Answer.{says};
-ghost use Rattle.text.specs.Over.{Writes};
-ghost use Rattle.listing.specs.Output.{numbers, rowBytes, oneMore};
-ghost use Rattle.listing.specs.Paper.{refusalNumber};
-ghost use Rattle.listing.specs.Promises.{PrintsRow, PrintsTotals, CountsRow};
-ghost use Rattle.listing.specs.Inner.{Put};
+ghost use Rattle.listing.specs.Output.{numbers, rowBytes, totalBytes, oneMore};
+ghost use Rattle.listing.specs.Paper.{refusalNumber, rowPaper};
+ghost use Rattle.listing.specs.Inner.{Put, Lays, Counts};
 
 // How many lines were read, and how many refused.
 pub struct Totals {
@@ -40,12 +38,25 @@ fn put_number(line: &mut [u8], at: usize, n: u64) -> usize
     ensures { λ r. ⌜ Put at (numbers (n ∷ [])) (now (line .entry)) r (now (line .exit)) ⌝ }
     ensures { λ r. ⌜ r ≤ at + 21 ⌝ }
 {
-    let start = put(line, at, b" ");
-    let mut digits = [0u8; 20];
-    let written = print_decimal(n, &mut digits);
+    let written = print_decimal(n, &mut line[at + 1..]);
+    line[at] = b' ';
     match written {
-        Written::Done(len) => put(line, start, &digits[..len]),
-        Written::Short => start,
+        Written::Done(len) => at + 1 + len,
+        Written::Short => at,
+    }
+}
+
+// Lays a line behind the first `at` bytes of the output, and answers how many it holds then.
+fn lay(line: &[u8], out: &mut [u8], at: usize) -> Written
+    ensures { λ r. ⌜ Lays at (now (line .entry)) (now (out .entry)) r (now (out .exit)) ⌝ }
+{
+    if at > out.len() {
+        return Written::Short;
+    }
+    let written = copy(line, &mut out[at..]);
+    match written {
+        Written::Done(len) => Written::Done(at + len),
+        Written::Short => Written::Short,
     }
 }
 
@@ -62,8 +73,8 @@ fn number_of(why: Refusal) -> u64
     }
 }
 
-fn print_read(columns: u64, infos: u64, samples: u64, out: &mut [u8]) -> Written
-    ensures { λ r. ⌜ Writes (rowBytes (says 0 (columns ∷ infos ∷ samples ∷ []))) (now (out .entry)) r (now (out .exit)) ⌝ }
+fn print_read(columns: u64, infos: u64, samples: u64, out: &mut [u8], at: usize) -> Written
+    ensures { λ r. ⌜ Lays at (rowBytes (says 0 (columns ∷ infos ∷ samples ∷ []))) (now (out .entry)) r (now (out .exit)) ⌝ }
 {
     let mut line = [0u8; 96];
     let word = put(&mut line, 0, b"ok");
@@ -71,35 +82,35 @@ fn print_read(columns: u64, infos: u64, samples: u64, out: &mut [u8]) -> Written
     let second = put_number(&mut line, first, infos);
     let third = put_number(&mut line, second, samples);
     let end = put(&mut line, third, b"\n");
-    copy(&line[..end], out)
+    lay(&line[..end], out, at)
 }
 
-fn print_refused(number: u64, out: &mut [u8]) -> Written
+fn print_refused(number: u64, out: &mut [u8], at: usize) -> Written
     requires { ⌜ 1 ≤ number ⌝ }
-    ensures { λ r. ⌜ Writes (rowBytes (says number [])) (now (out .entry)) r (now (out .exit)) ⌝ }
+    ensures { λ r. ⌜ Lays at (rowBytes (says number [])) (now (out .entry)) r (now (out .exit)) ⌝ }
 {
     let mut line = [0u8; 96];
     let word = put(&mut line, 0, b"refused");
     let last = put_number(&mut line, word, number);
     let end = put(&mut line, last, b"\n");
-    copy(&line[..end], out)
+    lay(&line[..end], out, at)
 }
 
-// Writes a row's line at the start of the output.
-pub fn print_row(row: Row, out: &mut [u8]) -> Written
-    ensures { λ r. ⌜ PrintsRow row (now (out .entry)) r (now (out .exit)) ⌝ }
+// Prints a row behind the first `at` bytes of the output.
+pub(crate) fn print_row(row: Row, out: &mut [u8], at: usize) -> Written
+    ensures { λ r. ⌜ Lays at (rowBytes (rowPaper row)) (now (out .entry)) r (now (out .exit)) ⌝ }
 {
     match row {
         Row::Read(columns, infos, samples) => {
-            print_read(columns as u64, infos as u64, samples as u64, out)
+            print_read(columns as u64, infos as u64, samples as u64, out, at)
         }
-        Row::Refused(why) => print_refused(number_of(why), out),
+        Row::Refused(why) => print_refused(number_of(why), out, at),
     }
 }
 
-// Writes the last line at the start of the output.
-pub fn print_totals(totals: Totals, out: &mut [u8]) -> Written
-    ensures { λ r. ⌜ PrintsTotals totals (now (out .entry)) r (now (out .exit)) ⌝ }
+// Prints the last line behind the first `at` bytes of the output.
+pub(crate) fn print_totals(totals: Totals, out: &mut [u8], at: usize) -> Written
+    ensures { λ r. ⌜ Lays at (totalBytes (totals .read) (totals .refused)) (now (out .entry)) r (now (out .exit)) ⌝ }
 {
     let read = totals.read;
     let refused = totals.refused;
@@ -109,7 +120,7 @@ pub fn print_totals(totals: Totals, out: &mut [u8]) -> Written
     let third = put(&mut line, second, b" refused");
     let last = put_number(&mut line, third, refused);
     let end = put(&mut line, last, b"\n");
-    copy(&line[..end], out)
+    lay(&line[..end], out, at)
 }
 
 // One more, where 64 bits hold it.
@@ -123,8 +134,8 @@ fn one_more(n: u64) -> u64
 }
 
 // The totals after one more row.
-pub fn count_row(totals: Totals, row: Row) -> Totals
-    ensures { λ r. ⌜ CountsRow totals row r ⌝ }
+pub(crate) fn count_row(totals: Totals, row: Row) -> Totals
+    ensures { λ r. ⌜ Counts totals (rowPaper row) r ⌝ }
 {
     let read = totals.read;
     let refused = totals.refused;

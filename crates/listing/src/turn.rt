@@ -7,10 +7,12 @@ use line::place::place_of;
 use line::read::Read;
 use line::read::Record;
 use line::read::read_line;
+use pieces::block::past_quiet;
 use pieces::step::Step;
 use pieces::step::piece_at;
 use samples::columns::count as count_samples;
 ghost use mathlib.Core.Path.{_≡_};
+ghost use mathlib.Core.Bool.{_||_};
 ghost use Prim.Native.Nat.{_≤_};
 ghost use lib.ListN.{length, drop};
 ghost use mathlib.Core.List.{[]};
@@ -20,8 +22,7 @@ ghost use Rattle.line.specs.Line.{lineOf, readAnswer};
 ghost use Rattle.listing.specs.Listing.{columnsOf, infosIn, countsOf};
 ghost use Rattle.listing.specs.Turn.{passMove, leadMove, lineMove, readMove, gives};
 ghost use Rattle.listing.specs.Paper.{rowPaper, turnPaper};
-ghost use Rattle.listing.specs.Promises.{TakesTurn};
-ghost use Rattle.listing.specs.Inner.{Reaches, ReadAt};
+ghost use Rattle.listing.specs.Inner.{Reaches, ReadAt, TakesTurn};
 ghost use Rattle.listing.specs.declared.turn.Phase.the-variants.{Lines, Rest};
 
 const LONGEST: usize = 65536;
@@ -73,48 +74,66 @@ pub enum Turn {
     Found(Row, Phase, usize),
 }
 
-// Where the line at a place ends in the window: past its LF, or with the window.
-enum Reach {
-    Fed(usize),
-    Open(usize),
+// How far the line at a place reaches in the window: past its LF, or to the window's end.
+pub(crate) struct Reach {
+    pub(crate) end: usize,
+    pub(crate) fed: bool,
 }
 
-fn reach_from(w: &[u8], at: usize) -> Reach
+// Looks for the line's LF, by blocks of 32 bytes first, since few lines are shorter.
+pub(crate) fn reach_from(w: &[u8], at: usize) -> Reach
     requires { ⌜ at ≤ length (now w) ⌝ }
     ensures { λ r. ⌜ Reaches (now (w .entry)) at r ⌝ }
 {
-    let found = piece_at(w, b'\n', at);
+    let from = past_quiet(w, b'\n', b'\n', at);
+    let found = piece_at(w, b'\n', from);
     match found {
-        Step::More(_, next) => Reach::Fed(next),
-        Step::Last(_) => Reach::Open(w.len()),
-        Step::Nothing => Reach::Open(w.len()),
-        Step::Beyond => Reach::Open(w.len()),
+        Step::More(_, end) => Reach { end, fed: true },
+        Step::Last(_) => Reach {
+            end: w.len(),
+            fed: false,
+        },
+        Step::Nothing => Reach {
+            end: w.len(),
+            fed: false,
+        },
+        Step::Beyond => Reach {
+            end: w.len(),
+            fed: false,
+        },
     }
+}
+
+// Whether a line is whole: an LF ends it, or the window is all that is left of the input.
+fn is_whole(fed: bool, last: bool) -> bool
+    ensures { λ r. ⌜ r ≡ (fed || last) ⌝ }
+{
+    if fed {
+        return true;
+    }
+    last
 }
 
 // Passes over the rest of a line.
-fn pass(w: &[u8], last: bool, at: usize, within: Phase, after: Phase) -> Turn
-    requires { ⌜ at ≤ length (now w) ⌝ }
+fn pass(w: &[u8], last: bool, at: usize, reach: Reach, within: Phase, after: Phase) -> Turn
+    requires { ⌜ Reaches (now w) at reach ⌝ }
     ensures { λ r. ⌜ turnPaper r ≡ passMove last within after at (lineOf (drop at (now (w .entry)))) ⌝ }
 {
-    let reach = reach_from(w, at);
-    match reach {
-        Reach::Fed(next) => Turn::On(after, next),
-        Reach::Open(end) => {
-            if last {
-                return Turn::On(after, end);
-            }
-            if end == at {
-                return Turn::More;
-            }
-            Turn::On(within, end)
-        }
+    let end = reach.end;
+    let whole = is_whole(reach.fed, last);
+    if whole {
+        return Turn::On(after, end);
     }
+    if end == at {
+        return Turn::More;
+    }
+    Turn::On(within, end)
 }
 
 // At the start of a line, where only leading lines came before.
-fn lead(w: &[u8], last: bool, at: usize) -> Turn
+fn lead(w: &[u8], last: bool, at: usize, reach: Reach) -> Turn
     requires { ⌜ at ≤ length (now w) ⌝ }
+    requires { ⌜ Reaches (now w) at reach ⌝ }
     ensures { λ r. ⌜ turnPaper r ≡ leadMove last at (drop at (now (w .entry))) ⌝ }
 {
     if at == w.len() {
@@ -124,7 +143,7 @@ fn lead(w: &[u8], last: bool, at: usize) -> Turn
         return Turn::More;
     }
     if w[at] == b'#' {
-        return pass(w, last, at, Phase::Comment, Phase::Lead);
+        return pass(w, last, at, reach, Phase::Comment, Phase::Lead);
     }
     Turn::On(Phase::Lines, at)
 }
@@ -198,41 +217,33 @@ fn too_long(whole: bool, next: usize) -> Turn
 }
 
 // Reads the line at a place.
-fn read_at(w: &[u8], last: bool, at: usize) -> Turn
+fn read_at(w: &[u8], last: bool, at: usize, reach: Reach) -> Turn
     requires { ⌜ at ≤ length (now w) ⌝ }
+    requires { ⌜ Reaches (now w) at reach ⌝ }
     ensures { λ r. ⌜ turnPaper r ≡ lineMove last (now (w .entry)) at (lineOf (drop at (now (w .entry)))) ⌝ }
 {
-    let reach = reach_from(w, at);
-    match reach {
-        Reach::Fed(next) => {
-            if next - at > LONGEST {
-                return too_long(true, next);
-            }
-            read_whole(w, at)
-        }
-        Reach::Open(end) => {
-            if end - at > LONGEST {
-                return too_long(last, end);
-            }
-            if last {
-                return read_whole(w, at);
-            }
-            Turn::More
-        }
+    let end = reach.end;
+    let whole = is_whole(reach.fed, last);
+    if end - at > LONGEST {
+        return too_long(whole, end);
     }
+    if whole {
+        return read_whole(w, at);
+    }
+    Turn::More
 }
 
-// One turn over a window of the input, from a place in it; `last` says that the window is all that is left of the input.
-pub fn take_turn(w: &[u8], last: bool, phase: Phase, at: usize) -> Turn
+// One turn from a place of the window, where it is known how far the line there reaches; `last` says that the window is all that
+// is left of the input.
+pub(crate) fn turn_at(w: &[u8], last: bool, phase: Phase, at: usize, reach: Reach) -> Turn
+    requires { ⌜ at ≤ length (now w) ⌝ }
+    requires { ⌜ Reaches (now w) at reach ⌝ }
     ensures { λ r. ⌜ TakesTurn (now (w .entry)) last phase at r ⌝ }
 {
-    if at > w.len() {
-        return Turn::Beyond;
-    }
     match phase {
-        Phase::Lead => lead(w, last, at),
-        Phase::Comment => pass(w, last, at, Phase::Comment, Phase::Lead),
-        Phase::Lines => read_at(w, last, at),
-        Phase::Rest => pass(w, last, at, Phase::Rest, Phase::Lines),
+        Phase::Lead => lead(w, last, at, reach),
+        Phase::Comment => pass(w, last, at, reach, Phase::Comment, Phase::Lead),
+        Phase::Lines => read_at(w, last, at, reach),
+        Phase::Rest => pass(w, last, at, reach, Phase::Rest, Phase::Lines),
     }
 }

@@ -1,35 +1,58 @@
--- What is put or read behind the first bytes of a buffer ends within it. Assumes nothing.
-use Prim.Native.Nat.{ℕ, _+_, _-_, _^_, _≤_, _<_}
-use mathlib.Core.Path.{_≡_}
+-- A read behind the first bytes of a buffer leaves them as they are, and ends within it. Assumes nothing.
+use Prim.Native.Nat.{ℕ, _+_, _-_, _<_, _≤_}
+use mathlib.Core.Path.{_≡_, refl, sym, ap, _∙_}
+use mathlib.Core.Bool.{true, false, true≢false}
 use mathlib.Core.List.{List}
 use native.Mathlib.Omega.{arith}
 use lib.ListN.{length, take, drop}
-use mir.Syntax.{w64}
-use mir.Val.{Fits}
-use borrow.Rule.Slice.PartMut.{putMid, same-len-mid}
-use Rattle.text.specs.Over.{Writes}
-use Rattle.text.specs.declared.copy.Written.{Written}
-use Rattle.text.specs.declared.copy.Written.the-variants.{Done}
+use lib.Seq.{take-take}
+use borrow.Rule.Slice.PartMut.{putMid, same-len-mid, take-put}
 use Rattle.text.proofs.Lists.{length-rest}
-use Rattle.text.proofs.WrittenLaws.{writes-done}
+use Rattle.vcflist.specs.Fills.{Fills}
 
--- ---- a line that is put
+-- what was kept stands, and `end` bytes are held
+pub record Filling (kept : ℕ) (b₀ b : List ℕ) (end : ℕ) : Type 0 where
+  pub len : length b ≡ length b₀
+  pub stay : take kept b ≡ take kept b₀
+  pub from : kept ≤ end
+  pub within : kept ≤ length b₀ → end ≤ length b₀
 
-pub put-fits : (at : ℕ) (l : List ℕ) {vs l′ : List ℕ} {r : Written} {n : ℕ} → Writes vs (take (length l - at) (drop at l)) r l′ → r ≡ Done n → at ≤ length l
-    → length l < 2 ^ 64 → Fits w64 (at + n)
-put-fits at l w e h f = let d = writes-done w e in let p = d .room in let q = d .count in let k = length-rest l at in record { fits = omega arith }
+pub fill-first : (kept : ℕ) (b : List ℕ) → Filling kept b b kept
+fill-first kept b = record { len = refl; stay = refl; from = omega arith; within = λ h. h }
 
--- ---- a read that leaves ys behind the first `at` bytes
+module _ {kept end : ℕ} {b₀ b : List ℕ} (g : Filling kept b₀ b end) where
+  -- the buffer is full
+  pub fill-full : length b ≤ end → Fills kept b₀ (record { end = end; last = false; failed = false }) b
+  fill-full h = record { stay = g .stay; from = g .from; within = g .within; full = λ x y. omega (arith, g .len) }
 
-module _ (at : ℕ) (l ys : List ℕ) (e : length ys ≡ length (take (length l - at) (drop at l))) where
-  abbrev l′ : List ℕ
-  l′ = putMid at (length l - at) l ys
+  module _ (ys : List ℕ) (e : length ys ≡ length (take (length b - end) (drop end b))) (i : end < length b) where
+    abbrev b′ : List ℕ
+    b′ = putMid end (length b - end) b ys
 
-  pub read-same : length l′ ≡ length l
-  read-same = same-len-mid at (length l - at) l ys e
+    pub read-same : length b′ ≡ length b
+    read-same = same-len-mid end (length b - end) b ys e
 
-  module _ {n : ℕ} (h : n ≤ length (take (length l′ - at) (drop at l′))) (i : at < length l) where
-    pub read-less : (n ≡ 0 → ⊥) → length l′ - (at + n) < length l - at
-    read-less z = let a = read-same in let k = length-rest l′ at in omega arith
+    kept-stays : take kept b′ ≡ take kept b₀
+    kept-stays =
+        let f = g .from in
+        sym (take-take kept end b′ f) ∙ ap (take kept) (take-put end (length b - end) b ys (omega arith)) ∙ take-take kept end b f ∙ g .stay
 
-pub ruleset laws = (put-fits, read-same, read-less)
+    -- the read failed, or the input ends
+    pub fill-failed : Fills kept b₀ (record { end = end; last = false; failed = true }) b′
+    fill-failed = record { stay = kept-stays; from = g .from; within = g .within; full = λ x y. absurd (true≢false y) }
+
+    pub fill-ended : Fills kept b₀ (record { end = end; last = true; failed = false }) b′
+    fill-ended = record { stay = kept-stays; from = g .from; within = g .within; full = λ x y. absurd (true≢false x) }
+
+    module _ {n : ℕ} (h : n ≤ length (take (length b′ - end) (drop end b′))) where
+      pub read-on : Filling kept b₀ b′ (end + n)
+      read-on =
+          let a = read-same in
+          let k = length-rest b′ end in
+          let l = g .len in
+          record { len = a ∙ l; stay = kept-stays; from = omega (arith, g .from); within = λ z. omega arith }
+
+      pub read-less : (n ≡ 0 → ⊥) → length b′ - (end + n) < length b - end
+      read-less z = let a = read-same in let k = length-rest b′ end in omega arith
+
+pub ruleset laws = (fill-first, fill-full, read-same, fill-failed, fill-ended, read-on, read-less)

@@ -11,11 +11,8 @@ Inv-loop buffer₀ from end len i₀ buffer i = Moving from end len buffer₀ bu
 abbrev μ-loop : tie.MeasureT-loop
 μ-loop buffer₀ from end len i₀ buffer i = len - i
 
-returns : tie.Need-returns Inv-loop μ-loop
-returns c = search (needs, laws)
-
-returns-2 : tie.Need-returns-2 Inv-loop μ-loop
-returns-2 c = search (needs, laws)
+sub-len : tie.Need-sub-len Inv-loop μ-loop
+sub-len c = search (needs, laws)
 
 loop-holds : tie.Need-loop-holds Inv-loop μ-loop
 loop-holds c = search (needs, laws)
@@ -41,8 +38,8 @@ loop-again c = search (needs, laws)
 same-length : tie.Need-same-length Inv-loop μ-loop
 same-length c = search (needs, laws)
 
-returns-3 : tie.Need-returns-3 Inv-loop μ-loop
-returns-3 c = search (needs, laws)
+returns : tie.Need-returns Inv-loop μ-loop
+returns c = search (needs, laws)
 
 pub keep-rest-spec : {M : Type 1} → statement M
 keep-rest-spec =
@@ -50,8 +47,7 @@ keep-rest-spec =
     (tie.spec
     Inv-loop
     μ-loop
-    returns
-    returns-2
+    sub-len
     loop-holds
     add-buffer
     slice-read-buffer
@@ -60,4 +56,4 @@ keep-rest-spec =
     loop-less
     loop-again
     same-length
-    returns-3)
+    returns)

@@ -1,59 +1,59 @@
--- `listing::print::print_read` meets its contract: the pieces, put one behind the other, are the row's bytes. Assumes nothing.
-use Rattle.listing.proofs.PrintLaws.{laws}
+-- `listing::print::print_read` meets its contract: the line is the pieces put one behind the other, and is laid whole. Assumes nothing.
+use Rattle.listing.proofs.PrintLaws.{line-laws}
 use borrow.Author.Needs.{needs}
 use Rattle.listing.proofs.print.print_read.Statement.{statement}
 use Rattle.listing.proofs.print.print_read.Tie as tie
 
 slice-aggregate-put : tie.Need-slice-aggregate-put
-slice-aggregate-put c = search (needs, laws)
+slice-aggregate-put c = search (needs, line-laws)
 
 slice-aggregate-put-2 : tie.Need-slice-aggregate-put-2
-slice-aggregate-put-2 c = search (needs, laws)
+slice-aggregate-put-2 c = search (needs, line-laws)
 
 put-requires : tie.Need-put-requires
-put-requires c κs = search (needs, laws)
+put-requires c κs = search (needs, line-laws)
 
 slice-aggregate-put-number : tie.Need-slice-aggregate-put-number
-slice-aggregate-put-number c = search (needs, laws)
+slice-aggregate-put-number c = search (needs, line-laws)
 
 put-number-requires : tie.Need-put-number-requires
-put-number-requires c κs = search (needs, laws)
+put-number-requires c κs = search (needs, line-laws)
 
 slice-aggregate-put-number-2 : tie.Need-slice-aggregate-put-number-2
-slice-aggregate-put-number-2 c = search (needs, laws)
+slice-aggregate-put-number-2 c = search (needs, line-laws)
 
 put-number-requires-2 : tie.Need-put-number-requires-2
-put-number-requires-2 c κs = search (needs, laws)
+put-number-requires-2 c κs = search (needs, line-laws)
 
 slice-aggregate-put-number-3 : tie.Need-slice-aggregate-put-number-3
-slice-aggregate-put-number-3 c = search (needs, laws)
+slice-aggregate-put-number-3 c = search (needs, line-laws)
 
 put-number-requires-3 : tie.Need-put-number-requires-3
-put-number-requires-3 c κs = search (needs, laws)
+put-number-requires-3 c κs = search (needs, line-laws)
 
 slice-aggregate-put-3 : tie.Need-slice-aggregate-put-3
-slice-aggregate-put-3 c = search (needs, laws)
+slice-aggregate-put-3 c = search (needs, line-laws)
 
 slice-aggregate-put-4 : tie.Need-slice-aggregate-put-4
-slice-aggregate-put-4 c = search (needs, laws)
+slice-aggregate-put-4 c = search (needs, line-laws)
 
 put-requires-2 : tie.Need-put-requires-2
-put-requires-2 c κs = search (needs, laws)
+put-requires-2 c κs = search (needs, line-laws)
 
 array-share-prefix-line : tie.Need-array-share-prefix-line
-array-share-prefix-line c = search (needs, laws)
+array-share-prefix-line c = search (needs, line-laws)
 
-slice-aggregate-copy : tie.Need-slice-aggregate-copy
-slice-aggregate-copy c = search (needs, laws)
+slice-aggregate-lay : tie.Need-slice-aggregate-lay
+slice-aggregate-lay c = search (needs, line-laws)
 
-copy-requires : tie.Need-copy-requires
-copy-requires c κs = search (needs, laws)
+lay-requires : tie.Need-lay-requires
+lay-requires c κs = search (needs, line-laws)
 
 same-length : tie.Need-same-length
-same-length c = search (needs, laws)
+same-length c = search (needs, line-laws)
 
 returns : tie.Need-returns
-returns c = search (needs, laws)
+returns c = search (needs, line-laws)
 
 pub print-read-spec : {M : Type 1} → statement M
 print-read-spec =
@@ -72,7 +72,7 @@ print-read-spec =
     slice-aggregate-put-4
     put-requires-2
     array-share-prefix-line
-    slice-aggregate-copy
-    copy-requires
+    slice-aggregate-lay
+    lay-requires
     same-length
     returns)

@@ -1,4 +1,4 @@
--- `listing::print::print_row` meets its contract: each kind of row has its printer. Assumes nothing.
+-- `listing::print::print_row` meets its contract: a row is read or refused. Assumes nothing.
 use Rattle.listing.proofs.PrintLaws.{laws}
 use borrow.Author.Needs.{needs}
 use Rattle.listing.proofs.print.print_row.Statement.{statement}

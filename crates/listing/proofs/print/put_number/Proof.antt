@@ -1,60 +1,64 @@
--- `listing::print::put_number` meets its contract: a space and the digits that the scratch array holds; 20 bytes hold them all. Assumes nothing.
-use Rattle.listing.proofs.PrintLaws.{laws}
+-- `listing::print::put_number` meets its contract: the digits are written behind the place of the space; 20 bytes hold them all. Assumes nothing.
+use Rattle.listing.proofs.PrintLaws.{put-laws}
 use borrow.Author.Needs.{needs}
 use Rattle.listing.proofs.print.put_number.Statement.{statement}
 use Rattle.listing.proofs.print.put_number.Tie as tie
 
-slice-aggregate-put : tie.Need-slice-aggregate-put
-slice-aggregate-put c = search (needs, laws)
+add-print-decimal : tie.Need-add-print-decimal
+add-print-decimal c = search (needs, put-laws)
 
-put-requires : tie.Need-put-requires
-put-requires c κs = search (needs, laws)
+sub-print-decimal : tie.Need-sub-print-decimal
+sub-print-decimal c = search (needs, put-laws)
 
-slice-aggregate-print-decimal : tie.Need-slice-aggregate-print-decimal
-slice-aggregate-print-decimal c = search (needs, laws)
+part-print-decimal-start : tie.Need-part-print-decimal-start
+part-print-decimal-start c = search (needs, put-laws)
+
+part-print-decimal-end : tie.Need-part-print-decimal-end
+part-print-decimal-end c = search (needs, put-laws)
 
 print-decimal-requires : tie.Need-print-decimal-requires
-print-decimal-requires c κs = search (needs, laws)
+print-decimal-requires c κs = search (needs, put-laws)
+
+slice-write-line : tie.Need-slice-write-line
+slice-write-line c = search (needs, put-laws)
 
 enum-known-written : tie.Need-enum-known-written
-enum-known-written c = search (needs, laws)
+enum-known-written c = search (needs, put-laws)
 
-array-share-prefix-digits : tie.Need-array-share-prefix-digits
-array-share-prefix-digits c = search (needs, laws)
+add-result : tie.Need-add-result
+add-result c = search (needs, put-laws)
 
-slice-aggregate-put-2 : tie.Need-slice-aggregate-put-2
-slice-aggregate-put-2 c = search (needs, laws)
-
-put-requires-2 : tie.Need-put-requires-2
-put-requires-2 c κs = search (needs, laws)
+add-result-2 : tie.Need-add-result-2
+add-result-2 c = search (needs, put-laws)
 
 enum-told : tie.Need-enum-told
-enum-told c = search (needs, laws)
+enum-told c = search (needs, put-laws)
 
 same-length : tie.Need-same-length
-same-length c = search (needs, laws)
+same-length c = search (needs, put-laws)
 
 returns : tie.Need-returns
-returns c = search (needs, laws)
+returns c = (search (needs, put-laws), search (needs, put-laws))
 
 same-length-2 : tie.Need-same-length-2
-same-length-2 c = search (needs, laws)
+same-length-2 c = search (needs, put-laws)
 
 returns-2 : tie.Need-returns-2
-returns-2 c = search (needs, laws)
+returns-2 c = search (needs, put-laws)
 
 pub put-number-spec : {M : Type 1} → statement M
 put-number-spec =
     tie.close
     (tie.spec
-    slice-aggregate-put
-    put-requires
-    slice-aggregate-print-decimal
+    add-print-decimal
+    sub-print-decimal
+    part-print-decimal-start
+    part-print-decimal-end
     print-decimal-requires
+    slice-write-line
     enum-known-written
-    array-share-prefix-digits
-    slice-aggregate-put-2
-    put-requires-2
+    add-result
+    add-result-2
     enum-told
     same-length
     returns

@@ -4,14 +4,8 @@ use borrow.Author.Needs.{needs}
 use Rattle.listing.proofs.turn.pass.Statement.{statement}
 use Rattle.listing.proofs.turn.pass.Tie as tie
 
-reach-from-requires : tie.Need-reach-from-requires
-reach-from-requires c κs = search (needs, laws)
-
-enum-known-reach : tie.Need-enum-known-reach
-enum-known-reach c = search (needs, laws)
-
-enum-known-reach-2 : tie.Need-enum-known-reach-2
-enum-known-reach-2 c = search (needs, laws)
+is-whole-requires : tie.Need-is-whole-requires
+is-whole-requires c κs = search (needs, laws)
 
 returns : tie.Need-returns
 returns c = search (needs, laws)
@@ -22,17 +16,5 @@ returns-2 c = search (needs, laws)
 returns-3 : tie.Need-returns-3
 returns-3 c = search (needs, laws)
 
-returns-4 : tie.Need-returns-4
-returns-4 c = search (needs, laws)
-
 pub pass-spec : {M : Type 1} → statement M
-pass-spec =
-    tie.close
-    (tie.spec
-    reach-from-requires
-    enum-known-reach
-    enum-known-reach-2
-    returns
-    returns-2
-    returns-3
-    returns-4)
+pass-spec = tie.close (tie.spec is-whole-requires returns returns-2 returns-3)

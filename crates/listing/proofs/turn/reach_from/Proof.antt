@@ -1,8 +1,11 @@
--- `listing::turn::reach_from` meets its contract: a step over pieces between LFs tells where the line ends. Assumes nothing.
+-- `listing::turn::reach_from` meets its contract: past quiet blocks a step over pieces between LFs tells where the line ends. Assumes nothing.
 use Rattle.listing.proofs.TurnLaws.{laws}
 use borrow.Author.Needs.{needs}
 use Rattle.listing.proofs.turn.reach_from.Statement.{statement}
 use Rattle.listing.proofs.turn.reach_from.Tie as tie
+
+past-quiet-requires : tie.Need-past-quiet-requires
+past-quiet-requires c κs = search (needs, laws)
 
 piece-at-requires : tie.Need-piece-at-requires
 piece-at-requires c κs = search (needs, laws)
@@ -35,6 +38,7 @@ pub reach-from-spec : {M : Type 1} → statement M
 reach-from-spec =
     tie.close
     (tie.spec
+    past-quiet-requires
     piece-at-requires
     enum-known-found
     enum-told

@@ -1,14 +1,13 @@
--- `vcflist::input::fill` is safe and ends: a read gives no more bytes than there is room for, and the measure is how much room is left. Assumes nothing.
+-- `vcflist::input::fill` meets its contract, and ends: what holds from read to read is `Filling`, and the measure is how much room is left. Assumes nothing.
 use Prim.Native.Nat.{_-_}
-use mathlib.Core.Path.{_≡_}
 use lib.ListN.{length}
 use borrow.Author.Needs.{needs}
-use Rattle.vcflist.proofs.BufferLaws.{laws}
+use Rattle.vcflist.proofs.BufferLaws.{Filling, laws}
 use Rattle.vcflist.proofs.input.fill.Statement.{statement}
 use Rattle.vcflist.proofs.input.fill.Tie as tie
 
 abbrev Inv-loop : tie.InvT-loop
-Inv-loop buffer₀ kept end₀ buffer end = length buffer ≡ length buffer₀
+Inv-loop buffer₀ kept end₀ buffer end = Filling kept buffer₀ buffer end
 
 abbrev μ-loop : tie.MeasureT-loop
 μ-loop buffer₀ kept end₀ buffer end = length buffer - end

@@ -1,11 +1,8 @@
--- `listing::turn::take_turn` meets its contract: each phase is a clause of the definition. Assumes nothing.
+-- `listing::turn::turn_at` meets its contract: each phase is a clause of the definition. Assumes nothing.
 use Rattle.listing.proofs.TurnLaws.{laws}
 use borrow.Author.Needs.{needs}
-use Rattle.listing.proofs.turn.take_turn.Statement.{statement}
-use Rattle.listing.proofs.turn.take_turn.Tie as tie
-
-returns : tie.Need-returns
-returns c = search (needs, laws)
+use Rattle.listing.proofs.turn.turn_at.Statement.{statement}
+use Rattle.listing.proofs.turn.turn_at.Tie as tie
 
 enum-told : tie.Need-enum-told
 enum-told c = search (needs, laws)
@@ -31,6 +28,9 @@ enum-told-4 c = search (needs, laws)
 pass-requires-2 : tie.Need-pass-requires-2
 pass-requires-2 c κs = search (needs, laws)
 
+returns : tie.Need-returns
+returns c = search (needs, laws)
+
 returns-2 : tie.Need-returns-2
 returns-2 c = search (needs, laws)
 
@@ -40,14 +40,10 @@ returns-3 c = search (needs, laws)
 returns-4 : tie.Need-returns-4
 returns-4 c = search (needs, laws)
 
-returns-5 : tie.Need-returns-5
-returns-5 c = search (needs, laws)
-
-pub take-turn-spec : {M : Type 1} → statement M
-take-turn-spec =
+pub turn-at-spec : {M : Type 1} → statement M
+turn-at-spec =
     tie.close
     (tie.spec
-    returns
     enum-told
     lead-requires
     enum-told-2
@@ -56,7 +52,7 @@ take-turn-spec =
     read-at-requires
     enum-told-4
     pass-requires-2
+    returns
     returns-2
     returns-3
-    returns-4
-    returns-5)
+    returns-4)
