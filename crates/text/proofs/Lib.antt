@@ -5,6 +5,7 @@ pub mod Utf8Laws
 pub mod CharLaws
 pub mod RunLaws
 pub mod PlaceLaws
+pub mod PartLaws
 pub mod SameLaws
 pub mod FirstLaws
 pub mod ByteLaws

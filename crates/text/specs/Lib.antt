@@ -3,6 +3,7 @@ pub mod Answer
 pub mod Outcome
 pub mod Place
 pub mod Range
+pub mod Part
 pub mod Same
 pub mod First
 pub mod Bytes
