@@ -4,6 +4,8 @@ use mathlib.Core.Path.{_≡_, sym, ap₂, _∙_}
 use mathlib.Core.List.{List}
 use denote.Ref.{RefT, now}
 use Rattle.text.specs.Outcome.{OneAnswer}
+use Rattle.text.proofs.PartLaws.{one-part}
+use Rattle.info.specs.Value.{shown}
 use Rattle.info.specs.Promises.{TakesStep, Determined}
 use Rattle.info.specs.declared.step.Told.{Told}
 use Rattle.info.specs.declared.reader.Reader.{Reader}
@@ -25,7 +27,8 @@ determined =
       step-at = one-step;
       tell = λ step r r′ e e′. ap₂ told (e .number ∙ sym (e′ .number)) (e .next ∙ sym (e′ .next));
       find = λ t key r r′ e e′. step-paper-injective r r′ (e ∙ sym e′);
-      value = λ column key r r′ s s′. (ap₂ (λ (block place : ℕ). (block, place)) (s .memory ∙ sym (s′ .memory)) (s .place ∙ sym (s′ .place)), s .bytes ∙ sym (s′ .bytes));
+      value-place = λ t key r r′ p p′. p .is ∙ sym (p′ .is);
+      value = λ column key. one-part column (shown (now column) key);
       count = λ t r r′ e e′. e ∙ sym e′;
       «open» = λ column r r′ e e′. same-reader (e .0 ∙ sym (e′ .0)) (e .1 ∙ sym (e′ .1));
       moved = λ reader at r r′ e e′. same-reader (e .0 ∙ sym (e′ .0)) (e .1 ∙ sym (e′ .1));

@@ -11,7 +11,8 @@ use lib.ListN.{length, take, drop, length-drop}
 use borrow.Author.Tests.{eq-eqb, ne-eqb}
 use Rattle.text.specs.Range.{cut}
 use Rattle.text.specs.declared.range.Range.{Range}
-use Rattle.text.proofs.Lists.{cut-is, cut-length}
+use Rattle.text.proofs.Lists.{cut-length}
+use Rattle.text.proofs.PartLaws.{lent-cut}
 use Rattle.text.proofs.ByteLaws.{empty-is}
 use Rattle.pieces.specs.Pieces.{stepAnswer as pieceAnswer}
 use Rattle.pieces.specs.Paper.{stepPaper as piecePaper}
@@ -32,10 +33,6 @@ use Rattle.info.specs.declared.step.Step.the-variants as S
 use Rattle.info.proofs.EntryLaws.{pair-alone, pair-paired, step-beyond, step-end, step-inside, first-last, first-ended, ended-none, ended-some}
 
 -- ---- the entry in a range
-
--- the part of a text that is lent from a place on
-pub lent-cut : (r : Range) (t : List ℕ) → take (r .start + r .len - r .start) (drop (r .start) t) ≡ cut r t
-lent-cut r t = let n : r .start + r .len - r .start ≡ r .len = omega arith in rw n (sym (cut-is (r .start) (r .len) t))
 
 module _ (t : List ℕ) (range : Range) (h : range .start + range .len ≤ length t) (x : Piece)
     (e : piecePaper x ≡ pieceAnswer 61 (take (range .start + range .len - range .start) (drop (range .start) t)) 0) where

@@ -3,10 +3,10 @@ use Prim.Native.Nat.{ℕ}
 use mathlib.Core.Path.{_≡_}
 use mathlib.Core.List.{List}
 use denote.Ref.{RefT, now}
-use Rattle.text.specs.Outcome.{OneAnswer}
+use Rattle.text.specs.Outcome.{OneAnswer, OnePart}
 use Rattle.info.specs.Info.{stepAnswer, infoCount}
 use Rattle.info.specs.Find.{findAnswer}
-use Rattle.info.specs.Value.{Shows}
+use Rattle.info.specs.Value.{PlacesValue, Shows}
 use Rattle.info.specs.Paper.{stepPaper}
 use Rattle.info.specs.Told.{Tells}
 use Rattle.info.specs.declared.step.Step.{Step}
@@ -33,12 +33,12 @@ Moves reader at r = (r .column ≡ reader .column) × (r .at ≡ at)
 abbrev pub TakesNext : Reader → Step → Type 0
 TakesNext reader r = TakesStep (now (reader .column)) (reader .at) r
 
--- a part of a column is its pointer and what it points at: its name is no part of the machine
 pub record Determined : Type 0 where
   pub step-at : (t : List ℕ) (at : ℕ) → OneAnswer (TakesStep t at)
   pub tell : (step : Step) → OneAnswer (Tells (stepPaper step))
   pub find : (t key : List ℕ) → OneAnswer (FindsEntry t key)
-  pub value : (column : RefT (List ℕ)) (key : List ℕ) (r r′ : RefT (List ℕ)) → Shows column key r → Shows column key r′ → (r .ptr ≡ r′ .ptr) × (now r ≡ now r′)
+  pub value-place : (t key : List ℕ) → OneAnswer (PlacesValue t key)
+  pub value : (column : RefT (List ℕ)) (key : List ℕ) → OnePart (Shows column key)
   pub count : (t : List ℕ) → OneAnswer (CountsEntries t)
   pub «open» : (column : RefT (List ℕ)) → OneAnswer (Opens column)
   pub moved : (reader : Reader) (at : ℕ) → OneAnswer (Moves reader at)
