@@ -11,16 +11,19 @@ use lib.ListN.{length, length-append}
 use borrow.Author.Tests.{ne-eqb}
 use Rattle.decimal.specs.Decimal.{isDigit, allDigits, worth, digitsValue, valueOf}
 use Rattle.decimal.specs.Shortest.{shortest}
-use Rattle.decimal.specs.Demands.{Digits, Decimal, bare, signed, ReadsDecimals, PassesZeros, ReadsBack, NoneShorter}
+use Rattle.decimal.specs.Demands.{Digits, Decimal, bare, signed, ReadsDecimals, ReadsAlone, PassesZeros, ReadsBack, NoneShorter}
 use Rattle.text.proofs.Lists.{by-snoc}
 use Rattle.decimal.proofs.Digits.{digit-range, digits-snoc, worth-snoc}
 use Rattle.decimal.proofs.Shortest.{length-bound, lastDigits, shortest-last}
 use Rattle.decimal.proofs.Lead.{shortest-plain}
-use Rattle.decimal.proofs.Value.{value-decimal, digits-value, decimal-value}
+use Rattle.decimal.proofs.Value.{digits-are, digits-told, value-decimal, digits-value, decimal-value}
 
 pub reads-decimals : ReadsDecimals valueOf
 unfolding ReadsDecimals
 reads-decimals t n = (value-decimal t n, decimal-value t)
+
+pub reads-alone : ReadsAlone digitsValue
+reads-alone t n = (digits-are t n, λ g. digits-told t (g .0) (g .1))
 
 zero-first : (b : ℕ) (s : List ℕ) → digitsValue (48 ∷ b ∷ s) ≡ digitsValue (b ∷ s)
 unfolding digitsValue allDigits isDigit worth

@@ -17,6 +17,7 @@ number-paper-injective Bad Bad e = cc
 pub determined : Determined
 determined =
     record {
+      read-digits = λ s r r′ e e′. number-paper-injective r r′ (e ∙ sym e′);
       read-decimal = λ s r r′ e e′. number-paper-injective r r′ (e ∙ sym e′);
       decimal-len = λ n r r′ e e′. e ∙ sym e′;
       print-decimal = λ n. T.determined .copy (shortest n);

@@ -6,14 +6,12 @@ use mathlib.Core.List.{List, [], _∷_}
 use mathlib.Core.Option.{Option, some, none}
 use native.Mathlib.Nat.{pow-suc, mul-one, add-zero, mul-le-mul-left, pow-le-pow-right, le-trans}
 use native.Mathlib.Omega.{arith}
-use lib.ListN.{length, getD, drop, drop-of-length-le}
-use lib.Seq.{drop-length}
+use lib.ListN.{length, getD, take, drop, drop-of-length-le}
 use lib.Dec.{leb, lit<}
 use borrow.Author.Tests.{le-leb, lt-leb, eq-eqb, ne-eqb}
 use Rattle.text.specs.Pick.{pick}
-use Rattle.text.proofs.Lists.{here}
-use Rattle.decimal.specs.Decimal.{isDigit, allDigits, worth, digitsValue, valueOf, valueAnswer, decimalAnswer}
-use Rattle.decimal.specs.Inner.{digitsAnswer}
+use Rattle.text.proofs.Lists.{here, rest-all}
+use Rattle.decimal.specs.Decimal.{isDigit, allDigits, worth, digitsValue, valueOf, valueAnswer, digitsAnswer, decimalAnswer}
 use Rattle.decimal.specs.Paper.{numberPaper}
 use Rattle.decimal.specs.declared.read.Number.{Number}
 use Rattle.decimal.specs.declared.read.Number.the-variants.{Value, Bad}
@@ -90,51 +88,51 @@ good s n e = rw e
 
 -- ---- the loop's invariant, and what each way through a turn makes of it
 
--- a is what the digits from index `from` to before i are worth: with those from i on it makes the value
-pub record Going (s : List ℕ) (from a i : ℕ) : Type 0 where
+-- a is what the digits before i are worth: with those from i on it makes the value
+pub record Going (s : List ℕ) (a i : ℕ) : Type 0 where
   pub within : i ≤ length s
   pub fits : a ≤ 18446744073709551615
-  pub same : after a (drop i s) ≡ digitsValue (drop from s)
+  pub same : after a (drop i s) ≡ digitsValue s
 
-pub nothing : (s : List ℕ) (from : ℕ) → from ≡ length s → numberPaper Bad ≡ digitsAnswer (drop from s)
+pub nothing : (s : List ℕ) → length s ≡ 0 → numberPaper Bad ≡ digitsAnswer s
 unfolding digitsValue
-nothing s from e = bad (drop from s) (rw (e, drop-length s))
+nothing [] h = bad [] refl
+nothing (b ∷ s) h = absurd (omega arith)
 
-pub first : (s : List ℕ) (from : ℕ) → from ≤ length s → (from ≡ length s → ⊥) → Going s from 0 from
-first s from h n =
-    let l : from < length s = omega arith in
-    record { within = h; fits = omega arith; same = rw (here s from l) (sym (after-first _ _)) }
+pub first : (s : List ℕ) → (length s ≡ 0 → ⊥) → Going s 0 0
+first [] n = absurd (n refl)
+first (b ∷ s) n = record { within = omega arith; fits = omega arith; same = sym (after-first b s) }
 
 -- premises in the code's own words: the byte is a digit or not, the number so far is at most a tenth of the greatest, a digit d fits
-module _ {s : List ℕ} {from a i : ℕ} (g : Going s from a i) (h : i < length s) where
-  step : isDigit (getD s i 0) ≡ true → after (a * 10 + (getD s i 0 - 48)) (drop (i + 1) s) ≡ digitsValue (drop from s)
+module _ {s : List ℕ} {a i : ℕ} (g : Going s a i) (h : i < length s) where
+  step : isDigit (getD s i 0) ≡ true → after (a * 10 + (getD s i 0 - 48)) (drop (i + 1) s) ≡ digitsValue s
   step d = sym (after-digit a (getD s i 0) (drop (i + 1) s) d) ∙ (rw (here s i h) at (g .same))
 
   pub turn : {d : ℕ} → 48 ≤ getD s i 0 → getD s i 0 ≤ 57 → a ≤ 1844674407370955161 → d ≡ getD s i 0 - 48
-      → d ≤ 18446744073709551615 - a * 10 → Going s from (a * 10 + d) (i + 1)
+      → d ≤ 18446744073709551615 - a * 10 → Going s (a * 10 + d) (i + 1)
   turn p q t e f = rw e (record { within = omega arith; fits = omega arith; same = step (digit-yes _ p q) })
 
-  stop : isDigit (getD s i 0) ≡ false → numberPaper Bad ≡ digitsAnswer (drop from s)
-  stop d = bad (drop from s) (sym (rw (here s i h) at (g .same)) ∙ after-stop a _ _ d)
+  stop : isDigit (getD s i 0) ≡ false → numberPaper Bad ≡ digitsAnswer s
+  stop d = bad s (sym (rw (here s i h) at (g .same)) ∙ after-stop a _ _ d)
 
-  pub stop-low : getD s i 0 < 48 → numberPaper Bad ≡ digitsAnswer (drop from s)
+  pub stop-low : getD s i 0 < 48 → numberPaper Bad ≡ digitsAnswer s
   stop-low p = stop (digit-low _ p)
 
-  pub stop-high : 57 < getD s i 0 → numberPaper Bad ≡ digitsAnswer (drop from s)
+  pub stop-high : 57 < getD s i 0 → numberPaper Bad ≡ digitsAnswer s
   stop-high p = stop (digit-high _ p)
 
-  over : 48 ≤ getD s i 0 → getD s i 0 ≤ 57 → 18446744073709551615 < a * 10 + (getD s i 0 - 48) → numberPaper Bad ≡ digitsAnswer (drop from s)
-  over p q o = bad (drop from s) (sym (step (digit-yes _ p q)) ∙ after-over _ _ o)
+  over : 48 ≤ getD s i 0 → getD s i 0 ≤ 57 → 18446744073709551615 < a * 10 + (getD s i 0 - 48) → numberPaper Bad ≡ digitsAnswer s
+  over p q o = bad s (sym (step (digit-yes _ p q)) ∙ after-over _ _ o)
 
-  pub stop-tenth : 48 ≤ getD s i 0 → getD s i 0 ≤ 57 → 1844674407370955161 < a → numberPaper Bad ≡ digitsAnswer (drop from s)
+  pub stop-tenth : 48 ≤ getD s i 0 → getD s i 0 ≤ 57 → 1844674407370955161 < a → numberPaper Bad ≡ digitsAnswer s
   stop-tenth p q o = over p q (omega arith)
 
   pub stop-digit : {d : ℕ} → 48 ≤ getD s i 0 → getD s i 0 ≤ 57 → d ≡ getD s i 0 - 48 → 18446744073709551615 - a * 10 < d
-      → numberPaper Bad ≡ digitsAnswer (drop from s)
+      → numberPaper Bad ≡ digitsAnswer s
   stop-digit p q e o = over p q (omega arith)
 
-pub past : {s : List ℕ} {from a i : ℕ} → Going s from a i → length s ≤ i → numberPaper (Value a) ≡ digitsAnswer (drop from s)
-past {s} {from} {a} {i} g h = good (drop from s) a (sym (rw (drop-of-length-le s h) at (g .same)) ∙ after-none a (g .fits))
+pub past : {s : List ℕ} {a i : ℕ} → Going s a i → length s ≤ i → numberPaper (Value a) ≡ digitsAnswer s
+past {s} {a} {i} g h = good s a (sym (rw (drop-of-length-le s h) at (g .same)) ∙ after-none a (g .fits))
 
 -- ---- the sign
 
@@ -143,13 +141,14 @@ unfolding numberPaper decimalAnswer valueOf valueAnswer
 sign-none [] h = refl
 sign-none (b ∷ s) h = absurd (omega arith)
 
-pub sign-plus : (r : Number) (s : List ℕ) → numberPaper r ≡ digitsAnswer (drop 1 s) → (length s ≡ 0 → ⊥) → getD s 0 0 ≡ 43
+-- what stands behind it, as it is lent
+pub sign-plus : (r : Number) (s : List ℕ) → numberPaper r ≡ digitsAnswer (take (length s - 1) (drop 1 s)) → (length s ≡ 0 → ⊥) → getD s 0 0 ≡ 43
     → numberPaper r ≡ decimalAnswer s
 unfolding digitsAnswer decimalAnswer valueOf
 sign-plus r [] d h e = absurd (h refl)
-sign-plus r (b ∷ s) d h e = simp (eq-eqb _ _ e) d
+sign-plus r (b ∷ s) d h e = simp (eq-eqb _ _ e) (rw (rest-all (b ∷ s) 1) at d)
 
-pub sign-not : (r : Number) (s : List ℕ) → numberPaper r ≡ digitsAnswer (drop 0 s) → (length s ≡ 0 → ⊥) → (getD s 0 0 ≡ 43 → ⊥)
+pub sign-not : (r : Number) (s : List ℕ) → numberPaper r ≡ digitsAnswer s → (length s ≡ 0 → ⊥) → (getD s 0 0 ≡ 43 → ⊥)
     → numberPaper r ≡ decimalAnswer s
 unfolding digitsAnswer decimalAnswer valueOf
 sign-not r [] d h e = absurd (h refl)

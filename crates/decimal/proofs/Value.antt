@@ -16,7 +16,7 @@ use Rattle.decimal.proofs.Digits.{digit-range, digits-cons}
 
 -- ---- a text with a value is digits, or '+' and digits
 
-digits-are : (s : List ℕ) (n : ℕ) → digitsValue s ≡ some n → Digits s n × (n ≤ 18446744073709551615)
+pub digits-are : (s : List ℕ) (n : ℕ) → digitsValue s ≡ some n → Digits s n × (n ≤ 18446744073709551615)
 unfolding digitsValue
 digits-are [] n e = let z : _≡_ {A = ℕ} 0 1 = cc in absurd (omega arith)
 digits-are (b ∷ s) n e = by (allDigits (b ∷ s) && leb (worth (b ∷ s)) 18446744073709551615) refl e
@@ -38,7 +38,7 @@ value-decimal (b ∷ s) n e = by (eqb b 43) refl e
     by true h e = let g = digits-are s n e in rw (eqb-true b 43 h) (signed (g .0) (g .1))
     by false h e = let g = digits-are (b ∷ s) n e in bare (g .0) (g .1)
 
-digits-told : (s : List ℕ) {n : ℕ} → Digits s n → n ≤ 18446744073709551615 → digitsValue s ≡ some n
+pub digits-told : (s : List ℕ) {n : ℕ} → Digits s n → n ≤ 18446744073709551615 → digitsValue s ≡ some n
 unfolding digitsValue
 digits-told [] g h = absurd (omega arith)
 digits-told (b ∷ s) g h =

@@ -38,5 +38,9 @@ unfoldable pub valueAnswer : Option ℕ → Answer
 valueAnswer (some n) = says 0 (n ∷ [])
 valueAnswer none = says 12 []
 
+-- of digits without a sign
+unfoldable pub digitsAnswer : List ℕ → Answer
+digitsAnswer s = valueAnswer (digitsValue s)
+
 unfoldable pub decimalAnswer : List ℕ → Answer
 decimalAnswer s = valueAnswer (valueOf s)

@@ -28,6 +28,10 @@ pub record Plain (s : List ℕ) (n : ℕ) : Type 0 where
 unfoldable pub ReadsDecimals : (List ℕ → Option ℕ) → Type 0
 ReadsDecimals read = (t : List ℕ) (n : ℕ) → (read t ≡ some n) ↔ Decimal t n
 
+-- the same of digits alone
+abbrev pub ReadsAlone : (List ℕ → Option ℕ) → Type 0
+ReadsAlone read = (t : List ℕ) (n : ℕ) → (read t ≡ some n) ↔ (Digits t n × (n ≤ 18446744073709551615))
+
 -- a leading zero changes nothing, neither at the start nor behind '+', so no number of them does
 pub record PassesZeros (read : List ℕ → Option ℕ) : Type 0 where
   pub bare : (b : ℕ) (s : List ℕ) → (b ≡ 43 → ⊥) → read (48 ∷ b ∷ s) ≡ read (b ∷ s)

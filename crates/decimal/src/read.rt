@@ -1,10 +1,6 @@
 // Reading a decimal number of up to 64 bits.
 ghost use mathlib.Core.Path.{_≡_};
-ghost use Prim.Native.Nat.{_≤_};
-ghost use lib.ListN.{length, drop};
-ghost use Rattle.decimal.specs.Paper.{numberPaper};
-ghost use Rattle.decimal.specs.Promises.{ReadsNumber};
-ghost use Rattle.decimal.specs.Inner.{digitsAnswer};
+ghost use Rattle.decimal.specs.Promises.{ReadsDigits, ReadsNumber};
 
 // What a decimal text is worth, or that it is none.
 pub enum Number {
@@ -25,16 +21,15 @@ fn wide(b: u8) -> u64
     b as u64
 }
 
-// The digits of s from index `from` on: one at least, worth at most MOST.
-fn digits_from(s: &[u8], from: usize) -> Number
-    requires { ⌜ from ≤ length (now s) ⌝ }
-    ensures { λ r. ⌜ numberPaper r ≡ digitsAnswer (drop from (now (s .entry))) ⌝ }
+// One or more digits and no sign, worth at most MOST.
+pub fn read_digits(s: &[u8]) -> Number
+    ensures { λ r. ⌜ ReadsDigits (now (s .entry)) r ⌝ }
 {
-    if from == s.len() {
+    if s.len() == 0 {
         return Number::Bad;
     }
     let mut acc: u64 = 0;
-    let mut i = from;
+    let mut i = 0;
     while i < s.len() {
         let b = s[i];
         if b < 48 {
@@ -57,7 +52,7 @@ fn digits_from(s: &[u8], from: usize) -> Number
     Number::Value(acc)
 }
 
-// An optional plus sign, and one or more digits, worth at most MOST.
+// An optional plus sign, and such digits.
 pub fn read_decimal(s: &[u8]) -> Number
     ensures { λ r. ⌜ ReadsNumber (now (s .entry)) r ⌝ }
 {
@@ -65,8 +60,8 @@ pub fn read_decimal(s: &[u8]) -> Number
         return Number::Bad;
     }
     if s[0] == 43 {
-        digits_from(s, 1)
+        read_digits(&s[1..])
     } else {
-        digits_from(s, 0)
+        read_digits(s)
     }
 }

@@ -10,11 +10,20 @@ returns c = search (needs, laws)
 shared-slice-read-if2 : tie.Need-shared-slice-read-if2
 shared-slice-read-if2 c = search (needs, laws)
 
-digits-from-requires : tie.Need-digits-from-requires
-digits-from-requires c κs = search (needs, laws)
+sub-read-digits : tie.Need-sub-read-digits
+sub-read-digits c = search (needs, laws)
 
-digits-from-requires-2 : tie.Need-digits-from-requires-2
-digits-from-requires-2 c κs = search (needs, laws)
+part-read-digits-start : tie.Need-part-read-digits-start
+part-read-digits-start c = search (needs, laws)
+
+part-read-digits-end : tie.Need-part-read-digits-end
+part-read-digits-end c = search (needs, laws)
+
+read-digits-requires : tie.Need-read-digits-requires
+read-digits-requires c κs = search (needs, laws)
+
+read-digits-requires-2 : tie.Need-read-digits-requires-2
+read-digits-requires-2 c κs = search (needs, laws)
 
 returns-2 : tie.Need-returns-2
 returns-2 c = search (needs, laws)
@@ -28,7 +37,10 @@ read-decimal-spec =
     (tie.spec
     returns
     shared-slice-read-if2
-    digits-from-requires
-    digits-from-requires-2
+    sub-read-digits
+    part-read-digits-start
+    part-read-digits-end
+    read-digits-requires
+    read-digits-requires-2
     returns-2
     returns-3)

@@ -3,14 +3,14 @@ use Prim.Native.Nat.{_-_}
 use lib.ListN.{length}
 use borrow.Author.Needs.{needs}
 use Rattle.decimal.proofs.ReadLaws.{Going, laws}
-use Rattle.decimal.proofs.read.digits_from.Statement.{statement}
-use Rattle.decimal.proofs.read.digits_from.Tie as tie
+use Rattle.decimal.proofs.read.read_digits.Statement.{statement}
+use Rattle.decimal.proofs.read.read_digits.Tie as tie
 
 abbrev Inv-loop : tie.InvT-loop
-Inv-loop s from acc₀ i₀ acc i = Going s from acc i
+Inv-loop s acc₀ i₀ acc i = Going s acc i
 
 abbrev μ-loop : tie.MeasureT-loop
-μ-loop s from acc₀ i₀ acc i = length s - i
+μ-loop s acc₀ i₀ acc i = length s - i
 
 returns : tie.Need-returns Inv-loop μ-loop
 returns c = search (needs, laws)
@@ -57,8 +57,8 @@ loop-again c = search (needs, laws)
 returns-6 : tie.Need-returns-6 Inv-loop μ-loop
 returns-6 c = search (needs, laws)
 
-pub digits-from-spec : {M : Type 1} → statement M
-digits-from-spec =
+pub read-digits-spec : {M : Type 1} → statement M
+read-digits-spec =
     tie.close
     (tie.spec
     Inv-loop
