@@ -38,7 +38,6 @@ use Rattle.pieces.specs.declared.entries.Ends.the-variants as N
 use Rattle.pieces.specs.declared.joined.Joined.{Joined as Put}
 use Rattle.pieces.proofs.CountLaws.{lacks-yes, lacks-no}
 use Rattle.pieces.proofs.EntryLaws.{start-later, entries-length, entry-here, entry-past, ends-tell}
-use Rattle.pieces.proofs.PlaceLaws as place
 use Rattle.pieces.proofs.JoinedLaws.{list-length, joined-fits}
 use Rattle.join.specs.Join.{isBad, columnJudged, columnsJudged, lineText, listAnswer, joinAnswer, JoinsAt}
 use Rattle.join.specs.Paper.{joinedPaper}
@@ -372,4 +371,4 @@ module _ (t ends : List ℕ) (at : ℕ) (out : List ℕ) where
 
 pub ruleset join-laws = (join-beyond, join-refused, join-some, join-sum, join-done)
 
-pub ruleset laws = (place.laws, count-held, bad-empty, bad-tab, bad-feed, return-not, return-byte, refused-bad, refused-return, refused-not, utf8-yes, utf8-no, count-eight, count-ten, count-some, last-is, judge-first, judge-bad, judge-broken, judge-turn, judge-no-end, judge-no-marks, judge-sum, judge-done, list-wrong, list-rising, list-few, list-columns)
+pub ruleset laws = (count-held, bad-empty, bad-tab, bad-feed, return-not, return-byte, refused-bad, refused-return, refused-not, utf8-yes, utf8-no, count-eight, count-ten, count-some, last-is, judge-first, judge-bad, judge-broken, judge-turn, judge-no-end, judge-no-marks, judge-sum, judge-done, list-wrong, list-rising, list-few, list-columns)

@@ -1,17 +1,15 @@
 // The columns of a line, given as an entry list, judged and then written.
 use pieces::count::count_byte;
 use pieces::entries::Ends;
-use pieces::entries::Entry;
-use pieces::entries::entry_at;
+use pieces::entries::entry_text;
 use pieces::entries::judge_ends;
 use pieces::joined::put_joined;
 use text::utf8::Utf8;
 use text::utf8::check_utf8;
 ghost use mathlib.Core.Path.{_≡_};
 ghost use mathlib.Core.Bool.{true, not, _&&_, _||_};
-ghost use mathlib.Core.List.{[]};
 ghost use Prim.Native.Nat.{_<_};
-ghost use lib.ListN.{length, getD};
+ghost use lib.ListN.{length};
 ghost use Rattle.text.specs.Bytes.{endsIn};
 ghost use Rattle.text.specs.Utf8.{isUtf8};
 ghost use Rattle.text.specs.Verdict.{fitted};
@@ -93,23 +91,6 @@ fn is_utf8(c: &[u8]) -> bool
     }
 }
 
-// Column i.
-fn column<'a>(text: &'a [u8], ends: &[usize], i: usize) -> &'a [u8]
-    requires { ⌜ rising 0 (now ends) (length (now text)) ≡ true ⌝ }
-    requires { ⌜ i < length (now ends) ⌝ }
-    ensures { λ r. ⌜ now r ≡ getD (entryList (now (text .entry)) (now (ends .entry))) i [] ⌝ }
-{
-    match entry_at(text, ends, i) {
-        Entry::At(place) => {
-            let start = place.start;
-            let end = start + place.len;
-            &text[start..end]
-        }
-        Entry::Nothing => text,
-        Entry::Wrong => text,
-    }
-}
-
 // Eight columns, or at least ten.
 fn is_count(n: usize) -> bool
     ensures { λ r. ⌜ r ≡ not (required n) ⌝ }
@@ -136,7 +117,7 @@ fn judge_columns(text: &[u8], ends: &[usize], rest: &[u8]) -> Joined
 {
     let mut i = 0;
     while i < ends.len() {
-        let c = column(text, ends, i);
+        let c = entry_text(text, ends, i);
         if is_refused(c, i + 1 == ends.len()) {
             return Joined::Bad(i);
         }

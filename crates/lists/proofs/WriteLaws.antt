@@ -14,7 +14,6 @@ use Rattle.text.specs.Pick.{pick}
 use Rattle.text.specs.Answer.{numberOf}
 use Rattle.text.specs.Over.{over, overAt, Writes}
 use Rattle.text.specs.Verdict.{Verdict as Found, fine, refused, fitted}
-use Rattle.text.specs.declared.range.Range.{Range}
 use Rattle.text.specs.declared.copy.Written.{Written}
 use Rattle.text.specs.declared.copy.Written.the-variants as C
 use Rattle.text.proofs.CopyLaws.{room-fits, room-lacks}
@@ -22,16 +21,13 @@ use Rattle.text.proofs.WrittenLaws.{Wrote, Lacked, writes-done, writes-short}
 use Rattle.text.proofs.Lists.{rest-all, rest-put, rest-back}
 use Rattle.pieces.specs.Pieces.{joined}
 use Rattle.pieces.specs.Entries.{rising, entryList}
-use Rattle.pieces.specs.Inner.{endsAnswer, entryAnswer as placeAnswer, JoinsList}
-use Rattle.pieces.specs.Paper.{endsPaper, entryPaper}
+use Rattle.pieces.specs.Inner.{endsAnswer, JoinsList}
+use Rattle.pieces.specs.Paper.{endsPaper}
 use Rattle.pieces.specs.declared.entries.Ends.{Ends}
 use Rattle.pieces.specs.declared.entries.Ends.the-variants as N
-use Rattle.pieces.specs.declared.entries.Entry.{Entry}
-use Rattle.pieces.specs.declared.entries.Entry.the-variants as E
 use Rattle.pieces.specs.declared.joined.Joined.{Joined}
 use Rattle.pieces.specs.declared.joined.Joined.the-variants as P
 use Rattle.pieces.proofs.EntryLaws.{entries-length, entry-here, entry-past, ends-tell}
-use Rattle.pieces.proofs.PlaceLaws as place
 use Rattle.pieces.proofs.JoinedLaws.{joined-tells}
 use Rattle.lists.specs.Kind.{separatorOf, invalidOf}
 use Rattle.lists.specs.Judge.{entryAnswer}
@@ -52,12 +48,6 @@ use Rattle.lists.proofs.write.Write.{the-type}
 pub of-kind : {kind k : Kind} (v : Verdict) (t : List ℕ) → kind ≡ k → verdictPaper k v ≡ entryAnswer k t → verdictPaper kind v ≡ entryAnswer kind t
 of-kind v t q e = rw q e
 
--- an entry cut out of the text is the list's
-pub at-place : (kind : Kind) (t ends : List ℕ) (i : ℕ) {x : Entry} {r : Range} (v : Verdict) → entryPaper x ≡ placeAnswer t ends i → x ≡ E.At r
-    → verdictPaper kind v ≡ entryAnswer kind (take (r .start + r .len - r .start) (drop (r .start) t))
-    → verdictPaper kind v ≡ entryAnswer kind (getD (entryList t ends) i [])
-at-place kind t ends i v e q f = rw (place.place-is t ends i e q) at f
-
 -- ---- judging the entries
 
 -- the entries from i on are judged as all are from 0 on
@@ -73,11 +63,11 @@ invalid-not K.Filters = refl
 invalid-not K.Alts = refl
 
 module _ {kind : Kind} {t ends : List ℕ} {i : ℕ} (g : Judging kind t ends i) where
-  module _ (x : Verdict) (h : i < length ends) (e : verdictPaper kind x ≡ entryAnswer kind (getD (entryList t ends) i [])) where
+  module _ (x : Verdict) {c : List ℕ} (h : i < length ends) (p : c ≡ getD (entryList t ends) i []) (e : verdictPaper kind x ≡ entryAnswer kind c) where
     judge-here : pick (eqb (numberOf (verdictPaper kind x)) 0) (entriesJudged kind (i + 1) (drop (i + 1) (entryList t ends))) (refused (numberOf (verdictPaper kind x)) i)
         ≡ entriesJudged kind 0 (entryList t ends)
     unfolding entriesJudged
-    judge-here = rw e (rw (entry-here t ends i h) at (g .same))
+    judge-here = rw (e, p) (rw (entry-here t ends i h) at (g .same))
 
     pub judge-turn : x ≡ J.Fine → Judging kind t ends (i + 1)
     unfolding verdictPaper
@@ -216,4 +206,4 @@ module _ {kind : Kind} {t ends out : List ℕ} {at : ℕ} where
       by true e = rest-put at vs out ys (rw rest-all e)
       by false e = rest-back at out ys (rw rest-all e)
 
-pub ruleset laws = (place.laws, of-kind, at-place, judge-first, judge-turn, judge-broken, judge-invalid, judge-past, none-done, none-short, some-done, some-short, some-wrong, good-rising, list-wrong, list-refused, list-put, at-beyond, at-rest)
+pub ruleset laws = (of-kind, judge-first, judge-turn, judge-broken, judge-invalid, judge-past, none-done, none-short, some-done, some-short, some-wrong, good-rising, list-wrong, list-refused, list-put, at-beyond, at-rest)

@@ -2,8 +2,7 @@
 use crate::alternate_bases::judge_alt;
 use crate::filters::judge_filter;
 use pieces::entries::Ends;
-use pieces::entries::Entry;
-use pieces::entries::entry_at;
+use pieces::entries::entry_text;
 use pieces::entries::judge_ends;
 use pieces::joined::Joined;
 use pieces::joined::put_joined;
@@ -12,8 +11,7 @@ use text::copy::copy;
 ghost use mathlib.Core.Path.{_≡_};
 ghost use mathlib.Core.Bool.{true};
 ghost use mathlib.Core.List.{[]};
-ghost use Prim.Native.Nat.{_<_};
-ghost use lib.ListN.{length, getD};
+ghost use lib.ListN.{length};
 ghost use Rattle.text.specs.Verdict.{fitted};
 ghost use Rattle.pieces.specs.Entries.{rising, entryList};
 ghost use Rattle.lists.specs.Kind.{separatorOf};
@@ -72,23 +70,6 @@ fn judge_entry(kind: Kind, entry: &[u8]) -> Verdict
     }
 }
 
-// Judges entry i.
-fn judge_at(kind: Kind, text: &[u8], ends: &[usize], i: usize) -> Verdict
-    requires { ⌜ rising 0 (now ends) (length (now text)) ≡ true ⌝ }
-    requires { ⌜ i < length (now ends) ⌝ }
-    ensures { λ r. ⌜ JudgesEntry kind (getD (entryList (now (text .entry)) (now (ends .entry))) i []) r ⌝ }
-{
-    match entry_at(text, ends, i) {
-        Entry::At(place) => {
-            let start = place.start;
-            let end = start + place.len;
-            judge_entry(kind, &text[start..end])
-        }
-        // Not reached: the ends are good.
-        _ => Verdict::Invalid,
-    }
-}
-
 // Judges the entries in order: the first that may not be written, or none. The answer is that for a text of no bytes.
 fn judge_list(kind: Kind, text: &[u8], ends: &[usize]) -> Write
     requires { ⌜ rising 0 (now ends) (length (now text)) ≡ true ⌝ }
@@ -96,7 +77,8 @@ fn judge_list(kind: Kind, text: &[u8], ends: &[usize]) -> Write
 {
     let mut i = 0;
     while i < ends.len() {
-        match judge_at(kind, text, ends, i) {
+        let entry = entry_text(text, ends, i);
+        match judge_entry(kind, entry) {
             Verdict::Fine => i += 1,
             Verdict::NotUtf8 => return Write::NotUtf8(i),
             Verdict::Invalid => return Write::Invalid(i),

@@ -53,7 +53,7 @@ before-take a b (x ∷ s) = by (eqb x a || eqb x b) (before-take a b s)
     by false h = ap (λ (l : List ℕ). x ∷ l) h
 
 -- how many there are
-quiet-cons : (a b x : ℕ) (s : List ℕ) → quietLength a b (x ∷ s) ≡ pick (eqb x a || eqb x b) 0 (1 + quietLength a b s)
+pub quiet-cons : (a b x : ℕ) (s : List ℕ) → quietLength a b (x ∷ s) ≡ pick (eqb x a || eqb x b) 0 (1 + quietLength a b s)
 unfolding quietLength beforeEither
 quiet-cons a b x s = by (eqb x a || eqb x b)
   where
@@ -61,7 +61,7 @@ quiet-cons a b x s = by (eqb x a || eqb x b)
     by true = refl
     by false = omega arith
 
-quiet-none-left : (a b : ℕ) → quietLength a b [] ≡ 0
+pub quiet-none-left : (a b : ℕ) → quietLength a b [] ≡ 0
 unfolding quietLength beforeEither
 quiet-none-left a b = refl
 
@@ -92,7 +92,7 @@ quiet-none a b (x ∷ s) k h = by (eqb x a) (eqb x b) refl refl k (rw (quiet-con
     by false false e f (suc k) h rest = rest k (omega arith)
 
 -- past some of them stand the others
-quiet-past : (a b : ℕ) (s : List ℕ) (n : ℕ) → n ≤ quietLength a b s → quietLength a b (drop n s) ≡ quietLength a b s - n
+pub quiet-past : (a b : ℕ) (s : List ℕ) (n : ℕ) → n ≤ quietLength a b s → quietLength a b (drop n s) ≡ quietLength a b s - n
 quiet-past a b s zero h = omega arith
 quiet-past a b [] (suc n) h = absurd (omega (arith, quiet-none-left a b))
 quiet-past a b (x ∷ s) (suc n) h = rw (quiet-cons a b x s) (by (eqb x a || eqb x b) (rw (quiet-cons a b x s) at h) (quiet-past a b s n))
@@ -177,23 +177,12 @@ module _ {a b : ℕ} {s : List ℕ} {at i : ℕ} (g : Passing a b s at i) where
 
 -- ---- for callers
 
--- the same from a later place on
-pub quiet-later : {a b : ℕ} {s : List ℕ} {from from′ end : ℕ} → Quiet a b s from end → from ≤ from′ → from′ ≤ end → Quiet a b s from′ end
-quiet-later q h l =
-    record {
-      after = l;
-      within = q .within;
-      no-first = λ k p. q .no-first k (omega arith);
-      no-second = λ k p. q .no-second k (omega arith);
-    }
-
--- up to the place past the blocks
-pub past-quiet : {a b : ℕ} {s : List ℕ} {at r : ℕ} → at ≤ length s → r ≡ pastQuiet a b s at → Quiet a b s at r
-unfolding pastQuiet
-past-quiet {a} {b} {s} {at} {r} h e =
+-- up to a place that lies no further than the first of the two
+pub quiet-to : {a b : ℕ} {s : List ℕ} {at r : ℕ} → at ≤ length s → at ≤ r → r ≤ at + quietLength a b (drop at s) → Quiet a b s at r
+quiet-to {a} {b} {s} {at} {r} h f e =
     let l = length-drop at s in
     let m = quiet-most a b (drop at s) in
-    record { after = omega arith; within = omega arith; no-first = λ k p q. by k p q .0; no-second = λ k p q. by k p q .1 }
+    record { after = f; within = omega arith; no-first = λ k p q. by k p q .0; no-second = λ k p q. by k p q .1 }
   where
     by : (k : ℕ) → at ≤ k → k < r → (getD s k 0 ≡ a → ⊥) × (getD s k 0 ≡ b → ⊥)
     by k p q =

@@ -47,6 +47,9 @@ count-most b (a ∷ s) = by (ℕ-discrete a b) (count-most b s)
     by (yes e) l = omega (arith, count-here b s e)
     by (no n) l = omega (arith, count-other b s n)
 
+pub counted-most : (b : ℕ) (s : List ℕ) {n : ℕ} → n ≡ countOf b s → n ≤ length s
+counted-most b s e = rw e (count-most b s)
+
 pub one-small : (a b : ℕ) {k : ℕ} → k ≡ countOf b (a ∷ []) → k ≤ 1
 one-small a b e = omega (arith, count-most b (a ∷ []))
 

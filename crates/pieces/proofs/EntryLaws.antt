@@ -9,19 +9,18 @@ use native.Mathlib.Nat.{le-refl, sub-self, sub-zero}
 use lib.ListN.{length, getD, take, drop, drop-of-length-le}
 use lib.Seq.{drop-cons, drop-drop, take-add}
 use lib.Dec.{leb, ltb}
-use borrow.Author.Tests.{le-leb, lt-leb, leb-true, leb-false, lt-ltb, le-ltb, ltb-true, ltb-false}
+use borrow.Author.Tests.{le-leb, lt-leb, leb-true, lt-ltb, le-ltb}
+use Rattle.text.specs.Pick.{pick}
 use Rattle.text.specs.Answer.{says}
-use Rattle.text.specs.Range.{cut}
 use Rattle.text.specs.declared.range.Range.{Range}
-use Rattle.text.proofs.Lists.{here, cut-is}
+use Rattle.text.proofs.Lists.{here}
 use Rattle.pieces.specs.Entries.{rising, entriesFrom, entryList}
 use Rattle.pieces.specs.Inner.{endsAnswer, startOf, placeAnswer, entryAnswer}
 use Rattle.pieces.specs.Paper.{endsPaper, entryPaper}
 use Rattle.pieces.specs.declared.entries.Ends.{Ends}
 use Rattle.pieces.specs.declared.entries.Ends.the-variants as N
-use Rattle.pieces.specs.declared.entries.Entry.{Entry}
 use Rattle.pieces.specs.declared.entries.Entry.the-variants as E
-use Rattle.pieces.proofs.PaperLaws.{ends-paper-injective, entry-paper-injective}
+use Rattle.pieces.proofs.PaperLaws.{ends-paper-injective}
 
 -- ---- the judge
 
@@ -198,48 +197,27 @@ ends-tell t ends x e = by (rising 0 ends (length t)) refl
     by true r = rw (ends-paper-injective x N.Good (e ∙ rw r)) r
     by false r = rw (ends-paper-injective x N.Wrong (e ∙ rw r)) r
 
--- entry i stands at the range
-pub record Entered (t ends : List ℕ) (i : ℕ) (r : Range) : Type 0 where
-  pub below : i < length ends
-  pub start : r .start ≡ startOf ends i
-  pub end : r .start + r .len ≡ getD ends i 0
-  pub within : getD ends i 0 ≤ length t
-  pub entry : cut r t ≡ getD (entryList t ends) i []
-
--- there is an end i, and it makes no place
-pub record Misplaced (t ends : List ℕ) (i : ℕ) : Type 0 where
-  pub below : i < length ends
-  pub wrong : Fits (startOf ends i) (getD ends i 0) (length t) → ⊥
-
--- what each answer for entry i tells
-abbrev pub EntryTells : List ℕ → List ℕ → ℕ → Entry → Type 0
-EntryTells t ends i (E.At r) = Entered t ends i r
-EntryTells t ends i E.Nothing = length ends ≤ i
-EntryTells t ends i E.Wrong = Misplaced t ends i
-
-fits-tells : (t ends : List ℕ) (i : ℕ) → i < length ends → Fits (startOf ends i) (getD ends i 0) (length t)
-    → Entered t ends i (record { start = startOf ends i; len = getD ends i 0 - startOf ends i })
-fits-tells t ends i h f = record { below = h; start = refl; end = omega arith; within = f .within; entry = cut-is _ _ t ∙ entry-cut t ends i h }
-
--- an answer tells what the definition, whose paper it has, says
-pub entry-tells : (t ends : List ℕ) (i : ℕ) (x : Entry) → entryPaper x ≡ entryAnswer t ends i → EntryTells t ends i x
-entry-tells t ends i x e = below (ltb i (length ends)) refl
+-- a place that is answered for an entry lies in the text
+pub entry-within : (t ends : List ℕ) (i : ℕ) (r : Range) → entryPaper (E.At r) ≡ entryAnswer t ends i → r .start + r .len ≤ length t
+unfolding entryPaper entryAnswer placeAnswer
+entry-within t ends i r e = by (ltb i (length ends)) (leb start end && leb end (length t)) refl e
   where
-    -- x is y, where y has that paper too
-    is : (y : Entry) → entryPaper y ≡ entryAnswer t ends i → EntryTells t ends i y → EntryTells t ends i x
-    is y f d = rw (entry-paper-injective x y (e ∙ sym f)) d
+    start : ℕ
+    start = startOf ends i
 
-    within : i < length ends → startOf ends i ≤ getD ends i 0 → (c : Bool) → leb (getD ends i 0) (length t) ≡ c → EntryTells t ends i x
-    within h l true w =
-        is _ (gives-place t ends i h refl l (leb-true _ _ w)) (fits-tells t ends i h (record { up = l; within = leb-true _ _ w }))
-    within h l false w = let g = leb-false _ _ w in is E.Wrong (gives-long t ends i h g) (record { below = h; wrong = λ f. omega arith })
+    end : ℕ
+    end = getD ends i 0
 
-    up : i < length ends → (c : Bool) → leb (startOf ends i) (getD ends i 0) ≡ c → EntryTells t ends i x
-    up h true l = within h (leb-true _ _ l) (leb (getD ends i 0) (length t)) refl
-    up h false l = let g = leb-false _ _ l in is E.Wrong (gives-falls t ends i h refl g) (record { below = h; wrong = λ f. omega arith })
-
-    below : (c : Bool) → ltb i (length ends) ≡ c → EntryTells t ends i x
-    below true h = up (ltb-true _ _ h) (leb (startOf ends i) (getD ends i 0)) refl
-    below false h = let g = ltb-false _ _ h in is E.Nothing (gives-nothing t ends i g) g
+    by : (c d : Bool) → (leb start end && leb end (length t)) ≡ d
+        → entryPaper (E.At r) ≡ pick c (pick d (says 0 (start ∷ (end - start) ∷ [])) (says 16 [])) (says 10 []) → r .start + r .len ≤ length t
+    by true true q e =
+        let u : r .start ≡ start = cc in
+        let v : r .len ≡ end - start = cc in
+        let g = and-eq-true-iff (leb start end) (leb end (length t)) .0 q in
+        let l = leb-true start end (g .0) in
+        let w = leb-true end (length t) (g .1) in
+        omega arith
+    by true false q e = absurd (let z : _≡_ {A = ℕ} 0 1 = cc in omega arith)
+    by false d q e = absurd (let z : _≡_ {A = ℕ} 0 1 = cc in omega arith)
 
 pub ruleset laws = (judge-first, judge-falls, judge-long, judge-turn, judge-past, start-first, start-later, gives-nothing, gives-falls, gives-long, gives-place)

@@ -25,7 +25,6 @@ use Rattle.pieces.specs.declared.joined.Joined.{Joined}
 use Rattle.pieces.specs.declared.joined.Joined.the-variants as J
 use Rattle.pieces.proofs.PaperLaws.{joined-paper-injective}
 use Rattle.pieces.proofs.EntryLaws.{start-later, rising-fits, entries-length, entries-text, entry-here, entry-past, ends-tell}
-use Rattle.pieces.proofs.PlaceLaws as place
 
 -- ---- what is joined
 
@@ -115,6 +114,7 @@ module _ (b : ℕ) (p l : List ℕ) (at : ℕ) {ys : List ℕ} {r : Written} (h 
 
 -- the entries from i on, laid from `at` on with a separator before each, leave in l what those behind the first leave in l₀
 pub record Laying (b : ℕ) (t ends l₀ : List ℕ) (at₀ : ℕ) (l : List ℕ) (i at : ℕ) : Type 0 where
+  pub rises : rising 0 ends (length t) ≡ true
   pub within : i ≤ length ends
   pub len : length l ≡ length l₀
   pub room : length (joined b (entryList t ends)) ≤ length l₀
@@ -133,10 +133,10 @@ module _ (b : ℕ) (t ends : List ℕ) {p l l′ : List ℕ} {r : Written} (w : 
   first-length : length l′ ≡ length l
   first-length = rw (writes-fits w first-room) (length-over p l first-room)
 
-  pub lay-first : Laying b t ends l′ (length p) l′ 1 (length p)
-  lay-first =
+  pub lay-first : rising 0 ends (length t) ≡ true → Laying b t ends l′ (length p) l′ 1 (length p)
+  lay-first u =
       let n = first-length in
-      record { within = omega arith; len = refl; room = omega arith; count = rw first-joined (sym (length-append p _)); same = refl }
+      record { rises = u; within = omega arith; len = refl; room = omega arith; count = rw first-joined (sym (length-append p _)); same = refl }
 
   module _ {l″ : List ℕ} {i at : ℕ} (g : Laying b t ends l′ (length p) l″ i at) where
     pub past-length : length l″ ≡ length l
@@ -168,6 +168,7 @@ module _ {b : ℕ} {t ends l₀ : List ℕ} {at₀ : ℕ} {l : List ℕ} {i at :
         let v : at + length (b ∷ p) ≡ at′ = omega arith in
         let k : at + length (b ∷ p) ≤ length l = omega arith in
         record {
+          rises = g .rises;
           within = omega arith;
           len = ap length u ∙ length-overAt at (b ∷ p) l k ∙ g .len;
           room = g .room;
@@ -246,4 +247,4 @@ joined-fits {b} {t} {ends} {l} g r h = g .bytes ∙ rw (r, room-fits (joined b (
 
 pub ruleset lay-laws = (none-count, none-bytes, lay-first, lay-room, lay-turn, past-count, past-length, past-bytes)
 
-pub ruleset laws = (place.laws, fits-none, fits-no-end, fits-rest, put-length, put-bytes, joins-wrong, joins-rising, joins-room, joins-done, joins-short)
+pub ruleset laws = (fits-none, fits-no-end, fits-rest, put-length, put-bytes, joins-wrong, joins-rising, joins-room, joins-done, joins-short)

@@ -2,6 +2,7 @@ pub mod PaperLaws
 pub mod PieceLaws
 pub mod CountLaws
 pub mod BlockLaws
+pub mod EitherLaws
 pub mod StepLaws
 pub mod NthLaws
 pub mod NumberLaws

@@ -1,75 +1,42 @@
--- One step: each way through the search and through the step is a law of `split`; and what an answer tells, by cases of the definition. Assumes nothing.
+-- One step: where the first piece ends, and each way through the step; and what an answer tells, by cases of the definition. Assumes nothing.
 use Prim.Native.Nat.{ℕ, zero, suc, _+_, _-_, _<_, _≤_}
 use mathlib.Core.Path.{_≡_, refl, sym, ap, _∙_}
-use mathlib.Core.List.{List, [], _∷_}
+use mathlib.Core.List.{List, [], _∷_, _++_, append-nil}
 use mathlib.Core.Bool.{Bool, true, false}
 use native.Mathlib.Omega.{arith}
-use native.Mathlib.Nat.{add-assoc, add-zero}
+use native.Mathlib.Nat.{add-assoc}
 use types.Run.{OneOf, miss}
 use denote.Enum.Declared.{tagOf}
-use lib.ListN.{length, getD, take, drop, drop-of-length-le, length-append, length-drop}
+use lib.ListN.{length, take, drop, length-append, length-drop}
 use lib.Seq.{take-append-seam, take-length, drop-append-add, drop-drop}
 use lib.Dec.{leb}
-use borrow.Author.Tests.{le-leb, lt-leb, leb-true, leb-false}
+use borrow.Author.Tests.{le-leb, lt-leb, leb-true, leb-false, eq-eqb, ne-eqb}
 use Rattle.text.specs.Answer.{says}
 use Rattle.text.specs.Range.{cut}
 use Rattle.text.specs.declared.range.Range.{Range}
-use Rattle.text.proofs.Lists.{here, cut-is}
-use Rattle.pieces.specs.Inner.{firstOf, Quiet, pastQuiet}
-use Rattle.pieces.specs.Pieces.{longer, split, pieceAnswer, innerAnswer, stepAnswer}
+use Rattle.text.proofs.Lists.{cut-is}
+use Rattle.pieces.specs.Inner.{quietLength}
+use Rattle.pieces.specs.Pieces.{split, joined, pieceAnswer, innerAnswer, stepAnswer}
+use Rattle.pieces.specs.Demands.{Free}
 use Rattle.pieces.specs.Paper.{stepPaper}
 use Rattle.pieces.specs.declared.step.Step.{Step}
 use Rattle.pieces.specs.declared.step.Step.the-variants as S
 use Rattle.pieces.proofs.step.Step.{the-type}
 use Rattle.pieces.proofs.PaperLaws.{step-paper-injective}
-use Rattle.pieces.proofs.BlockLaws.{quiet-later, past-quiet}
-use Rattle.pieces.proofs.PieceLaws.{split-mark, split-byte, split-nil, one-text, more-text, more-rest}
+use Rattle.pieces.proofs.BlockLaws.{quiet-cons, quiet-none-left}
+use Rattle.pieces.proofs.PieceLaws.{free-head, free-tail, first-free, split-nil, one-text, more-text, more-rest}
 
--- ---- the first separator
+-- ---- the first piece
 
--- the first separator from i on is the first from `from` on
-pub record Seeking (b : ℕ) (s : List ℕ) (from i : ℕ) : Type 0 where
-  pub within : i ≤ length s
-  pub same : i + length (firstOf (split b (drop i s))) ≡ from + length (firstOf (split b (drop from s)))
+quiet-free : {b : ℕ} (p s : List ℕ) → Free b p → quietLength b b (p ++ s) ≡ length p + quietLength b b s
+quiet-free [] s f = omega arith
+quiet-free (a ∷ p) s f = rw (quiet-cons, ne-eqb _ _ (free-head f), quiet-free p s (free-tail f)) (omega arith)
 
-pub seek-first : {b : ℕ} {s : List ℕ} {from : ℕ} → from ≤ length s → Seeking b s from from
-seek-first h = record { within = h; same = refl }
-
-first-longer : (a : ℕ) (ps : List (List ℕ)) → length (firstOf (longer a ps)) ≡ suc (length (firstOf ps))
-unfolding firstOf longer
-first-longer a [] = refl
-first-longer a (p ∷ ps) = refl
-
-module _ {b : ℕ} {s : List ℕ} {from i : ℕ} (g : Seeking b s from i) where
-  pub seek-found : i < length s → getD s i 0 ≡ b → i ≡ from + length (firstOf (split b (drop from s)))
-  unfolding firstOf
-  seek-found h e = omega (arith, rw (here s i h, e, split-mark) at (g .same))
-
-  pub seek-turn : i < length s → (getD s i 0 ≡ b → ⊥) → Seeking b s from (i + 1)
-  seek-turn h n = record { within = omega arith; same = omega (arith, rw (here s i h, split-byte _ n, first-longer) at (g .same)) }
-
-  pub seek-past : length s ≤ i → i ≡ from + length (firstOf (split b (drop from s)))
-  unfolding firstOf split
-  seek-past h = omega (arith, rw (drop-of-length-le s h) at (g .same))
-
-  -- the rest of the search, from i on
-  pub seek-rest : {r : ℕ} → r ≡ i + length (firstOf (split b (drop i s))) → r ≡ from + length (firstOf (split b (drop from s)))
-  seek-rest e = e ∙ g .same
-
--- n bytes that are no separators can be passed at once
-seek-over : {b : ℕ} {s : List ℕ} {from : ℕ} (i n : ℕ) → Seeking b s from i → Quiet b b s i (i + n) → Seeking b s from (i + n)
-seek-over i zero g q = rw add-zero g
-seek-over i (suc n) g q =
-    let w = q .within in
-    let e : i + 1 + n ≡ i + suc n = omega arith in
-    let t = seek-turn g (omega arith) (q .no-first i (omega arith) (omega arith)) in
-    rw e at (seek-over (i + 1) n t (rw (← e) at (quiet-later {from′ = i + 1} q (omega arith) (omega arith))))
-
-pub seek-far : {b : ℕ} {s : List ℕ} {from r : ℕ} → from ≤ length s → r ≡ pastQuiet b b s from → Seeking b s from r
-seek-far {from = from} {r = r} h p =
-    let q = past-quiet h p in
-    let e : from + (r - from) ≡ r = omega (arith, q .after) in
-    rw e at (seek-over from (r - from) (seek-first h) (rw (← e) at q))
+-- it ends where the first separator stands, or with the text
+first-length : (b : ℕ) (t : List ℕ) {p : List ℕ} (ps : List (List ℕ)) → split b t ≡ p ∷ ps → length p ≡ quietLength b b t
+first-length b t {p} [] e = rw (one-text b e) (omega (arith, rw (append-nil, quiet-none-left) at (quiet-free p [] (first-free b t e))))
+first-length b t {p} (q ∷ ps) e =
+    rw (more-text b t e) (omega (arith, rw (quiet-cons, eq-eqb b b refl) at (quiet-free p (b ∷ joined b (q ∷ ps)) (first-free b t e))))
 
 -- ---- the pieces from a place on
 
@@ -135,24 +102,33 @@ unfolding stepPaper
 finds-nothing b t at h n = sym (step-none b t at h n)
 
 module _ (b : ℕ) (t : List ℕ) (at : ℕ) {end : ℕ} (h : at ≤ length t) (n : length t ≡ 0 → ⊥)
-    (e : end ≡ at + length (firstOf (split b (drop at t)))) where
+    (e : end ≡ at + quietLength b b (drop at t)) where
   pub finds-last : end ≡ length t → stepPaper (S.Last (record { start = at; len = end - at })) ≡ stepAnswer b t at
-  unfolding stepPaper firstOf
-  finds-last f = by (split b (drop at t)) refl e
+  unfolding stepPaper
+  finds-last f = by (split b (drop at t)) refl
     where
-      by : (ps : List (List ℕ)) → split b (drop at t) ≡ ps → end ≡ at + length (firstOf ps) → says 0 (at ∷ (end - at) ∷ []) ≡ stepAnswer b t at
-      by [] s e = absurd (split-nil b _ s)
-      by (p ∷ []) s e = let l : end - at ≡ length p = omega arith in rw l (sym (step-last b t at h (omega arith) s))
-      by (p ∷ q ∷ ps) s e = let w = next-within b t at s in absurd (omega arith)
+      by : (ps : List (List ℕ)) → split b (drop at t) ≡ ps → says 0 (at ∷ (end - at) ∷ []) ≡ stepAnswer b t at
+      by [] s = absurd (split-nil b _ s)
+      by (p ∷ []) s =
+          let k = first-length b (drop at t) [] s in
+          let l : end - at ≡ length p = omega arith in
+          rw l (sym (step-last b t at h (omega arith) s))
+      by (p ∷ q ∷ ps) s =
+          let k = first-length b (drop at t) (q ∷ ps) s in
+          let w = next-within b t at s in
+          absurd (omega arith)
 
-  pub finds-more : end ≤ length t → (end ≡ length t → ⊥) → stepPaper (S.More (record { start = at; len = end - at }) (end + 1)) ≡ stepAnswer b t at
-  unfolding stepPaper firstOf
-  finds-more l f = by (split b (drop at t)) refl e
+  pub finds-more : (end ≡ length t → ⊥) → stepPaper (S.More (record { start = at; len = end - at }) (end + 1)) ≡ stepAnswer b t at
+  unfolding stepPaper
+  finds-more f = by (split b (drop at t)) refl
     where
-      by : (ps : List (List ℕ)) → split b (drop at t) ≡ ps → end ≡ at + length (firstOf ps) → says 0 (at ∷ (end - at) ∷ (end + 1) ∷ []) ≡ stepAnswer b t at
-      by [] s e = absurd (split-nil b _ s)
-      by (p ∷ []) s e = let w = last-length b t at s in absurd (omega arith)
-      by (p ∷ q ∷ ps) s e = let l : end - at ≡ length p = omega arith in rw (l, e) (sym (step-more b t at s))
+      by : (ps : List (List ℕ)) → split b (drop at t) ≡ ps → says 0 (at ∷ (end - at) ∷ (end + 1) ∷ []) ≡ stepAnswer b t at
+      by [] s = absurd (split-nil b _ s)
+      by (p ∷ []) s = let k = first-length b (drop at t) [] s in let w = last-length b t at s in absurd (omega arith)
+      by (p ∷ q ∷ ps) s =
+          let k = first-length b (drop at t) (q ∷ ps) s in
+          let l : end - at ≡ length p = omega arith in
+          rw (l, e, ← k) (sym (step-more b t at s))
 
 -- ---- what an answer tells
 
@@ -230,4 +206,4 @@ rest-tells b t at (S.Last r) e w h = absurd (miss (2 ∷ 3 ∷ []) 1 tt h)
 rest-tells b t at S.Nothing e w h = step-tells b t at S.Nothing e
 rest-tells b t at S.Beyond e w h = absurd (let f = step-tells b t at S.Beyond e in omega arith)
 
-pub ruleset laws = (seek-first, seek-found, seek-turn, seek-past, seek-rest, seek-far, finds-beyond, finds-nothing, finds-last, finds-more)
+pub ruleset laws = (finds-beyond, finds-nothing, finds-last, finds-more)

@@ -5,7 +5,9 @@ use mathlib.Core.List.{List, [], _∷_}
 use lib.ListN.{length, getD, drop}
 use lib.Dec.{ltb}
 use Rattle.text.specs.Pick.{pick, within}
-use Rattle.text.specs.Answer.{Answer, says}
+use Rattle.text.specs.Answer.{Answer, says, valuesOf}
+use Rattle.text.specs.Range.{rangeAt}
+use Rattle.text.specs.declared.range.Range.{Range}
 use Rattle.text.specs.Over.{roomAnswer, laid}
 use Rattle.pieces.specs.Before.{beforeEither}
 use Rattle.pieces.specs.Pieces.{joined}
@@ -13,13 +15,11 @@ use Rattle.pieces.specs.Entries.{entryList, ordered}
 use Rattle.pieces.specs.Paper.{joinedPaper}
 use Rattle.pieces.specs.declared.joined.Joined.{Joined}
 
--- ---- where a piece ends
+-- ---- bytes that are neither of two, and blocks of 32 of them
 
-unfoldable pub firstOf : List (List ℕ) → List ℕ
-firstOf [] = []
-firstOf (p ∷ ps) = p
-
--- ---- blocks of 32 bytes that hold neither of two bytes
+-- 32 bytes on, or at the text's end
+unfoldable pub nearEnd : ℕ → ℕ → ℕ
+nearEnd from len = pick (ltb (len - from) 32) len (from + 32)
 
 -- no a and no b from one place of a text up to another
 pub record Quiet (a b : ℕ) (s : List ℕ) (from end : ℕ) : Type 0 where
@@ -28,6 +28,7 @@ pub record Quiet (a b : ℕ) (s : List ℕ) (from end : ℕ) : Type 0 where
   pub no-first : (k : ℕ) → from ≤ k → k < end → getD s k 0 ≡ a → ⊥
   pub no-second : (k : ℕ) → from ≤ k → k < end → getD s k 0 ≡ b → ⊥
 
+-- how many such bytes a text starts with
 unfoldable pub quietLength : ℕ → ℕ → List ℕ → ℕ
 quietLength a b s = length (beforeEither a b s)
 
@@ -54,6 +55,15 @@ placeAnswer start end n = pick (within start n end) (says 0 (start ∷ (end - st
 unfoldable pub entryAnswer : List ℕ → List ℕ → ℕ → Answer
 unfolding startOf
 entryAnswer t ends i = pick (ltb i (length ends)) (placeAnswer (startOf ends i) (getD ends i 0) (length t)) (says 10 [])
+
+-- its place; where there is none, empty at the text's end
+unfoldable pub entryRange : List ℕ → List ℕ → ℕ → Range
+entryRange t ends i = rangeAt (getD (valuesOf (entryAnswer t ends i)) 0 (length t)) (getD (valuesOf (entryAnswer t ends i)) 1 0)
+
+-- that place, which the text has
+pub record PlacesEntry (t ends : List ℕ) (i : ℕ) (r : Range) : Type 0 where
+  pub is : r ≡ entryRange t ends i
+  pub within : r .start + r .len ≤ length t
 
 -- ---- entries joined by a separator
 

@@ -1,13 +1,15 @@
 -- The promise of each public function of this crate, by its name, and that each determines the outcome. Assumes nothing.
-use Prim.Native.Nat.{ℕ}
+use Prim.Native.Nat.{ℕ, _+_}
 use mathlib.Core.Path.{_≡_}
 use mathlib.Core.List.{List}
-use lib.ListN.{length}
-use Rattle.text.specs.Outcome.{OneAnswer, OneOutcome}
+use lib.ListN.{length, drop}
+use denote.Ref.{RefT, now}
+use Rattle.text.specs.Outcome.{OneAnswer, OneOutcome, OnePart}
+use Rattle.text.specs.Part.{Part}
 use Rattle.pieces.specs.Paper.{stepPaper, nthPaper, endsPaper, entryPaper}
 use Rattle.pieces.specs.Pieces.{pieces, countOf, stepAnswer}
 use Rattle.pieces.specs.Nth.{nthAnswer}
-use Rattle.pieces.specs.Inner.{endsAnswer, entryAnswer, pastQuiet, JoinsList}
+use Rattle.pieces.specs.Inner.{endsAnswer, entryAnswer, entryRange, nearEnd, quietLength, JoinsList}
 use Rattle.pieces.specs.declared.step.Step.{Step}
 use Rattle.pieces.specs.declared.nth.Nth.{Nth}
 use Rattle.pieces.specs.declared.entries.Ends.{Ends}
@@ -19,8 +21,11 @@ CountsByte b s r = r ≡ countOf b s
 abbrev pub CountsPieces : ℕ → List ℕ → ℕ → Type 0
 CountsPieces separator s r = r ≡ length (pieces separator s)
 
-abbrev pub PassesQuiet : ℕ → ℕ → List ℕ → ℕ → ℕ → Type 0
-PassesQuiet a b s at r = r ≡ pastQuiet a b s at
+abbrev pub EndsNear : ℕ → ℕ → ℕ → Type 0
+EndsNear from len r = r ≡ nearEnd from len
+
+abbrev pub FindsEither : ℕ → ℕ → List ℕ → ℕ → ℕ → Type 0
+FindsEither a b s from r = r ≡ from + quietLength a b (drop from s)
 
 abbrev pub FindsPiece : ℕ → List ℕ → ℕ → Step → Type 0
 FindsPiece separator s at r = stepPaper r ≡ stepAnswer separator s at
@@ -34,12 +39,18 @@ JudgesEnds t ends r = endsPaper r ≡ endsAnswer t ends
 abbrev pub FindsEntry : List ℕ → List ℕ → ℕ → Entry → Type 0
 FindsEntry t ends i r = entryPaper r ≡ entryAnswer t ends i
 
+-- entry i, as a part of the text
+abbrev pub ShowsEntry : RefT (List ℕ) → List ℕ → ℕ → RefT (List ℕ) → Type 0
+ShowsEntry text ends i r = Part text (entryRange (now text) ends i) r
+
 pub record Determined : Type 0 where
   pub count-byte : (b : ℕ) (s : List ℕ) → OneAnswer (CountsByte b s)
   pub count-pieces : (separator : ℕ) (s : List ℕ) → OneAnswer (CountsPieces separator s)
-  pub past-quiet : (a b : ℕ) (s : List ℕ) (at : ℕ) → OneAnswer (PassesQuiet a b s at)
+  pub near-end : (from len : ℕ) → OneAnswer (EndsNear from len)
+  pub find-either : (a b : ℕ) (s : List ℕ) (from : ℕ) → OneAnswer (FindsEither a b s from)
   pub piece-at : (separator : ℕ) (s : List ℕ) (at : ℕ) → OneAnswer (FindsPiece separator s at)
   pub piece-nth : (separator : ℕ) (s : List ℕ) (n : ℕ) → OneAnswer (FindsNth separator s n)
   pub judge-ends : (t ends : List ℕ) → OneAnswer (JudgesEnds t ends)
   pub entry-at : (t ends : List ℕ) (i : ℕ) → OneAnswer (FindsEntry t ends i)
+  pub entry-text : (text : RefT (List ℕ)) (ends : List ℕ) (i : ℕ) → OnePart (ShowsEntry text ends i)
   pub put-joined : (separator : ℕ) (t ends l : List ℕ) → OneOutcome (JoinsList separator t ends l)

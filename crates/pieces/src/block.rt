@@ -4,8 +4,7 @@ ghost use mathlib.Core.Bool.{_||_};
 ghost use lib.ListN.{drop};
 ghost use lib.Dec.{leb, eqb};
 ghost use Rattle.text.specs.Pick.{pick};
-ghost use Rattle.pieces.specs.Promises.{PassesQuiet};
-ghost use Rattle.pieces.specs.Inner.{quietLength};
+ghost use Rattle.pieces.specs.Inner.{quietLength, pastQuiet};
 
 // 1 where x is one of the two bytes, else as before.
 fn struck(hit: u8, x: u8, a: u8, b: u8) -> u8
@@ -40,8 +39,8 @@ fn is_quiet(s: &[u8], a: u8, b: u8, at: usize) -> bool
 }
 
 // The place past all blocks of 32 bytes from `at` on that hold neither a nor b.
-pub fn past_quiet(s: &[u8], a: u8, b: u8, at: usize) -> usize
-    ensures { λ r. ⌜ PassesQuiet a b (now (s .entry)) at r ⌝ }
+pub(crate) fn past_quiet(s: &[u8], a: u8, b: u8, at: usize) -> usize
+    ensures { λ r. ⌜ r ≡ pastQuiet a b (now (s .entry)) at ⌝ }
 {
     let mut i = at;
     while is_quiet(s, a, b, i) {

@@ -3,8 +3,8 @@ use text::range::Range;
 ghost use mathlib.Core.Path.{_≡_};
 ghost use Prim.Native.Nat.{_≤_};
 ghost use lib.ListN.{length};
-ghost use Rattle.pieces.specs.Inner.{startOf};
-ghost use Rattle.pieces.specs.Promises.{JudgesEnds, FindsEntry};
+ghost use Rattle.pieces.specs.Inner.{startOf, PlacesEntry};
+ghost use Rattle.pieces.specs.Promises.{JudgesEnds, FindsEntry, ShowsEntry};
 
 // Whether ends make a list of entries.
 pub enum Ends {
@@ -71,4 +71,27 @@ pub fn entry_at(text: &[u8], ends: &[usize], i: usize) -> Entry
         start,
         len: end - start,
     })
+}
+
+// Its place; where there is none, the empty place at the text's end.
+fn entry_place(text: &[u8], ends: &[usize], i: usize) -> Range
+    ensures { λ r. ⌜ PlacesEntry (now (text .entry)) (now (ends .entry)) i r ⌝ }
+{
+    match entry_at(text, ends, i) {
+        Entry::At(place) => place,
+        _ => Range {
+            start: text.len(),
+            len: 0,
+        },
+    }
+}
+
+// Entry i as a part of the text, empty where `entry_at` tells that there is none.
+pub fn entry_text<'a>(text: &'a [u8], ends: &[usize], i: usize) -> &'a [u8]
+    ensures { λ r. ⌜ ShowsEntry (text .entry) (now (ends .entry)) i r ⌝ }
+{
+    let place = entry_place(text, ends, i);
+    let start = place.start;
+    let end = start + place.len;
+    &text[start..end]
 }

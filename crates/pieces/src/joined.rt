@@ -1,14 +1,13 @@
 // The entries of a list, written with a separator between each two.
 use crate::entries::Ends;
-use crate::entries::Entry;
-use crate::entries::entry_at;
+use crate::entries::entry_text;
 use crate::entries::judge_ends;
 use text::copy::copy;
 ghost use mathlib.Core.Path.{_≡_};
 ghost use mathlib.Core.Bool.{true};
-ghost use mathlib.Core.List.{[], _∷_};
+ghost use mathlib.Core.List.{_∷_};
 ghost use Prim.Native.Nat.{_+_, _≤_, _<_};
-ghost use lib.ListN.{length, getD};
+ghost use lib.ListN.{length};
 ghost use lib.Dec.{leb};
 ghost use Rattle.text.specs.Over.{over, overAt};
 ghost use Rattle.pieces.specs.Pieces.{joined};
@@ -23,23 +22,6 @@ pub enum Joined {
     Wrong,
     // 17: they do not fit.
     Short,
-}
-
-// Entry i of a list whose ends are good.
-fn entry<'a>(text: &'a [u8], ends: &[usize], i: usize) -> &'a [u8]
-    requires { ⌜ rising 0 (now ends) (length (now text)) ≡ true ⌝ }
-    requires { ⌜ i < length (now ends) ⌝ }
-    ensures { λ r. ⌜ now r ≡ getD (entryList (now (text .entry)) (now (ends .entry))) i [] ⌝ }
-{
-    match entry_at(text, ends, i) {
-        Entry::At(place) => {
-            let start = place.start;
-            let end = start + place.len;
-            &text[start..end]
-        }
-        Entry::Nothing => text,
-        Entry::Wrong => text,
-    }
 }
 
 // Whether the entries and a separator between each two fit into so much room.
@@ -80,12 +62,12 @@ fn put_entries(text: &[u8], ends: &[usize], separator: u8, out: &mut [u8]) -> us
     if ends.len() == 0 {
         return 0;
     }
-    let first = entry(text, ends, 0);
+    let first = entry_text(text, ends, 0);
     copy(first, out);
     let mut at = first.len();
     let mut i = 1;
     while i < ends.len() {
-        let e = entry(text, ends, i);
+        let e = entry_text(text, ends, i);
         at = put_behind(e, separator, out, at);
         i += 1;
     }

@@ -1,12 +1,10 @@
 // The pieces of a text between separators, one step from a place at a time.
-use crate::block::past_quiet;
+use crate::either::find_either;
+use crate::either::near_end;
 use text::range::Range;
-ghost use mathlib.Core.Path.{_≡_};
-ghost use Prim.Native.Nat.{_≤_, _+_};
-ghost use lib.ListN.{length, drop};
-ghost use Rattle.pieces.specs.Pieces.{split};
-ghost use Rattle.pieces.specs.Promises.{FindsPiece};
-ghost use Rattle.pieces.specs.Inner.{firstOf};
+ghost use Prim.Native.Nat.{_≤_};
+ghost use lib.ListN.{length};
+ghost use Rattle.pieces.specs.Promises.{FindsEither, FindsPiece};
 
 // What a step from a place finds.
 pub enum Step {
@@ -20,22 +18,10 @@ pub enum Step {
     Beyond,
 }
 
-// The end of the first 32 bytes from `from` on, or the text's where there are fewer.
-fn near_end(from: usize, len: usize) -> usize
-    requires { ⌜ from ≤ len ⌝ }
-    ensures { λ r. ⌜ r ≤ len ⌝ }
-{
-    if len - from < 32 {
-        return len;
-    }
-    from + 32
-}
-
-// The index of the first separator at or after `from`, or the text's length. Behind 32 bytes it is sought by blocks.
+// Where the piece that starts at `from` ends: at the first separator, or at the text's end.
 fn piece_end(s: &[u8], separator: u8, from: usize) -> usize
     requires { ⌜ from ≤ length (now s) ⌝ }
-    ensures { λ r. ⌜ r ≡ from + length (firstOf (split separator (drop from (now (s .entry))))) ⌝ }
-    ensures { λ r. ⌜ r ≤ length (now (s .entry)) ⌝ }
+    ensures { λ r. ⌜ FindsEither separator separator (now (s .entry)) from r ⌝ }
 {
     let near = near_end(from, s.len());
     let mut i = from;
@@ -45,23 +31,7 @@ fn piece_end(s: &[u8], separator: u8, from: usize) -> usize
         }
         i += 1;
     }
-    far_end(s, separator, i)
-}
-
-// The same, by blocks first.
-fn far_end(s: &[u8], separator: u8, from: usize) -> usize
-    requires { ⌜ from ≤ length (now s) ⌝ }
-    ensures { λ r. ⌜ r ≡ from + length (firstOf (split separator (drop from (now (s .entry))))) ⌝ }
-    ensures { λ r. ⌜ r ≤ length (now (s .entry)) ⌝ }
-{
-    let mut i = past_quiet(s, separator, separator, from);
-    while i < s.len() {
-        if s[i] == separator {
-            return i;
-        }
-        i += 1;
-    }
-    i
+    find_either(s, separator, separator, i)
 }
 
 // The piece that starts at the place `at`.

@@ -2,6 +2,7 @@
 use Prim.Native.Nat.{_-_}
 use borrow.Author.Needs.{needs}
 use lib.ListN.{length}
+use Rattle.pieces.proofs.PlaceLaws.{entry-shown}
 use Rattle.join.proofs.JoinLaws.{Judging, laws}
 use Rattle.join.proofs.columns.judge_columns.Statement.{statement}
 use Rattle.join.proofs.columns.judge_columns.Tie as tie
@@ -15,8 +16,8 @@ abbrev μ-loop : tie.MeasureT-loop
 loop-holds : tie.Need-loop-holds Inv-loop μ-loop
 loop-holds c = search (needs, laws)
 
-column-requires : tie.Need-column-requires Inv-loop μ-loop
-column-requires c κs = search (needs, laws)
+entry-text-requires : tie.Need-entry-text-requires Inv-loop μ-loop
+entry-text-requires c κs = search (needs, laws)
 
 add-is-refused : tie.Need-add-is-refused Inv-loop μ-loop
 add-is-refused c = search (needs, laws)
@@ -25,13 +26,13 @@ is-refused-requires : tie.Need-is-refused-requires Inv-loop μ-loop
 is-refused-requires c κs = search (needs, laws)
 
 returns : tie.Need-returns Inv-loop μ-loop
-returns c = search (needs, laws)
+returns c = search (needs, laws, entry-shown _ _ _ (c .before .before .entry-text .ensures))
 
 is-utf8-requires : tie.Need-is-utf8-requires Inv-loop μ-loop
 is-utf8-requires c κs = search (needs, laws)
 
 returns-2 : tie.Need-returns-2 Inv-loop μ-loop
-returns-2 c = search (needs, laws)
+returns-2 c = search (needs, laws, entry-shown _ _ _ (c .before .before .before .before .entry-text .ensures))
 
 add-i : tie.Need-add-i Inv-loop μ-loop
 add-i c = search (needs, laws)
@@ -40,7 +41,7 @@ loop-less : tie.Need-loop-less Inv-loop μ-loop
 loop-less c = search (needs, laws)
 
 loop-again : tie.Need-loop-again Inv-loop μ-loop
-loop-again c = search (needs, laws)
+loop-again c = search (needs, laws, entry-shown _ _ _ (c .before .before .before .before .entry-text .ensures))
 
 last-end-requires : tie.Need-last-end-requires Inv-loop μ-loop
 last-end-requires c κs = search (needs, laws)
@@ -67,7 +68,7 @@ judge-columns-spec =
     Inv-loop
     μ-loop
     loop-holds
-    column-requires
+    entry-text-requires
     add-is-refused
     is-refused-requires
     returns

@@ -1,7 +1,7 @@
 -- `lists::alternate_bases::alt_count` meets its contract: the commas are no more than the bytes, so that one more fits. Assumes nothing.
 use native.Mathlib.Omega.{arith}
 use borrow.Author.Needs.{needs}
-use Rattle.pieces.proofs.CountLaws.{count-most}
+use Rattle.pieces.proofs.CountLaws.{counted-most}
 use Rattle.lists.proofs.AltLaws.{laws}
 use Rattle.lists.proofs.alternate_bases.alt_count.Statement.{statement}
 use Rattle.lists.proofs.alternate_bases.alt_count.Tie as tie
@@ -10,7 +10,7 @@ count-byte-requires : tie.Need-count-byte-requires
 count-byte-requires c κs = search needs
 
 add-result : tie.Need-add-result
-add-result c = omega (arith, count-most 44 (c .before .before .args .column .now), c .before .before .good)
+add-result c = omega (arith, counted-most _ _ (c .count-byte .ensures), c .before .before .good)
 
 returns : tie.Need-returns
 returns c = search (needs, laws)

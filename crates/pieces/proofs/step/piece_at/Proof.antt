@@ -1,6 +1,8 @@
 -- Whether the first piece reaches the end of the text says whether another follows; each way out is then the definition. Assumes nothing.
+use native.Mathlib.Omega.{arith}
 use borrow.Author.Needs.{needs}
 use Rattle.pieces.proofs.StepLaws.{laws}
+use Rattle.pieces.proofs.EitherLaws.{either-within}
 use Rattle.pieces.proofs.step.piece_at.Statement.{statement}
 use Rattle.pieces.proofs.step.piece_at.Tie as tie
 
@@ -17,7 +19,8 @@ sub-if3 : tie.Need-sub-if3
 sub-if3 c = search (needs, laws)
 
 add-t9 : tie.Need-add-t9
-add-t9 c = search (needs, laws)
+add-t9 c =
+    omega (arith, either-within _ _ _ _ (omega arith) (c .before .piece-end .ensures), c .before .before .before .before .before .good)
 
 returns-3 : tie.Need-returns-3
 returns-3 c = search (needs, laws)
