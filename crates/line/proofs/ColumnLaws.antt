@@ -19,7 +19,7 @@ use Rattle.pieces.specs.Pieces.{split, joined}
 use Rattle.pieces.specs.Demands.{Free}
 use Rattle.pieces.proofs.PieceLaws.{first-free, joined-none, joined-one, joined-more, free-nil, free-cons, free-tail, free-append, free-left, free-right, split-some, split-nil, split-joined, split-whole, split-append, one-text, more-text}
 use Rattle.line.specs.Line.{Ending, nothing, feed, return-feed, endingBytes, line, fed, lineIn, lineOf, required, lastVerdict, verdict, allUtf8}
-use Rattle.line.specs.Demands.{Ended, by-nothing, by-feed, by-return-feed, ByColumns}
+use Rattle.line.specs.Demands.{Ended, by-nothing, by-feed, by-return-feed, LineCut, ByColumns}
 
 -- ---- pieces joined
 
@@ -76,12 +76,6 @@ nothing-bytes = refl
 pub feed-bytes : endingBytes feed ≡ 10 ∷ []
 unfolding endingBytes
 feed-bytes = refl
-
--- a text free of LF, then an ending that is right after it, then the rest, are the input
-pub record LineCut (s t : List ℕ) (e : Ending) (rest : List ℕ) : Type 0 where
-  pub whole : t ++ (endingBytes e ++ rest) ≡ s
-  pub unfed : Free 10 t
-  pub ended : Ended t e rest
 
 line-same : {s t t′ : List ℕ} {e e′ : Ending} {rest rest′ : List ℕ} → line t e rest ≡ line t′ e′ rest′ → LineCut s t e rest
     → LineCut s t′ e′ rest′

@@ -6,11 +6,35 @@ use mathlib.Mathlib.Logic.Function.Defs.{LeftInverse·injective}
 use lib.ListN.{getD}
 use Rattle.text.specs.Answer.{Answer, says}
 use Rattle.text.specs.declared.range.Range.{Range}
-use Rattle.line.specs.Paper.{recordPlaces, readPaper}
+use Rattle.line.specs.Line.{endingNumber}
+use Rattle.line.specs.Paper.{linedPaper, recordPlaces, readPaper}
 use Rattle.line.specs.Promises.{Determined}
+use Rattle.line.specs.declared.ending.Ending.the-variants as E
+use Rattle.line.specs.declared.extent.Lined.{Lined}
+use Rattle.line.specs.declared.extent.Lined.the-variants as L
 use Rattle.line.specs.declared.read.Record.{Record}
 use Rattle.line.specs.declared.read.Read.{Read}
 use Rattle.line.specs.declared.read.Read.the-variants as R
+
+-- ---- the line at a place
+
+linedBy : ℕ → ℕ → ℕ → ℕ → Lined
+linedBy n end k next = getD (L.At end (getD (E.Nothing ∷ E.Feed ∷ []) k E.ReturnFeed) next ∷ []) n L.Beyond
+
+linedOf : Answer → Lined
+linedOf (says n l) = linedBy n (getD l 0 0) (getD l 1 0) (getD l 2 0)
+
+lined-back : (x : Lined) → linedOf (linedPaper x) ≡ x
+unfolding linedOf linedBy linedPaper endingNumber
+lined-back (L.At end E.Nothing next) = refl
+lined-back (L.At end E.Feed next) = refl
+lined-back (L.At end E.ReturnFeed next) = refl
+lined-back L.Beyond = refl
+
+pub lined-paper-injective : (r r′ : Lined) → linedPaper r ≡ linedPaper r′ → r ≡ r′
+lined-paper-injective = LeftInverse·injective linedOf linedPaper lined-back
+
+-- ---- a record, and what reading finds
 
 -- the range whose start is value k, and whose length is value m
 rangeAt : List ℕ → ℕ → ℕ → Range
@@ -51,5 +75,9 @@ read-back (R.Beyond next) = refl
 pub read-paper-injective : (r r′ : Read) → readPaper r ≡ readPaper r′ → r ≡ r′
 read-paper-injective = LeftInverse·injective readOf readPaper read-back
 
+pub places-injective : (r r′ : Record) → recordPlaces r ≡ recordPlaces r′ → r ≡ r′
+unfolding recordOf rangeAt recordPlaces
+places-injective = LeftInverse·injective (λ (l : List ℕ). recordOf (0 ∷ l)) recordPlaces (λ r. refl)
+
 pub determined : Determined
-determined = record { read-line = λ s at r r′ p q. read-paper-injective r r′ (p ∙ sym q); place-of = λ line name r r′ p q. p ∙ sym q }
+determined = record { line-at = λ s at r r′ p q. lined-paper-injective r r′ (p ∙ sym q); read-line = λ s at r r′ p q. read-paper-injective r r′ (p ∙ sym q); place-of = λ line name r r′ p q. p ∙ sym q; make-record = λ places r r′ p q. places-injective r r′ (p ∙ sym q) }

@@ -1,6 +1,8 @@
 pub mod ColumnLaws
 pub mod LineLaws
 pub mod ReadLaws
+pub mod ExtentLaws
+pub mod Extents
 pub mod PlaceLaws
 pub mod AnswerLaws
 pub mod MarkLaws

@@ -1,13 +1,13 @@
 -- The places of a line's fields by its first tabs: each tab is one column further. Assumes nothing.
-use Prim.Native.Nat.{ℕ, suc, _+_, _-_, _≤_, _<_}
+use Prim.Native.Nat.{ℕ, zero, suc, _+_, _-_, _≤_, _<_}
 use mathlib.Core.Path.{_≡_, refl, sym, ap, _∙_}
 use mathlib.Core.List.{List, [], _∷_, _++_}
 use native.Mathlib.Omega.{arith}
-use lib.ListN.{length, getD, set, take, drop, length-drop}
-use lib.Seq.{length-take-le, set-out}
+use lib.ListN.{length, getD, set, take, drop, length-drop, drop-of-length-le}
+use lib.Seq.{length-take-le, drop-cons, set-out}
 use borrow.Author.Tests.{eq-eqb, ne-eqb}
 use Rattle.text.specs.declared.range.Range.{Range}
-use Rattle.text.specs.Range.{rangePlaces}
+use Rattle.text.specs.Range.{rangeAt, rangePlaces}
 use Rattle.pieces.specs.Pieces.{split}
 use Rattle.pieces.proofs.PieceLaws.{split-nil, split-joined}
 use Rattle.line.specs.Line.{leadingPlaces, fieldPlaces}
@@ -126,5 +126,22 @@ module _ {t : List ℕ} {at : ℕ} {tabs : List ℕ} (h : Told t at tabs) where
       let more : length (split 9 (drop at t)) ≡ 8 → ⊥ = λ z. omega arith in
       e
       ∙ rw (i .starts, i .size, f .starts, f .size, s .starts, s .size, ne-eqb _ 8 more, leading-tab (h .seven 0 (omega arith)) 8, leading-tab (h .seven 1 (omega arith)) 7, leading-tab (h .seven 2 (omega arith)) 6, leading-tab (h .seven 3 (omega arith)) 5, leading-tab (h .seven 4 (omega arith)) 4, leading-tab (h .seven 5 (omega arith)) 3, leading-tab (h .seven 6 (omega arith)) 2, leading-tab (h .nine n 7 (omega arith)) 1, leading-tab (h .nine n 8 (omega arith)) 0, leading-rest t (getD tabs 8 0 + 1))
+
+-- ---- a record by its numbers
+
+-- the n numbers of a list from the place k on, one by one
+oneByOne : ℕ → ℕ → List ℕ → List ℕ
+oneByOne zero k l = []
+oneByOne (suc n) k l = getD l k 0 ∷ oneByOne n (suc k) l
+
+one-by-one : (n k : ℕ) (l : List ℕ) → length l ≡ k + n → oneByOne n k l ≡ drop k l
+unfolding oneByOne
+one-by-one zero k l e = sym (drop-of-length-le l {i = k} (omega arith))
+one-by-one (suc n) k l e = ap (λ (r : List ℕ). getD l k 0 ∷ r) (one-by-one n (suc k) l (omega arith)) ∙ sym (drop-cons l k 0 (omega arith))
+
+pub made : (l : List ℕ) {chrom pos id reference alt qual filter info format samples : Range} → length l ≡ 20 → chrom ≡ rangeAt (getD l 0 0) (getD l 1 0) → pos ≡ rangeAt (getD l 2 0) (getD l 3 0) → id ≡ rangeAt (getD l 4 0) (getD l 5 0) → reference ≡ rangeAt (getD l 6 0) (getD l 7 0) → alt ≡ rangeAt (getD l 8 0) (getD l 9 0) → qual ≡ rangeAt (getD l 10 0) (getD l 11 0) → filter ≡ rangeAt (getD l 12 0) (getD l 13 0) → info ≡ rangeAt (getD l 14 0) (getD l 15 0) → format ≡ rangeAt (getD l 16 0) (getD l 17 0) → samples ≡ rangeAt (getD l 18 0) (getD l 19 0)
+    → recordPlaces (record { chrom = chrom; pos = pos; id = id; reference = reference; alt = alt; qual = qual; filter = filter; info = info; format = format; samples = samples }) ≡ l
+unfolding recordPlaces oneByOne
+made l n a b c d e f g h i j = rw (a, b, c, d, e, f, g, h, i, j) (one-by-one 20 0 l n)
 
 pub ruleset laws = (keep-out, rising, last-eight, info-before, format-before, samples-before, filled, filled-eight, filled-ten)

@@ -1,4 +1,4 @@
--- Reading a line column by column: the search for a column's end, the last column, and what is left from a column on.
+-- Reading a line column by column: where a column ends, the line that an LF ends, the last column, and what is left from a column on.
 -- Assumes nothing.
 use Prim.Native.Nat.{ℕ, _+_, _-_, _≤_, _<_}
 use mathlib.Core.Path.{_≡_, refl, sym, ap, _∙_}
@@ -16,12 +16,13 @@ use Rattle.text.specs.Bytes.{isEmpty, endsIn}
 use Rattle.text.proofs.Lists.{here, rest-all}
 use Rattle.text.proofs.ByteLaws.{none-empty, some-empty, ends-none, ends-some, ends-at}
 use Rattle.text.specs.Verdict.{Verdict, fine, refused}
-use Rattle.pieces.specs.Inner.{pastQuiet}
+use Rattle.pieces.specs.Inner.{quietLength}
 use Rattle.pieces.specs.Pieces.{split}
 use Rattle.pieces.specs.Demands.{Free}
-use Rattle.pieces.proofs.BlockLaws.{past-quiet}
+use Rattle.pieces.proofs.EitherLaws.{either-quiet, either-second}
 use Rattle.pieces.proofs.PieceLaws.{free-nil, free-cons, free-head, free-tail, split-whole, split-append, split-nil}
 use Rattle.line.specs.Line.{Ending, feed, return-feed, endingBytes, Line, line, fed, lineOf, required, lastVerdict, verdict}
+use Rattle.line.specs.Demands.{FirstFeed}
 use Rattle.line.specs.Inner.{Clear, Stopped, StopsAt, TextEnd, input, none, bare, return, accepted, denied, judgement, judgementOf, judgedPaper}
 use Rattle.line.specs.declared.read.Stop.{Stop}
 use Rattle.line.specs.declared.read.Stop.the-variants as S
@@ -30,6 +31,16 @@ use Rattle.line.specs.declared.read.Judged.the-variants as J
 use Rattle.line.proofs.ColumnLaws.{line-end, line-feed, line-tab}
 
 -- ---- the search for a column's end
+
+module _ (s : List ℕ) (from : ℕ) {i : ℕ} (h : from ≤ length s) (e : i ≡ from + quietLength 9 10 (drop from s)) where
+  pub stops-input : length s ≤ i → Clear s from (length s)
+  stops-input l = let c = either-quiet 9 10 s from h e in let z : i ≡ length s = omega (arith, c .within) in rw z at c
+
+  pub stops-tab : i < length s → getD s i 0 ≡ 9 → Stopped s from i 9
+  stops-tab l t = record { within = l; is = t; clear = either-quiet 9 10 s from h e }
+
+  pub stops-feed : i < length s → (getD s i 0 ≡ 9 → ⊥) → Stopped s from i 10
+  stops-feed l n = record { within = l; is = either-second 9 10 s from h e l n; clear = either-quiet 9 10 s from h e }
 
 pub search-first : {s : List ℕ} {from : ℕ} → from ≤ length s → Clear s from from
 search-first h = record { after = omega arith; within = h; no-first = λ k p q e. omega arith; no-second = λ k p q e. omega arith }
@@ -47,13 +58,6 @@ module _ {s : List ℕ} {from i : ℕ} (g : Clear s from i) where
 
   pub search-found : {b : ℕ} → i < length s → getD s i 0 ≡ b → Stopped s from i b
   search-found h e = record { within = h; is = e; clear = g }
-
-  pub search-past : length s ≤ i → Clear s from (length s)
-  search-past h = let e : i ≡ length s = omega arith in rw e at g
-
--- past quiet blocks
-pub search-far : {s : List ℕ} {from r : ℕ} → from ≤ length s → r ≡ pastQuiet 9 10 s from → Clear s from r
-search-far h e = past-quiet h e
 
 -- what was found from i on is found from `from` on
 none-over : (s : List ℕ) (b : ℕ) {from i r : ℕ} → ((k : ℕ) → from ≤ k → k < i → getD s k 0 ≡ b → ⊥)
@@ -76,10 +80,6 @@ pub search-over : {s : List ℕ} {from i : ℕ} (x : Stop) → Clear s from i �
 search-over (S.Tab j) g t = stopped-over g t
 search-over (S.Feed j) g t = stopped-over g t
 search-over S.Input g t = clear-over g t
-
--- a place before the near end is one of the input
-pub near-within : {i near n : ℕ} → i < near → near ≤ n → i < n
-near-within h l = omega arith
 
 -- what the search's answer tells, case by case
 module _ {s : List ℕ} {from : ℕ} {x : Stop} (h : StopsAt s from x) where
@@ -118,7 +118,7 @@ module _ {s : List ℕ} {start stop : ℕ} where
   end-bare h n e = bare (omega arith) e
 
 -- the end of the input strips nothing
-input-end : (s : List ℕ) {start end : ℕ} → TextEnd s start (length s) end → end ≡ length s
+pub input-end : (s : List ℕ) {start end : ℕ} → TextEnd s start (length s) end → end ≡ length s
 input-end s (input e) = refl
 input-end s (none e) = refl
 input-end s (bare h n) = refl
@@ -136,15 +136,21 @@ part-free s b from end h w f =
     }
 
 -- the input from a place on: what stands before a byte, the byte, and the rest
-pub part-byte : (s : List ℕ) {from i b : ℕ} → Stopped s from i b → drop from s ≡ take (i - from) (drop from s) ++ b ∷ drop (i + 1) s
-part-byte s {from} {i} {b} g =
-    let d : from + (i - from) ≡ i = (let a = g .clear .after in omega arith) in
+byte-at : (s : List ℕ) {from i b : ℕ} → from ≤ i → i < length s → getD s i 0 ≡ b → drop from s ≡ take (i - from) (drop from s) ++ b ∷ drop (i + 1) s
+byte-at s {from} {i} {b} h w e =
+    let d : from + (i - from) ≡ i = omega arith in
     sym (take-append-drop (i - from) (drop from s))
     ∙ ap (λ (t : List ℕ). take (i - from) (drop from s) ++ t)
-    (drop-drop (i - from) from s ∙ ap (λ (n : ℕ). drop n s) d ∙ here s i (g .within) ∙ ap (λ (x : ℕ). x ∷ drop (i + 1) s) (g .is))
+    (drop-drop (i - from) from s ∙ ap (λ (n : ℕ). drop n s) d ∙ here s i w ∙ ap (λ (x : ℕ). x ∷ drop (i + 1) s) e)
+
+length-at : (s : List ℕ) {from i : ℕ} → from ≤ i → i < length s → length (take (i - from) (drop from s)) ≡ i - from
+length-at s {from} {i} h w = length-take-le (i - from) (drop from s) (let l = length-drop from s in omega arith)
+
+pub part-byte : (s : List ℕ) {from i b : ℕ} → Stopped s from i b → drop from s ≡ take (i - from) (drop from s) ++ b ∷ drop (i + 1) s
+part-byte s g = byte-at s (g .clear .after) (g .within) (g .is)
 
 part-length : (s : List ℕ) {from i b : ℕ} → Stopped s from i b → length (take (i - from) (drop from s)) ≡ i - from
-part-length s {from} {i} g = length-take-le (i - from) (drop from s) (let l = length-drop from s in let a = g .clear .after in let w = g .within in omega arith)
+part-length s g = length-at s (g .clear .after) (g .within)
 
 module _ (s : List ℕ) {from i b : ℕ} (g : Stopped s from i b) where
   pub part-no-tab : Free 9 (take (i - from) (drop from s))
@@ -154,7 +160,7 @@ module _ (s : List ℕ) {from i b : ℕ} (g : Stopped s from i b) where
   part-no-feed = part-free s 10 from i (g .clear .after) (let w = g .within in omega arith) (g .clear .no-second)
 
 -- the same to the end of the input
-rest-free : (s : List ℕ) (b from : ℕ) → from ≤ length s → ((k : ℕ) → from ≤ k → k < length s → getD s k 0 ≡ b → ⊥) → Free b (drop from s)
+pub rest-free : (s : List ℕ) (b from : ℕ) → from ≤ length s → ((k : ℕ) → from ≤ k → k < length s → getD s k 0 ≡ b → ⊥) → Free b (drop from s)
 rest-free s b from h f =
     rw (rest-all s from) at (part-free s b from (length s) h (le-refl _) f)
 
@@ -191,13 +197,52 @@ module _ (s : List ℕ) (k start : ℕ) (h : start ≤ length s) (g : Clear s st
   unfolding judgedPaper judgement
   cut-fine e t n z = rw (cut-judged, ← e, t, some-empty (drop start s) (simp length-drop (omega arith)), input-end s z)
 
+-- ---- the line that the first LF from a place on ends
+
+module _ (s : List ℕ) (start feed : ℕ) (g : FirstFeed s start feed) where
+  pub column : List ℕ
+  column = take (feed - start) (drop start s)
+
+  pub column-length : length column ≡ feed - start
+  unfolding column
+  column-length = length-at s (g .after) (g .within)
+
+  pub line-here : lineOf (drop start s) ≡ fed column (drop (feed + 1) s)
+  unfolding column
+  line-here =
+      ap lineOf (byte-at s (g .after) (g .within) (g .is))
+      ∙ line-feed column (drop (feed + 1) s) (part-free s 10 start feed (g .after) (let w = g .within in omega arith) (g .first))
+
+  -- the byte before the LF decides
+  column-ends : start < feed → endsIn 13 column ≡ eqb (getD s (feed - 1) 0) 13
+  unfolding column
+  column-ends h =
+      let l = column-length in
+      let i : length column - 1 ≡ feed - 1 - start = omega arith in
+      let n : feed - 1 - start < feed - start = omega arith in
+      let m : start + (feed - 1 - start) ≡ feed - 1 = omega arith in
+      ends-at 13 column (omega arith)
+      ∙ ap (λ (k : ℕ). eqb (getD column k 0) 13) i
+      ∙ ap (λ (x : ℕ). eqb x 13) (getD-take (feed - start) (drop start s) (feed - 1 - start) 0 n ∙ getD-drop start s (feed - 1 - start) 0 ∙ ap (λ (i : ℕ). getD s i 0) m)
+
+  -- the text ends at the LF, or one byte before it where that is a CR
+  pub data Closes : ℕ → Type 0 where
+    plain : endsIn 13 column ≡ false → Closes feed
+    returned : start < feed → endsIn 13 column ≡ true → Closes (feed - 1)
+
+  pub closes : {end : ℕ} → TextEnd s start feed end → Closes end
+  closes (input e) = absurd (let w = g .within in omega arith)
+  closes (none e) = plain (ends-none 13 column (let l = column-length in omega arith))
+  closes (bare h n) = plain (column-ends h ∙ ne-eqb _ _ n)
+  closes (return h w e) = returned h (column-ends h ∙ eq-eqb _ _ e)
+
 -- ---- the last column, ended by an LF
 
 -- the text without one CR at its end
 stripped : List ℕ → List ℕ
 stripped c = pick (endsIn 13 c) (dropLast c) c
 
-length-last : (c : List ℕ) → length (dropLast c) ≡ length c - 1
+pub length-last : (c : List ℕ) → length (dropLast c) ≡ length c - 1
 length-last [] = refl
 length-last (a ∷ []) = refl
 length-last (a ∷ b ∷ c) = let l = length-last (b ∷ c) in omega arith
@@ -240,52 +285,36 @@ fed-judged k start c rest f = by (endsIn 13 c) refl
     by false e = rw (split-whole c f)
 
 module _ (s : List ℕ) (k start feed : ℕ) (g : Stopped s start feed 10) where
-  column : List ℕ
-  column = take (feed - start) (drop start s)
+  first-feed : FirstFeed s start feed
+  first-feed = record { after = g .clear .after; within = g .within; is = g .is; first = g .clear .no-second }
+
+  here-text : List ℕ
+  here-text = column s start feed first-feed
 
   feed-judged : judgementOf k start (lineOf (drop start s))
-      ≡ judgement (pick (required k) (refused 3 (feed + 1)) (pick (isEmpty (stripped column)) (refused 2 (feed + 1)) fine)) (start + length (stripped column)) (feed + 1)
-  unfolding column
+      ≡ judgement (pick (required k) (refused 3 (feed + 1)) (pick (isEmpty (stripped here-text)) (refused 2 (feed + 1)) fine)) (start + length (stripped here-text)) (feed + 1)
+  unfolding here-text column
   feed-judged =
-      let n : start + length column + 1 ≡ feed + 1 = (let l = part-length s g in let a = g .clear .after in omega arith) in
-      ap (judgementOf k start) (ap lineOf (part-byte s g) ∙ line-feed column (drop (feed + 1) s) (part-no-feed s g))
-      ∙ fed-judged k start column (drop (feed + 1) s) (part-no-tab s g)
-      ∙ rw n
+      let n : start + length here-text + 1 ≡ feed + 1 = (let l = part-length s g in let a = g .clear .after in omega arith) in
+      ap (judgementOf k start) (line-here s start feed first-feed) ∙ fed-judged k start here-text (drop (feed + 1) s) (part-no-tab s g) ∙ rw n
 
   pub feed-ends : {end next : ℕ} → judgementOf k start (lineOf (drop start s)) ≡ accepted end next → (start ≤ end) × (end ≤ feed)
-  unfolding column
+  unfolding here-text
   feed-ends e =
-      let j = judged-end (pick (required k) (refused 3 (feed + 1)) (pick (isEmpty (stripped column)) (refused 2 (feed + 1)) fine)) (start + length (stripped column)) (feed + 1) (sym feed-judged ∙ e) in
-      let l = part-length s g in
-      let m = strip-most column in
+      let j = judged-end (pick (required k) (refused 3 (feed + 1)) (pick (isEmpty (stripped here-text)) (refused 2 (feed + 1)) fine)) (start + length (stripped here-text)) (feed + 1) (sym feed-judged ∙ e) in
+      let l = column-length s start feed first-feed in
+      let m = strip-most here-text in
       let a = g .clear .after in
       (omega arith, omega arith)
 
-  -- the byte before the LF decides
-  column-ends : start < feed → endsIn 13 column ≡ eqb (getD s (feed - 1) 0) 13
-  unfolding column
-  column-ends h =
-      let l = part-length s g in
-      let i : length column - 1 ≡ feed - 1 - start = omega arith in
-      let n : feed - 1 - start < feed - start = omega arith in
-      let m : start + (feed - 1 - start) ≡ feed - 1 = omega arith in
-      ends-at 13 column (omega arith)
-      ∙ ap (λ (k : ℕ). eqb (getD column k 0) 13) i
-      ∙ ap (λ (x : ℕ). eqb x 13) (getD-take (feed - start) (drop start s) (feed - 1 - start) 0 n ∙ getD-drop start s (feed - 1 - start) 0 ∙ ap (λ (i : ℕ). getD s i 0) m)
-
   -- the text ends where the code says
-  end-length : {end : ℕ} → TextEnd s start feed end → length (stripped column) ≡ end - start
-  unfolding column
-  end-length (input e) = absurd (let w = g .within in omega arith)
-  end-length (none e) = let l = part-length s g in strip-bare column (ends-none 13 column (omega arith)) ∙ l
-  end-length (bare h n) = let l = part-length s g in strip-bare column (column-ends h ∙ ne-eqb _ _ n) ∙ l
-  end-length (return h w e) = let l = part-length s g in let m = strip-return column (column-ends h ∙ eq-eqb _ _ e) in omega arith
-
-  end-after : {end : ℕ} → TextEnd s start feed end → start ≤ end
-  end-after (input e) = g .clear .after
-  end-after (none e) = omega arith
-  end-after (bare h n) = omega arith
-  end-after (return h w e) = omega arith
+  end-length : {end : ℕ} → TextEnd s start feed end → start + length (stripped here-text) ≡ end
+  unfolding here-text
+  end-length z = by (closes s start feed first-feed z)
+    where
+      by : {end : ℕ} → Closes s start feed first-feed end → start + length (stripped here-text) ≡ end
+      by (plain e) = omega (arith, column-length s start feed first-feed, strip-bare here-text e, g .clear .after)
+      by (returned h e) = omega (arith, column-length s start feed first-feed, strip-return here-text e)
 
   module _ {q : Bool} (e : q ≡ required k) where
     pub fed-required : q ≡ true → judgedPaper (J.Fed (feed + 1)) ≡ judgementOf k start (lineOf (drop start s))
@@ -295,15 +324,11 @@ module _ (s : List ℕ) (k start feed : ℕ) (g : Stopped s start feed 10) where
     module _ {end : ℕ} (t : q ≡ false) (z : TextEnd s start feed end) where
       pub fed-empty : end ≡ start → judgedPaper (J.Empty (feed + 1)) ≡ judgementOf k start (lineOf (drop start s))
       unfolding judgedPaper judgement
-      fed-empty n = let l = end-length z in rw (feed-judged, ← e, t, none-empty (stripped column) (omega arith))
+      fed-empty n = let l = end-length z in rw (feed-judged, ← e, t, none-empty (stripped here-text) (omega arith))
 
       pub fed-fine : (end ≡ start → ⊥) → judgedPaper (J.Fine end (feed + 1)) ≡ judgementOf k start (lineOf (drop start s))
       unfolding judgedPaper judgement
-      fed-fine n =
-          let l = end-length z in
-          let a = end-after z in
-          let m : start + length (stripped column) ≡ end = omega arith in
-          rw (feed-judged, ← e, t, some-empty (stripped column) (omega arith), m)
+      fed-fine n = let l = end-length z in rw (feed-judged, ← e, t, some-empty (stripped here-text) (omega arith), l)
 
 -- ---- a column ended by a tab, and those after it
 
@@ -384,4 +409,4 @@ module _ {s : List ℕ} {at k start tab : ℕ} (g : Going s at k start) (h : Sto
       }
 
 pub ruleset laws =
-    (search-first, search-far, search-over, search-turn, search-found, search-past, stop-tab, stop-feed, stop-input, required-low, required-high, end-input, end-none, end-return, end-bare, cut-required, cut-empty, cut-fine, fed-required, fed-empty, fed-fine, judge-first, judge-last, judge-empty, judge-turn)
+    (search-first, search-turn, search-found, search-over, stops-input, stops-tab, stops-feed, stop-tab, stop-feed, stop-input, required-low, required-high, end-input, end-none, end-return, end-bare, cut-required, cut-empty, cut-fine, fed-required, fed-empty, fed-fine, judge-first, judge-last, judge-empty, judge-turn)

@@ -20,6 +20,7 @@ use Rattle.pieces.proofs.PieceLaws.{split-back, joined-none, joined-one, joined
 use Rattle.line.specs.Line.{Ending, endingBytes, line, lineOf, readAnswer}
 use Rattle.line.specs.Place.{rangeOf, columnNumber, columnOf, columnStart}
 use Rattle.line.specs.Paper.{recordPlaces}
+use Rattle.line.specs.Promises.{GivesPlace, MakesRecord}
 use Rattle.line.specs.Demands.{Column, Begins, Lies, TenPlaces, Stands, One}
 use Rattle.line.specs.declared.read.Record.{Record}
 use Rattle.line.specs.declared.place.Name.{Name}
@@ -106,6 +107,10 @@ range-place r N.Filter = record { starts = refl; sized = refl }
 range-place r N.Info = record { starts = refl; sized = refl }
 range-place r N.Format = record { starts = refl; sized = refl }
 range-place r N.Samples = record { starts = refl; sized = refl }
+
+-- so is one of a record that was made from numbers
+pub made-place : {places : List ℕ} (r : Record) (n : Name) {x : Range} → MakesRecord places r → GivesPlace r n x → Lies places (columnNumber n) (x .start) (x .len)
+made-place r n e q = rw (e, ← q) at (range-place r n)
 
 -- what stands behind the first eight places
 behind : (places : List ℕ) {l : List ℕ} → drop 16 places ≡ l → (j : ℕ) → getD places (16 + j) 0 ≡ getD l j 0

@@ -10,9 +10,9 @@ use Rattle.text.specs.Verdict.{fine}
 use Rattle.pieces.specs.Pieces.{split, joined}
 use Rattle.pieces.proofs.PieceLaws.{split-free, split-joined, split-back}
 use Rattle.line.specs.Line.{Ending, endingBytes, line, lineOf, verdict, fieldPlaces, judgedAnswer, lineAnswer, readAnswer}
-use Rattle.line.specs.Demands.{MayEnd, Shaped, Begins}
+use Rattle.line.specs.Demands.{MayEnd, LineCut, Shaped, Begins}
 use Rattle.line.proofs.LineLaws.{read-line}
-use Rattle.line.proofs.ColumnLaws.{free-joined, free-each, LineCut, line-only, count-fine}
+use Rattle.line.proofs.ColumnLaws.{free-joined, free-each, line-only, count-fine}
 
 -- ---- the line's
 

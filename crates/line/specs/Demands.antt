@@ -10,7 +10,7 @@ use Rattle.text.specs.Bytes.{endsIn}
 use Rattle.text.specs.Demands.{Characters}
 use Rattle.pieces.specs.Pieces.{joined}
 use Rattle.pieces.specs.Demands.{Free, startIn}
-use Rattle.line.specs.Line.{Ending, nothing, feed, return-feed, endingBytes, allUtf8}
+use Rattle.line.specs.Line.{Ending, nothing, feed, return-feed, endingBytes, endingNumber, allUtf8}
 
 -- INFO and the samples may be the last column, k counted from 1; columns 1 to 7, and FORMAT, must be ended by a tab
 abbrev pub MayEnd : ℕ → Type 0
@@ -22,11 +22,17 @@ pub record Column (c : List ℕ) : Type 0 where
   pub no-tab : Free 9 c
   pub no-feed : Free 10 c
 
--- the ending after the columns' text and before a rest: CR LF; or LF where the text doesn't end in CR; or nothing where nothing is left
+-- the ending after a text and before a rest: CR LF; or LF where the text doesn't end in CR; or nothing where nothing is left
 pub data Ended (t : List ℕ) : Ending → List ℕ → Type 0 where
   by-nothing : Ended t nothing []
   by-feed : {rest : List ℕ} → endsIn 13 t ≡ false → Ended t feed rest
   by-return-feed : {rest : List ℕ} → Ended t return-feed rest
+
+-- a text free of LF, then its ending, then the rest, are the input
+pub record LineCut (s t : List ℕ) (e : Ending) (rest : List ℕ) : Type 0 where
+  pub whole : t ++ (endingBytes e ++ rest) ≡ s
+  pub unfed : Free 10 t
+  pub ended : Ended t e rest
 
 -- the columns, eight or at least ten, joined by tabs, then the ending, then the rest, are the input
 pub record Shaped (s : List ℕ) (cs : List (List ℕ)) (e : Ending) (rest : List ℕ) : Type 0 where
@@ -43,6 +49,25 @@ pub record Begins (s : List ℕ) (cs : List (List ℕ)) (e : Ending) (rest : Lis
 -- a reader is given an input and a place, and answers on paper
 abbrev pub Reader : Type 0
 Reader = List ℕ → ℕ → Answer
+
+-- ---- the line at a place
+
+-- the answer 0 has where the text from `at` on ends, its ending, and the place past both
+pub record Extends (s : List ℕ) (at : ℕ) (a : Answer) : Type 0 where
+  pub text : List ℕ
+  pub ending : Ending
+  pub rest : List ℕ
+  pub parts : LineCut (drop at s) text ending rest
+  pub is : a ≡ says 0 ((at + length text) ∷ endingNumber ending ∷ (at + length text + length (endingBytes ending)) ∷ [])
+
+-- so it is at every place of the input and at its end; beyond, and only there, the answer is 6
+pub record Extents (find : Reader) : Type 0 where
+  pub beyond : (s : List ℕ) (at : ℕ) → length s < at → find s at ≡ says 6 []
+  pub inside : (s : List ℕ) (at : ℕ) → at ≤ length s → Extends s at (find s at)
+
+-- two that do so give one answer, with all its values, at every place of every input
+unfoldable pub OneFinder : Type 0
+OneFinder = (find other : Reader) → Extents find → Extents other → (s : List ℕ) (at : ℕ) → find s at ≡ other s at
 
 -- ---- exact
 

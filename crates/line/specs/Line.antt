@@ -9,7 +9,7 @@ use Rattle.text.specs.Pick.{pick}
 use Rattle.text.specs.Answer.{Answer, says}
 use Rattle.text.specs.Bytes.{isEmpty, endsIn}
 use Rattle.text.specs.Utf8.{isUtf8}
-use Rattle.text.specs.Place.{fromPlace}
+use Rattle.text.specs.Place.{placed, fromPlace}
 use Rattle.text.specs.Verdict.{Verdict, fine, refused}
 use Rattle.pieces.specs.Pieces.{split, joined}
 
@@ -25,6 +25,12 @@ unfoldable pub endingBytes : Ending → List ℕ
 endingBytes nothing = []
 endingBytes feed = 10 ∷ []
 endingBytes return-feed = 13 ∷ 10 ∷ []
+
+-- as an answer says it
+unfoldable pub endingNumber : Ending → ℕ
+endingNumber nothing = 0
+endingNumber feed = 1
+endingNumber return-feed = 2
 
 -- the line's text, its ending, and the rest of the input
 pub data Line : Type 0 where
@@ -42,6 +48,14 @@ lineIn (t ∷ u ∷ ts) = fed t (joined 10 (u ∷ ts))
 
 unfoldable pub lineOf : List ℕ → Line
 lineOf s = lineIn (split 10 s)
+
+-- of a line whose text starts at the place `from`: where the text ends, how the line ended, and the place past it
+unfoldable pub extentAnswer : ℕ → Line → Answer
+extentAnswer from (line t e rest) = says 0 ((from + length t) ∷ endingNumber e ∷ (from + length t + length (endingBytes e)) ∷ [])
+
+-- 6 beyond the input, else the line from the place on; at the input's end that is the empty line that nothing ends
+unfoldable pub lineAtAnswer : List ℕ → ℕ → Answer
+lineAtAnswer s at = placed at s (extentAnswer at (lineOf (drop at s)))
 
 -- ---- the columns, judged from the left
 

@@ -3,9 +3,24 @@ use Prim.Native.Nat.{ℕ}
 use mathlib.Core.List.{List, [], _∷_, _++_}
 use Rattle.text.specs.Answer.{Answer, says}
 use Rattle.text.specs.Range.{rangePlaces}
+use Rattle.line.specs.Line.{Ending, nothing, feed, return-feed, endingNumber}
+use Rattle.line.specs.declared.ending.Ending.{Ending as DeclaredEnding}
+use Rattle.line.specs.declared.ending.Ending.the-variants as E
+use Rattle.line.specs.declared.extent.Lined.{Lined}
+use Rattle.line.specs.declared.extent.Lined.the-variants as L
 use Rattle.line.specs.declared.read.Record.{Record}
 use Rattle.line.specs.declared.read.Read.{Read}
 use Rattle.line.specs.declared.read.Read.the-variants as R
+
+-- how a line ended, in the words of the definition
+abbrev pub endingOf : DeclaredEnding → Ending
+endingOf E.Nothing = nothing
+endingOf E.Feed = feed
+endingOf E.ReturnFeed = return-feed
+
+unfoldable pub linedPaper : Lined → Answer
+linedPaper (L.At end e next) = says 0 (end ∷ endingNumber (endingOf e) ∷ next ∷ [])
+linedPaper L.Beyond = says 6 []
 
 -- the starts and lengths of the ten fields
 unfoldable pub recordPlaces : Record → List ℕ

@@ -4,12 +4,16 @@ use mathlib.Core.Path.{_≡_}
 use mathlib.Core.List.{List}
 use Rattle.text.specs.Outcome.{OneAnswer}
 use Rattle.text.specs.declared.range.Range.{Range}
-use Rattle.line.specs.Line.{readAnswer}
+use Rattle.line.specs.Line.{lineAtAnswer, readAnswer}
 use Rattle.line.specs.Place.{rangeOf}
-use Rattle.line.specs.Paper.{readPaper}
+use Rattle.line.specs.Paper.{linedPaper, recordPlaces, readPaper}
+use Rattle.line.specs.declared.extent.Lined.{Lined}
 use Rattle.line.specs.declared.read.Record.{Record}
 use Rattle.line.specs.declared.read.Read.{Read}
 use Rattle.line.specs.declared.place.Name.{Name}
+
+abbrev pub FindsLine : List ℕ → ℕ → Lined → Type 0
+FindsLine s at r = linedPaper r ≡ lineAtAnswer s at
 
 abbrev pub ReadsLine : List ℕ → ℕ → Read → Type 0
 ReadsLine s at r = readPaper r ≡ readAnswer s at
@@ -17,6 +21,11 @@ ReadsLine s at r = readPaper r ≡ readAnswer s at
 abbrev pub GivesPlace : Record → Name → Range → Type 0
 GivesPlace line name r = r ≡ rangeOf line name
 
+abbrev pub MakesRecord : List ℕ → Record → Type 0
+MakesRecord places r = recordPlaces r ≡ places
+
 pub record Determined : Type 0 where
+  pub line-at : (s : List ℕ) (at : ℕ) → OneAnswer (FindsLine s at)
   pub read-line : (s : List ℕ) (at : ℕ) → OneAnswer (ReadsLine s at)
   pub place-of : (line : Record) (name : Name) → OneAnswer (GivesPlace line name)
+  pub make-record : (places : List ℕ) → OneAnswer (MakesRecord places)

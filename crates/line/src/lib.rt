@@ -1,3 +1,5 @@
-// One line of VCF: its reader, and the place of each of its fields.
+// One line of VCF: where it ends, its reader, and the place of each of its fields.
+pub mod ending;
+pub mod extent;
 pub mod place;
 pub mod read;

@@ -1,7 +1,9 @@
-// The place of each field of a line that was read.
+// The place of each field of a line that was read, and a record by its places.
 use crate::read::Record;
 use text::range::Range;
-ghost use Rattle.line.specs.Promises.{GivesPlace};
+ghost use mathlib.Core.Path.{_≡_};
+ghost use Rattle.text.specs.Range.{rangeAt};
+ghost use Rattle.line.specs.Promises.{GivesPlace, MakesRecord};
 
 // The ten fields of a line.
 pub enum Name {
@@ -32,5 +34,29 @@ pub fn place_of(line: Record, name: Name) -> Range
         Name::Info => line.info,
         Name::Format => line.format,
         Name::Samples => line.samples,
+    }
+}
+
+fn range_of(start: usize, len: usize) -> Range
+    ensures { λ r. ⌜ r ≡ rangeAt start len ⌝ }
+{
+    Range { start, len }
+}
+
+// The record of ten fields by the start and the length of each, in order.
+pub fn make_record(places: [usize; 20]) -> Record
+    ensures { λ r. ⌜ MakesRecord places r ⌝ }
+{
+    Record {
+        chrom: range_of(places[0], places[1]),
+        pos: range_of(places[2], places[3]),
+        id: range_of(places[4], places[5]),
+        reference: range_of(places[6], places[7]),
+        alt: range_of(places[8], places[9]),
+        qual: range_of(places[10], places[11]),
+        filter: range_of(places[12], places[13]),
+        info: range_of(places[14], places[15]),
+        format: range_of(places[16], places[17]),
+        samples: range_of(places[18], places[19]),
     }
 }

@@ -1,5 +1,7 @@
 // Reading a line: where its columns end, whether they are in order, and the places of its fields.
-use pieces::block::past_quiet;
+use crate::ending::text_end;
+use pieces::either::find_either;
+use pieces::either::near_end;
 use text::range::Range;
 use text::utf8::Utf8;
 use text::utf8::check_utf8;
@@ -12,7 +14,7 @@ ghost use Rattle.pieces.specs.Pieces.{split};
 ghost use Rattle.line.specs.Line.{required, lineOf, fieldPlaces, lineAnswer};
 ghost use Rattle.line.specs.Paper.{recordPlaces, readPaper};
 ghost use Rattle.line.specs.Promises.{ReadsLine};
-ghost use Rattle.line.specs.Inner.{StopsAt, Stopped, Clear, TextEnd, judgementOf, judgedPaper, Unset, Marks, Spans, Rising, sevenPlaces, Told, InOrder};
+ghost use Rattle.line.specs.Inner.{StopsAt, Stopped, Clear, judgementOf, judgedPaper, Unset, Marks, Spans, Rising, sevenPlaces, Told, InOrder};
 
 // The places of a line's ten fields. Others ask for them by `place_of`.
 pub struct Record {
@@ -61,17 +63,6 @@ enum Judged {
     Cut(usize),
 }
 
-// The end of the first 32 bytes from `from` on, or the input's where there are fewer.
-fn near_end(from: usize, len: usize) -> usize
-    requires { ⌜ from ≤ len ⌝ }
-    ensures { λ r. ⌜ r ≤ len ⌝ }
-{
-    if len - from < 32 {
-        return len;
-    }
-    from + 32
-}
-
 // Stops at the first tab or LF. Behind 32 bytes it is sought by blocks.
 fn column_end(s: &[u8], from: usize) -> Stop
     requires { ⌜ from ≤ length (now s) ⌝ }
@@ -94,25 +85,19 @@ fn column_end(s: &[u8], from: usize) -> Stop
     }
 }
 
-// The same, by blocks first.
+// The same, by blocks.
 fn far_end(s: &[u8], from: usize) -> Stop
     requires { ⌜ from ≤ length (now s) ⌝ }
     ensures { λ r. ⌜ StopsAt (now (s .entry)) from r ⌝ }
 {
-    let mut i = past_quiet(s, 9, 10, from);
-    loop {
-        if i >= s.len() {
-            break Stop::Input;
-        }
-        let b = s[i];
-        if b == 9 {
-            break Stop::Tab(i);
-        }
-        if b == 10 {
-            break Stop::Feed(i);
-        }
-        i += 1;
+    let i = find_either(s, 9, 10, from);
+    if i >= s.len() {
+        return Stop::Input;
     }
+    if s[i] == 9 {
+        return Stop::Tab(i);
+    }
+    Stop::Feed(i)
 }
 
 // Columns 1 to 7 and FORMAT must be ended by a tab.
@@ -123,24 +108,6 @@ fn is_required(k: usize) -> bool
         return true;
     }
     k == 9
-}
-
-// Where the text of a column that starts at `start` and stops at an LF, or at the end of the input, has its end: before
-// an LF, and before one CR that stands there. At the end of the input a CR belongs to the text.
-fn text_end(s: &[u8], start: usize, stop: usize) -> usize
-    requires { ⌜ (start ≤ stop) × (stop ≤ length (now s)) ⌝ }
-    ensures { λ r. ⌜ TextEnd (now (s .entry)) start stop r ⌝ }
-{
-    if stop == s.len() {
-        return stop;
-    }
-    if stop == start {
-        return stop;
-    }
-    if s[stop - 1] == 13 {
-        return stop - 1;
-    }
-    stop
 }
 
 // The last column of a line, number k, which an LF ends.
@@ -199,11 +166,12 @@ fn judge(s: &[u8], at: usize, tabs: &mut [usize]) -> Judged
         let stop = column_end(s, start);
         match stop {
             Stop::Tab(tab) => {
+                let next = tab + 1;
                 if tab == start {
-                    break 'columns Judged::Empty(tab + 1);
+                    break 'columns Judged::Empty(next);
                 }
                 keep(tabs, k, tab);
-                start = tab + 1;
+                start = next;
                 k += 1;
             }
             Stop::Feed(feed) => {

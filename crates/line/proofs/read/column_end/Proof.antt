@@ -1,9 +1,9 @@
 -- `line::read::column_end` meets its contract: neither a tab nor an LF stands before i; past 32 bytes the far search tells. Assumes nothing.
 use Prim.Native.Nat.{_-_}
-use lib.ListN.{length}
 use borrow.Author.Needs.{needs}
 use Rattle.line.specs.Inner.{Clear}
-use Rattle.line.proofs.ReadLaws.{near-within, laws}
+use Rattle.pieces.proofs.EitherLaws.{near-within}
+use Rattle.line.proofs.ReadLaws.{laws}
 use Rattle.line.proofs.read.column_end.Statement.{statement}
 use Rattle.line.proofs.read.column_end.Tie as tie
 
@@ -11,7 +11,7 @@ abbrev Inv-loop : tie.InvT-loop
 Inv-loop s from near i₀ i = Clear s from i
 
 abbrev μ-loop : tie.MeasureT-loop
-μ-loop s from near i₀ i = length s - i
+μ-loop s from near i₀ i = near - i
 
 near-end-requires : tie.Need-near-end-requires Inv-loop μ-loop
 near-end-requires c κs = search (needs, laws)
@@ -23,7 +23,7 @@ far-end-requires : tie.Need-far-end-requires Inv-loop μ-loop
 far-end-requires c κs = search (needs, laws)
 
 shared-slice-read-b : tie.Need-shared-slice-read-b Inv-loop μ-loop
-shared-slice-read-b c = search (needs, laws)
+shared-slice-read-b c = search (needs, near-within)
 
 add-i : tie.Need-add-i Inv-loop μ-loop
 add-i c = search (needs, laws)

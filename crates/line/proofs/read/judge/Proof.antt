@@ -23,14 +23,11 @@ column-end-requires c κs = search (needs, judged-laws, laws)
 enum-known-stop : tie.Need-enum-known-stop Inv-columns μ-columns
 enum-known-stop c = search (needs, judged-laws, laws)
 
-add-t11 : tie.Need-add-t11 Inv-columns μ-columns
-add-t11 c = search (needs, judged-laws, laws)
+add-next : tie.Need-add-next Inv-columns μ-columns
+add-next c = omega (arith, stop-tab (c .before .before .before .column-end .ensures) (c .before .stop .given .1))
 
 keep-requires : tie.Need-keep-requires Inv-columns μ-columns
 keep-requires c κs = search (needs, judged-laws, laws)
-
-add-start : tie.Need-add-start Inv-columns μ-columns
-add-start c = omega (arith, stop-tab (c .before .before .before .before .before .before .before .before .column-end .ensures) (c .before .before .before .before .before .before .stop .given .1))
 
 add-k : tie.Need-add-k Inv-columns μ-columns
 add-k c = search (needs, judged-laws, laws)
@@ -81,9 +78,8 @@ judge-spec =
     columns-holds
     column-end-requires
     enum-known-stop
-    add-t11
+    add-next
     keep-requires
-    add-start
     add-k
     columns-less
     columns-again

@@ -1,8 +1,8 @@
--- `line::read::text_end` meets its contract: one case of the definition for each way out. Assumes nothing.
+-- `line::ending::text_end` meets its contract: one case of the definition for each way out. Assumes nothing.
 use Rattle.line.proofs.ReadLaws.{laws}
 use borrow.Author.Needs.{needs}
-use Rattle.line.proofs.read.text_end.Statement.{statement}
-use Rattle.line.proofs.read.text_end.Tie as tie
+use Rattle.line.proofs.ending.text_end.Statement.{statement}
+use Rattle.line.proofs.ending.text_end.Tie as tie
 
 returns : tie.Need-returns
 returns c = search (needs, laws)

@@ -1,0 +1,93 @@
+-- The line at a place: all that is left where no LF stands from it on; else what stands before the first LF, less one CR. Assumes nothing.
+use Prim.Native.Nat.{ℕ, _+_, _<_, _≤_}
+use mathlib.Core.Path.{_≡_, refl, sym, _∙_}
+use mathlib.Core.List.{List, [], dropLast}
+use native.Mathlib.Omega.{arith}
+use native.Mathlib.Decide.{ℕ-discrete}
+use lib.ListN.{length, getD, drop, length-drop}
+use borrow.Author.Tests.{le-leb, lt-leb}
+use Rattle.text.specs.Answer.{says}
+use Rattle.pieces.specs.Inner.{Quiet, quietLength}
+use Rattle.pieces.proofs.EitherLaws.{either-quiet, either-second}
+use Rattle.line.specs.Line.{endingBytes, endingNumber, fed, lineOf, extentAnswer, lineAtAnswer}
+use Rattle.line.specs.Paper.{linedPaper}
+use Rattle.line.specs.Demands.{FirstFeed}
+use Rattle.line.specs.Inner.{TextEnd}
+use Rattle.line.specs.declared.ending.Ending.the-variants as E
+use Rattle.line.specs.declared.extent.Lined.the-variants as L
+use Rattle.line.proofs.ColumnLaws.{line-end}
+use Rattle.line.proofs.ReadLaws.{input-end, rest-free, length-last, column, column-length, line-here, Closes, plain, returned, closes}
+
+-- ---- the answer, by where the place lies
+
+module _ (s : List ℕ) (at : ℕ) where
+  pub at-beyond : length s < at → lineAtAnswer s at ≡ says 6 []
+  unfolding lineAtAnswer
+  at-beyond h = rw (lt-leb _ _ h)
+
+  pub at-inside : at ≤ length s → lineAtAnswer s at ≡ extentAnswer at (lineOf (drop at s))
+  unfolding lineAtAnswer
+  at-inside h = rw (le-leb _ _ h)
+
+-- ---- each way through the code
+
+pub finds-beyond : (s : List ℕ) (at : ℕ) → length s < at → linedPaper L.Beyond ≡ lineAtAnswer s at
+unfolding linedPaper
+finds-beyond s at h = sym (at-beyond s at h)
+
+module _ (s : List ℕ) (at : ℕ) {stop : ℕ} (h : at ≤ length s) (first : stop ≡ at + quietLength 10 10 (drop at s)) where
+  quiet : Quiet 10 10 s at stop
+  quiet = either-quiet 10 10 s at h first
+
+  pub stop-after : at ≤ stop
+  stop-after = quiet .after
+
+  pub stop-within : stop ≤ length s
+  stop-within = quiet .within
+
+  pub stop-inside : (stop ≡ length s → ⊥) → stop < length s
+  stop-inside n = let w = stop-within in omega arith
+
+  stop-feed : (stop ≡ length s → ⊥) → FirstFeed s at stop
+  stop-feed n = record { after = quiet .after; within = stop-inside n; is = by (ℕ-discrete (getD s stop 0) 10); first = quiet .no-first }
+    where
+      by : Dec (getD s stop 0 ≡ 10) → getD s stop 0 ≡ 10
+      by (yes z) = z
+      by (no z) = either-second 10 10 s at h first (stop-inside n) z
+
+  module _ {end : ℕ} (z : TextEnd s at stop end) where
+    pub finds-nothing : stop ≡ length s → linedPaper (L.At end E.Nothing stop) ≡ lineAtAnswer s at
+    unfolding linedPaper extentAnswer endingNumber endingBytes
+    finds-nothing q =
+        let f = rest-free s 10 at h (rw q at (quiet .no-first)) in
+        let l : at + length (drop at s) ≡ length s = omega (arith, length-drop at s) in
+        let m : length s + 0 ≡ length s = omega arith in
+        let y : end ≡ length s = input-end s (rw q at z) in
+        sym (at-inside s at h ∙ rw (line-end (drop at s) f, l, m, q, y))
+
+    module _ (n : stop ≡ length s → ⊥) where
+      text : List ℕ
+      text = column s at stop (stop-feed n)
+
+      finds-fed : {x : ℕ} → Closes s at stop (stop-feed n) x → x ≡ end → end ≡ stop → linedPaper (L.At end E.Feed (stop + 1)) ≡ lineAtAnswer s at
+      unfolding linedPaper extentAnswer endingNumber endingBytes fed text
+      finds-fed (plain c) q y =
+          let l : at + length text ≡ stop = omega (arith, column-length s at stop (stop-feed n), stop-after) in
+          sym (at-inside s at h ∙ rw (line-here s at stop (stop-feed n), c, l, y))
+      finds-fed (returned b c) q y = absurd (omega arith)
+
+      finds-return : {x : ℕ} → Closes s at stop (stop-feed n) x → x ≡ end → (end ≡ stop → ⊥) → linedPaper (L.At end E.ReturnFeed (stop + 1)) ≡ lineAtAnswer s at
+      unfolding linedPaper extentAnswer endingNumber endingBytes fed text
+      finds-return (plain c) q y = absurd (y (sym q))
+      finds-return (returned b c) q y =
+          let l : at + length (dropLast text) ≡ end = omega (arith, length-last text, column-length s at stop (stop-feed n)) in
+          let m : end + 2 ≡ stop + 1 = omega arith in
+          sym (at-inside s at h ∙ rw (line-here s at stop (stop-feed n), c, l, m))
+
+      pub finds-feed : end ≡ stop → linedPaper (L.At end E.Feed (stop + 1)) ≡ lineAtAnswer s at
+      finds-feed y = finds-fed (closes s at stop (stop-feed n) z) refl y
+
+      pub finds-return-feed : (end ≡ stop → ⊥) → linedPaper (L.At end E.ReturnFeed (stop + 1)) ≡ lineAtAnswer s at
+      finds-return-feed y = finds-return (closes s at stop (stop-feed n) z) refl y
+
+pub ruleset laws = (finds-beyond, stop-after, stop-within, stop-inside, finds-nothing, finds-feed, finds-return-feed)
