@@ -13,10 +13,9 @@ use borrow.Author.Tests.{ne-eqb}
 use Rattle.text.specs.Answer.{Answer, numberOf}
 use Rattle.text.specs.Over.{laid, over}
 use Rattle.text.proofs.Lists.{sets-over}
-use Rattle.lists.specs.AlternateBases.{altCount}
 use Rattle.genotype.specs.Reading.{readingOf, listOf}
 use Rattle.genotype.specs.Inner.{ListMeant}
-use Rattle.genotype.specs.Answers.{readAnswer, checkedAnswer}
+use Rattle.genotype.specs.Answers.{textAnswer, checkedText}
 use Rattle.genotype.specs.Paper.{readPaper}
 use Rattle.genotype.specs.declared.allele.Allele.{Allele}
 use Rattle.genotype.specs.declared.read.Read.{Read}
@@ -100,8 +99,8 @@ module _ (t : List ℕ) (row : List Allele) {r x : Read} {row′ : List Allele} 
   laid-by : {a : Answer} → readPaper x ≡ a → ((count : ℕ) → x ≡ R.Done count → Fits (readingOf t) (length row) count) → filledRow t x row ≡ laid a (listOf (readingOf t)) row
   laid-by h f = row-laid t row x f ∙ ap (λ (a : Answer). laid a (listOf (readingOf t)) row) h
 
-  pub reads-row : readPaper x ≡ readAnswer (readingOf t) (length row) → ReadsRow t row r row′
+  pub reads-row : readPaper x ≡ textAnswer t (length row) → ReadsRow t row r row′
   reads-row h = rw e (record { answer = h; records = w ∙ laid-by h (λ k q. read-fits t (length row) x h q) })
 
-  pub reads-row-checked : (alt : List ℕ) → readPaper x ≡ checkedAnswer (altCount alt) (readingOf t) (length row) → ReadsRowChecked t alt row r row′
-  reads-row-checked alt h = rw e (record { answer = h; records = w ∙ laid-by h (λ k q. checked-fits t (altCount alt) (length row) x h q) })
+  pub reads-row-checked : (alt : List ℕ) → readPaper x ≡ checkedText t alt (length row) → ReadsRowChecked t alt row r row′
+  reads-row-checked alt h = rw e (record { answer = h; records = w ∙ laid-by h (λ k q. checked-fits t alt (length row) x h q) })

@@ -9,7 +9,6 @@ pub mod Turns
 pub mod FillLaws
 pub mod Demands
 pub mod OwnReadLaws
-pub mod WriteStepLaws
 pub mod Small
 pub mod Tallying
 pub mod Putting

@@ -8,9 +8,7 @@ use mathlib.Core.List.{List, _++_}
 use lib.Dec.{lit<}
 use lib.ListN.{length, take, drop, drop-of-length-le, length-append, length-take, length-drop}
 use lib.Seq.{take-all}
-use Rattle.lists.specs.AlternateBases.{altCount}
-use Rattle.genotype.specs.Reading.{readingOf}
-use Rattle.genotype.specs.Answers.{readAnswer, checkedAnswer, rowRead, rowChecked}
+use Rattle.genotype.specs.Answers.{textAnswer, checkedText, rowRead, rowChecked}
 use Rattle.genotype.specs.declared.allele.Allele.{Allele}
 use Rattle.genotype.specs.declared.read.Read.{Read}
 use Rattle.alleles.specs.Read.{ReadsRow, ReadsRowChecked}
@@ -53,12 +51,12 @@ module _ (row : List Allele) (from : ℕ) (n : length row ≡ 64) (h : 64 < from
   module _ (t : List ℕ) (r : Filled) where
     pub past-row : ReadsOwn t row 64 r → ReadsOwn t row from r
     past-row f = record {
-      answer = f .answer ∙ (λ i. readAnswer (readingOf t) (length (same-rest i)));
+      answer = f .answer ∙ (λ i. textAnswer t (length (same-rest i)));
       records = f .records ∙ (λ i. same-front i ++ rowRead t (same-rest i));
     }
 
     pub past-row-checked : (alt : List ℕ) → ReadsOwnChecked t alt row 64 r → ReadsOwnChecked t alt row from r
     past-row-checked alt f = record {
-      answer = f .answer ∙ (λ i. checkedAnswer (altCount alt) (readingOf t) (length (same-rest i)));
+      answer = f .answer ∙ (λ i. checkedText t alt (length (same-rest i)));
       records = f .records ∙ (λ i. same-front i ++ rowChecked t alt (same-rest i));
     }

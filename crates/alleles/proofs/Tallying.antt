@@ -1,5 +1,5 @@
 -- A tally's machine value, and the loop of `tally_row`: its state, one more record, and the end. Assumes `Given`, and only for the machine value's type.
-use mathlib.Core.Path.{_≡_, ap, sym, subst, _∙_}
+use mathlib.Core.Path.{_≡_, ap, subst}
 use Prim.Native.Nat.{ℕ, _<_, _≤_, _+_, _-_, zero-le}
 use native.Mathlib.Numerals.{add-one, add-one-le}
 use mathlib.Core.List.{List, [], _∷_}
@@ -18,9 +18,9 @@ use denote.Laws.{Is}
 use denote.Steps.{only}
 use denote.Struct.Laws as LL
 use Rattle.genotype.specs.declared.allele.Allele.{Allele}
-use Rattle.spelling.specs.Inner.{begun, tallied, tallyFrom, tallyOf}
+use Rattle.spelling.specs.Inner.{begun, tallied, tallyOf}
 use Rattle.spelling.specs.declared.tally.Tally.{Tally}
-use Rattle.spelling.proofs.TallySteps.{tally-start, tally-end, tally-more}
+use Rattle.spelling.proofs.RowLaws.{Tallying, tally-first, tally-turn, tally-past}
 use Rattle.spelling.proofs.tally.Tally as T
 use Rattle.spelling.proofs.tally.Tally.Laws as T′
 use Rattle.alleles.proofs.Row.{blank}
@@ -53,7 +53,7 @@ module _ (ys : List Allele) (room : ℕ) where
     pub t : Tally
     pub below : i ≤ length ys
     pub is : IsTally t
-    pub same : tallyFrom t i (drop i ys) ≡ tallyOf room ys
+    pub same : Tallying ys room t i
 
   unfoldable pub start : (t : Tally) → IsTally t → t ≡ begun room → St
   start t is e =
@@ -62,20 +62,15 @@ module _ (ys : List Allele) (room : ℕ) where
         t = t;
         below = zero-le;
         is = is;
-        same = ap (λ (u : Tally). tallyFrom u 0 ys) e ∙ sym (tally-start room ys);
+        same = tally-first e;
       }
 
   unfoldable pub further : (s : St) → s .i < length ys → (r : Tally) → r ≡ tallied (s .t) (getD ys (s .i) blank) (s .i)
       → IsTally r → St
-  further s h r e is = record { i = s .i + 1; t = r; below = add-one-le h; is = is; same = next ∙ s .same }
-    where
-      next : tallyFrom r (s .i + 1) (drop (s .i + 1) ys) ≡ tallyFrom (s .t) (s .i) (drop (s .i) ys)
-      next =
-          ap (λ (u : Tally). tallyFrom u (s .i + 1) (drop (s .i + 1) ys)) e ∙ sym (tally-more (s .t) (s .i) (getD ys (s .i) blank) (drop (s .i + 1) ys))
-          ∙ ap (tallyFrom (s .t) (s .i)) (sym (here ys (s .i) h))
+  further s h r e is = record { i = s .i + 1; t = r; below = add-one-le h; is = is; same = tally-turn (s .same) (here ys (s .i) h) e }
 
   pub over : (s : St) → length ys ≤ s .i → s .t ≡ tallyOf room ys
-  over s h = sym (tally-end (s .t) (s .i)) ∙ ap (tallyFrom (s .t) (s .i)) (sym (drop-of-length-le ys h)) ∙ s .same
+  over s h = tally-past (s .same) (drop-of-length-le ys h)
 
   abbrev pub Nearer : St → St → Type 0
   Nearer u s = length ys - u .i < length ys - s .i

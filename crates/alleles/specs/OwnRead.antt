@@ -4,18 +4,16 @@ use Prim.Native.Nat.{ℕ}
 use mathlib.Core.Path.{_≡_}
 use mathlib.Core.List.{List, _++_}
 use lib.ListN.{length, take, drop}
-use Rattle.lists.specs.AlternateBases.{altCount}
-use Rattle.genotype.specs.Reading.{readingOf}
-use Rattle.genotype.specs.Answers.{readAnswer, checkedAnswer, rowRead, rowChecked}
+use Rattle.genotype.specs.Answers.{textAnswer, checkedText, rowRead, rowChecked}
 use Rattle.genotype.specs.Paper.{readPaper}
 use Rattle.genotype.specs.declared.allele.Allele.{Allele}
 use Rattle.alleles.specs.declared.own_read.Filled.{Filled}
 
 -- the records before the place stay; none are read into where it lies past the row
 pub record ReadsOwn (t : List ℕ) (row : List Allele) (from : ℕ) (r : Filled) : Type 0 where
-  pub answer : readPaper (r .answer) ≡ readAnswer (readingOf t) (length (drop from row))
+  pub answer : readPaper (r .answer) ≡ textAnswer t (length (drop from row))
   pub records : r .row ≡ take from row ++ rowRead t (drop from row)
 
 pub record ReadsOwnChecked (t alt : List ℕ) (row : List Allele) (from : ℕ) (r : Filled) : Type 0 where
-  pub answer : readPaper (r .answer) ≡ checkedAnswer (altCount alt) (readingOf t) (length (drop from row))
+  pub answer : readPaper (r .answer) ≡ checkedText t alt (length (drop from row))
   pub records : r .row ≡ take from row ++ rowChecked t alt (drop from row)

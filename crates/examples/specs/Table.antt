@@ -14,8 +14,8 @@ use Rattle.fields.specs.Pos.{posAnswer}
 use Rattle.lists.specs.Judge.{entryAnswer}
 use Rattle.lists.specs.Write.{listText, entriesAnswer}
 use Rattle.lists.specs.declared.write.Kind.the-variants as K
-use Rattle.genotype.specs.Reading.{Reading, readingOf, listOf}
-use Rattle.genotype.specs.Answers.{readAnswer}
+use Rattle.genotype.specs.Reading.{readingOf, listOf}
+use Rattle.genotype.specs.Answers.{textAnswer}
 use Rattle.genotype.specs.declared.allele.Allele.{Allele}
 use Rattle.spelling.specs.Spelling.{Spelled, spell}
 use Rattle.spelling.specs.Permitted.{from44}
@@ -67,8 +67,8 @@ entryReply t (says n []) = entry (says n []) []
 entryReply t (says n (next ∷ places)) = entry (says n (next ∷ places)) (bytesAt t places)
 
 -- given a row as long as the list
-unfoldable pub readReply : Reading → Reply
-readReply r = alleles (readAnswer r (length (listOf r))) (listOf r)
+unfoldable pub readReply : List ℕ → Reply
+readReply t = alleles (textAnswer t (length (listOf (readingOf t)))) (listOf (readingOf t))
 
 -- given an output as long as the text
 unfoldable pub spelledReply : Spelled → Reply
@@ -80,7 +80,7 @@ filtersReply es = plain (entriesAnswer K.Filters es (listText K.Filters es))
 
 unfoldable pub answerTo : Question → Reply
 answerTo (infoAt t at) = entryReply (bytes t) (stepAnswer (bytes t) at)
-answerTo (genotype t) = readReply (readingOf (bytes t))
+answerTo (genotype t) = readReply (bytes t)
 answerTo (spelling major minor as′) = spelledReply (spell (from44 major minor) as′)
 answerTo (alt t) = plain (entryAnswer K.Alts (bytes t))
 answerTo (filters es) = filtersReply (map bytes es)

@@ -10,7 +10,7 @@ use Rattle.text.specs.Answer.{numberOf}
 use Rattle.text.proofs.FirstLaws.{where-none, where-here, where-later}
 use Rattle.lists.specs.AlternateBases.{altCount}
 use Rattle.genotype.specs.Reading.{Reading, list, bad, empty, readingOf, stepAnswer, listOf}
-use Rattle.genotype.specs.Answers.{firstAbove, aboveAnswer, checkedAnswer}
+use Rattle.genotype.specs.Answers.{firstAbove, aboveAnswer, checkedAnswer, checkedText}
 use Rattle.genotype.specs.Paper.{stepPaper, readPaper}
 use Rattle.genotype.specs.declared.allele.Allele.{Allele}
 use Rattle.genotype.specs.declared.step.Step.{Step}
@@ -69,19 +69,19 @@ whole-list (list as′) n e = refl
 whole-list (bad k) n e = cc
 whole-list empty n e = cc
 
-module _ (t : List ℕ) (count room : ℕ) (x : Read) (e : readPaper x ≡ wholeAnswer (readingOf t)) where
-  pub check-other : OneOf (1 ∷ 2 ∷ 3 ∷ 4 ∷ 5 ∷ []) (tagOf D.the-type x) → readPaper x ≡ checkedAnswer count (readingOf t) room
+module _ (t alt : List ℕ) (room : ℕ) (x : Read) (e : readPaper x ≡ wholeAnswer (readingOf t)) where
+  pub check-other : OneOf (1 ∷ 2 ∷ 3 ∷ 4 ∷ 5 ∷ []) (tagOf D.the-type x) → readPaper x ≡ checkedText t alt room
   unfolding checkedAnswer aboveAnswer
   check-other h =
-      rw (other-above count (readingOf t) (λ z. other-number x h (rw e z)))
+      rw (other-above (altCount alt) (readingOf t) (λ z. other-number x h (rw e z)))
       (judge-fits t room x x e (fit-other x room h))
 
-  module _ (alt : List ℕ) (y : Above) (c : count ≡ altCount alt) (f : abovePaper y ≡ firstAbove count 0 (listOf (readingOf t))) where
-    pub check-above : {k : ℕ} → y ≡ O.At k → readPaper (R.Above k) ≡ checkedAnswer (altCount alt) (readingOf t) room
+  module _ (count : ℕ) (y : Above) (c : count ≡ altCount alt) (f : abovePaper y ≡ firstAbove count 0 (listOf (readingOf t))) where
+    pub check-above : {k : ℕ} → y ≡ O.At k → readPaper (R.Above k) ≡ checkedText t alt room
     unfolding checkedAnswer aboveAnswer readPaper abovePaper
     check-above q = rw (← c, ← f, q)
 
-    pub check-fits : (z : Read) → y ≡ O.Nothing → readPaper z ≡ fitAnswer (readPaper x) room → readPaper z ≡ checkedAnswer (altCount alt) (readingOf t) room
+    pub check-fits : (z : Read) → y ≡ O.Nothing → readPaper z ≡ fitAnswer (readPaper x) room → readPaper z ≡ checkedText t alt room
     unfolding checkedAnswer aboveAnswer abovePaper
     check-fits z q h = rw (← c, ← f, q) (judge-fits t room x z e h)
 

@@ -9,7 +9,7 @@ use lib.ListN.{length, drop}
 use borrow.Author.Tests.{lt-leb, le-leb}
 use Rattle.text.specs.Answer.{Answer, says, numberOf}
 use Rattle.genotype.specs.Reading.{Reading, list, bad, empty, with, gathered, readingOf, listOf, partsOf, stepAnswer}
-use Rattle.genotype.specs.Answers.{readAnswer}
+use Rattle.genotype.specs.Answers.{readAnswer, textAnswer}
 use Rattle.genotype.specs.Paper.{stepPaper, readPaper}
 use Rattle.genotype.specs.declared.allele.Allele.{Allele}
 use Rattle.genotype.specs.declared.step.Step.{Step}
@@ -143,7 +143,7 @@ fit-whole (bad k) room = refl
 fit-whole empty room = refl
 
 pub judge-fits : (t : List ℕ) (room : ℕ) (x y : Read) → readPaper x ≡ wholeAnswer (readingOf t) → readPaper y ≡ fitAnswer (readPaper x) room
-    → readPaper y ≡ readAnswer (readingOf t) room
+    → readPaper y ≡ textAnswer t room
 judge-fits t room x y e f = f ∙ (rw e (fit-whole (readingOf t) room))
 
 pub ruleset laws = (judge-empty, judge-first, judge-turn, found-less, judge-bad, judge-past, fit-short, fit-done, fit-other, judge-fits)

@@ -1,5 +1,7 @@
 pub mod PaperLaws
 pub mod PieceLaws
+pub mod CutLaws
+pub mod ImpliedLaws
 pub mod StepLaws
 pub mod JudgeLaws
 pub mod Ahead
@@ -11,7 +13,6 @@ pub mod ColumnLaws
 pub mod RowLaws
 pub mod Determined
 pub mod PhasedLaws
-pub mod CutLaws
 pub mod BodyLaws
 pub mod MeansLaws
 pub mod BrokenLaws

@@ -3,13 +3,12 @@ use Prim.Native.Nat.{ℕ}
 use mathlib.Core.Path.{_≡_, refl}
 use mathlib.Core.List.{List}
 use lib.ListN.{length}
-use Rattle.genotype.specs.Reading.{readingOf}
-use Rattle.genotype.specs.Answers.{readAnswer, rowRead}
+use Rattle.genotype.specs.Answers.{textAnswer, rowRead}
 use Rattle.genotype.specs.Demands.{reader}
 use Rattle.genotype.specs.declared.allele.Allele.{Allele}
 
 module _ (t : List ℕ) (row : List Allele) where
-  pub reader-answer : reader t row .answer ≡ readAnswer (readingOf t) (length row)
+  pub reader-answer : reader t row .answer ≡ textAnswer t (length row)
   unfolding reader
   reader-answer = refl
 

@@ -10,7 +10,7 @@ use Rattle.text.specs.Answer.{numberOf}
 use Rattle.text.specs.Over.{over}
 use Rattle.genotype.specs.Reading.{readingOf, listOf}
 use Rattle.genotype.specs.Row.{numbersOf, missingOf, phasedOf, rowOf}
-use Rattle.genotype.specs.Answers.{readAnswer}
+use Rattle.genotype.specs.Answers.{textAnswer}
 use Rattle.genotype.specs.Demands.{SlicesReader}
 use Rattle.genotype.specs.declared.allele.Allele.{Allele}
 use Rattle.genotype.proofs.AnswerLaws.{row-even}
@@ -22,7 +22,7 @@ unfolding SlicesReader
 slices-reader t n m p r n′ m′ p′ q g =
     let k = rw (row-even n m p _ (q .missing) (q .phased)) at g in (
       k .answer ∙ rw (reader-answer t (rowOf n m p), row-length n m p q),
-      rw (k .numbers, k .missing, k .phased, reader-row t (rowOf n m p), row-length n m p q) (by (eqb (numberOf (readAnswer (readingOf t) (length n))) 0)),
+      rw (k .numbers, k .missing, k .phased, reader-row t (rowOf n m p), row-length n m p q) (by (eqb (numberOf (textAnswer t (length n))) 0)),
     )
   where
     as′ : List Allele

@@ -6,28 +6,17 @@ use mathlib.Core.Bool.{Bool, true, false}
 use mathlib.Core.Option.{Option, some, none}
 use native.Mathlib.Omega.{arith}
 use native.Mathlib.Decide.{ℕ-discrete}
-use types.Run.{OneOf, miss}
-use denote.Enum.Declared.{tagOf}
 use lib.ListN.{length, getD, take, drop, drop-of-length-le, length-drop}
 use lib.Dec.{ltb}
 use borrow.Author.Tests.{ltb-true, ltb-false, le-leb, lt-leb}
 use Rattle.text.specs.Answer.{says}
 use Rattle.text.specs.Same.{same}
-use Rattle.text.specs.declared.range.Range.{Range}
 use Rattle.text.proofs.Lists.{here}
 use Rattle.decimal.specs.Decimal.{decimalAnswer}
 use Rattle.decimal.specs.Paper.{numberPaper}
 use Rattle.decimal.specs.declared.read.Number.{Number}
 use Rattle.decimal.specs.declared.read.Number.the-variants as N
 use Rattle.decimal.proofs.Value.{told-value, told-bad}
-use Rattle.pieces.specs.Pieces as P
-use Rattle.pieces.specs.Paper as Q
-use Rattle.pieces.specs.declared.step.Step as D
-use Rattle.pieces.specs.declared.step.Step.the-variants as T
-use Rattle.pieces.proofs.step.Step as E
-use Rattle.pieces.proofs.PieceLaws.{split-count, split-some}
-use Rattle.pieces.proofs.CountLaws.{lacks-none, lacks-yes, lacks-no}
-use Rattle.pieces.proofs.StepLaws.{step-tells}
 use Rattle.genotype.specs.Reading.{isMark, headOf, numbered, bodied, alleleIn, impliedBy, partsOf, foundAnswer, alleleAnswer, firstAnswer, fromAnswer, stepAnswer}
 use Rattle.genotype.specs.Paper.{stepPaper}
 use Rattle.genotype.specs.declared.allele.Allele.{Allele}
@@ -63,32 +52,6 @@ module _ {s : List ℕ} {from i : ℕ} (g : Seeking s from i) where
 
   pub seek-past : length s ≤ i → i ≡ from + length (headOf (drop from s))
   seek-past h = omega (arith, rw (drop-of-length-le s h, head-none) at (g .same))
-
--- ---- what the rest implies
-
-pub implied-more : (t : List ℕ) (from : ℕ) {x : D.Step} {r : Range} {next : ℕ} → Q.stepPaper x ≡ P.stepAnswer 47 t from → x ≡ T.More r next
-    → false ≡ impliedBy (drop from t)
-unfolding impliedBy
-implied-more t from {x} {r} {next} e q =
-    let f = step-tells 47 t from (T.More r next) (rw q at e) in
-    let c = split-count 47 (drop from t) in
-    let l = ap length (f .pieces) in
-    let o = split-some 47 (drop next t) in
-    sym (lacks-no 47 (drop from t) refl (omega arith))
-
-pub implied-rest : (t : List ℕ) (from : ℕ) (x : D.Step) → from ≤ length t → Q.stepPaper x ≡ P.stepAnswer 47 t from → OneOf (1 ∷ 2 ∷ 3 ∷ []) (tagOf E.the-type x)
-    → true ≡ impliedBy (drop from t)
-unfolding impliedBy
-implied-rest t from (T.More r next) w e h = absurd (miss (1 ∷ 2 ∷ 3 ∷ []) 0 tt h)
-implied-rest t from (T.Last r) w e h =
-    let f = step-tells 47 t from (T.Last r) e in
-    let c = split-count 47 (drop from t) in
-    let l = ap length (f .pieces) in
-    sym (lacks-yes 47 (drop from t) refl (omega arith))
-implied-rest t from T.Nothing w e h =
-    let f = step-tells 47 t from T.Nothing e in
-    rw (drop-of-length-le t {i = from} (omega arith), lacks-none 47)
-implied-rest t from T.Beyond w e h = absurd (let f = step-tells 47 t from T.Beyond e in omega arith)
 
 -- ---- a piece without its mark
 
@@ -276,4 +239,4 @@ module _ (t : List ℕ) (at : ℕ) (x : Step) (e : stepPaper x ≡ stepAnswer t 
   pub found-less : length t - next < length t - at
   found-less = let f = found in omega arith
 
-pub ruleset laws = (seek-first, seek-bar, seek-slash, seek-turn, seek-past, implied-more, implied-rest, body-dot, body-value, body-bad, step-beyond, step-empty, step-nothing, step-bar, step-slash, step-plain)
+pub ruleset laws = (seek-first, seek-bar, seek-slash, seek-turn, seek-past, body-dot, body-value, body-bad, step-beyond, step-empty, step-nothing, step-bar, step-slash, step-plain)

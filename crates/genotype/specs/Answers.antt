@@ -1,7 +1,7 @@
 -- What the readers answer, and what they leave in the lent row (docs/RULES.md, "Genotypes"). Assumes nothing.
 use Prim.Native.Nat.{ℕ}
 use mathlib.Core.Path.{_≡_}
-use mathlib.Core.Bool.{_&&_}
+use mathlib.Core.Bool.{Bool, _&&_}
 use mathlib.Core.List.{List, [], _∷_}
 use mathlib.Core.Option.{Option, some, none}
 use lib.ListN.{length}
@@ -40,6 +40,15 @@ unfoldable pub checkedAnswer : ℕ → Reading → ℕ → Answer
 unfolding readAnswer
 checkedAnswer count r room = aboveAnswer (firstAbove count 0 (listOf r)) (readAnswer r room)
 
+-- ---- of a text
+
+abbrev pub textAnswer : List ℕ → ℕ → Answer
+textAnswer t room = readAnswer (readingOf t) room
+
+-- and with no allele above what an ALT column counts
+abbrev pub checkedText : List ℕ → List ℕ → ℕ → Answer
+checkedText t alt room = checkedAnswer (altCount alt) (readingOf t) room
+
 -- ---- the row
 
 -- three slices of one length
@@ -47,16 +56,18 @@ pub record Parallel (n m p : List ℕ) : Type 0 where
   pub missing : length n ≡ length m
   pub phased : length n ≡ length p
 
+abbrev pub oneLength : ℕ → ℕ → ℕ → Bool
+oneLength n m p = eqb n m && eqb n p
+
 -- 16 first, where they are not
 unfoldable pub rowAnswer : List ℕ → List ℕ → List ℕ → Answer → Answer
-rowAnswer n m p a = pick (eqb (length n) (length m) && eqb (length n) (length p)) a (says 16 [])
+rowAnswer n m p a = pick (oneLength (length n) (length m) (length p)) a (says 16 [])
 
--- for a text, and also with no allele above what an ALT column counts
 abbrev pub slicesAnswer : List ℕ → List ℕ → List ℕ → List ℕ → Answer
-slicesAnswer t n m p = rowAnswer n m p (readAnswer (readingOf t) (length n))
+slicesAnswer t n m p = rowAnswer n m p (textAnswer t (length n))
 
 abbrev pub checkedSlices : List ℕ → List ℕ → List ℕ → List ℕ → List ℕ → Answer
-checkedSlices t alt n m p = rowAnswer n m p (checkedAnswer (altCount alt) (readingOf t) (length n))
+checkedSlices t alt n m p = rowAnswer n m p (checkedText t alt (length n))
 
 -- r is the answer a, and slices that held n, m and p are left with the list laid over them where it is done
 pub record Reads (a : Answer) (as′ : List Allele) (n m p : List ℕ) (r : Read) (n′ m′ p′ : List ℕ) : Type 0 where
@@ -73,7 +84,7 @@ ReadsChecked t alt n m p r n′ m′ p′ = Reads (checkedSlices t alt n m p) (l
 
 -- a row of records, with the list laid over it where the answer is done
 abbrev pub rowRead : List ℕ → List Allele → List Allele
-rowRead t row = laid (readAnswer (readingOf t) (length row)) (listOf (readingOf t)) row
+rowRead t row = laid (textAnswer t (length row)) (listOf (readingOf t)) row
 
 abbrev pub rowChecked : List ℕ → List ℕ → List Allele → List Allele
-rowChecked t alt row = laid (checkedAnswer (altCount alt) (readingOf t) (length row)) (listOf (readingOf t)) row
+rowChecked t alt row = laid (checkedText t alt (length row)) (listOf (readingOf t)) row

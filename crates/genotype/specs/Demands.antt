@@ -7,10 +7,10 @@ use mathlib.Core.List.{List, [], _∷_}
 use lib.ListN.{length, drop}
 use Rattle.text.specs.Answer.{Answer, says, numberOf}
 use Rattle.text.specs.Over.{over}
-use Rattle.genotype.specs.Reading.{Reading, list, bad, readingOf, foundAnswer}
+use Rattle.genotype.specs.Reading.{Reading, list, bad, foundAnswer}
 use Rattle.genotype.specs.Row.{rowOf}
 use Rattle.genotype.specs.Paper.{readPaper}
-use Rattle.genotype.specs.Answers.{readAnswer, rowRead, Parallel, ReadsText}
+use Rattle.genotype.specs.Answers.{textAnswer, rowRead, Parallel, ReadsText}
 use Rattle.genotype.specs.Means.{Means, Begins, Broken}
 use Rattle.genotype.specs.declared.allele.Allele.{Allele}
 use Rattle.genotype.specs.declared.read.Read.{Read}
@@ -48,7 +48,7 @@ Reader = List ℕ → List Allele → Outcome
 unfoldable pub reader : Reader
 reader t row =
     record {
-      answer = readAnswer (readingOf t) (length row);
+      answer = textAnswer t (length row);
       row = rowRead t row;
     }
 

@@ -7,6 +7,8 @@ use lib.ListN.{length}
 use Rattle.text.specs.Answer.{Answer, says}
 use Rattle.text.specs.Over.{roomFor}
 use Rattle.genotype.specs.Reading.{Reading, list, bad, empty, readingOf, listOf}
+use Rattle.genotype.specs.declared.read.Read.{Read}
+use Rattle.genotype.specs.declared.read.Read.the-variants as R
 use Rattle.genotype.specs.declared.read.Above.{Above}
 use Rattle.genotype.specs.declared.read.Above.the-variants as O
 
@@ -36,3 +38,8 @@ pub record Room (k : ℕ) (n m p : List ℕ) : Type 0 where
   pub numbers : k ≤ length n
   pub missing : k ≤ length m
   pub phased : k ≤ length p
+
+-- where the answer is done, the text reads as a list that the slices hold
+pub record Fillable (t : List ℕ) (r : Read) (n m p : List ℕ) : Type 0 where
+  pub meant : (k : ℕ) → r ≡ R.Done k → ListMeant t
+  pub room : (k : ℕ) → r ≡ R.Done k → Room (length (listOf (readingOf t))) n m p

@@ -3,9 +3,8 @@ use Prim.Native.Nat.{ℕ}
 use mathlib.Core.Path.{_≡_}
 use mathlib.Core.List.{List}
 use Rattle.text.specs.Outcome.{OneAnswer}
-use Rattle.lists.specs.AlternateBases.{altCount}
-use Rattle.genotype.specs.Reading.{readingOf, stepAnswer}
-use Rattle.genotype.specs.Answers.{readAnswer, checkedAnswer, ReadsText, ReadsChecked}
+use Rattle.genotype.specs.Reading.{stepAnswer}
+use Rattle.genotype.specs.Answers.{textAnswer, checkedText, ReadsText, ReadsChecked}
 use Rattle.genotype.specs.Paper.{stepPaper, readPaper}
 use Rattle.genotype.specs.declared.step.Step.{Step}
 use Rattle.genotype.specs.declared.read.Read.{Read}
@@ -14,10 +13,10 @@ abbrev pub TakesStep : List ℕ → ℕ → Step → Type 0
 TakesStep t at r = stepPaper r ≡ stepAnswer t at
 
 abbrev pub Judges : List ℕ → ℕ → Read → Type 0
-Judges t room r = readPaper r ≡ readAnswer (readingOf t) room
+Judges t room r = readPaper r ≡ textAnswer t room
 
 abbrev pub JudgesChecked : List ℕ → List ℕ → ℕ → Read → Type 0
-JudgesChecked t alt room r = readPaper r ≡ checkedAnswer (altCount alt) (readingOf t) room
+JudgesChecked t alt room r = readPaper r ≡ checkedText t alt room
 
 -- two outcomes over three slices are equal: the answer, and what is left in each slice
 abbrev pub OneReading : (Read → List ℕ → List ℕ → List ℕ → Type 0) → Type 0

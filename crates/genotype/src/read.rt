@@ -9,10 +9,10 @@ ghost use Rattle.text.specs.Over.{over};
 ghost use Rattle.text.specs.Pick.{oneIf};
 ghost use Rattle.genotype.specs.Reading.{readingOf, listOf};
 ghost use Rattle.genotype.specs.Row.{numbersOf, missingOf, phasedOf};
-ghost use Rattle.genotype.specs.Answers.{firstAbove, ReadsText, ReadsChecked};
+ghost use Rattle.genotype.specs.Answers.{firstAbove, oneLength, Reads, ReadsText, ReadsChecked};
 ghost use Rattle.genotype.specs.Promises.{Judges, JudgesChecked};
 ghost use Rattle.genotype.specs.Paper.{readPaper};
-ghost use Rattle.genotype.specs.Inner.{ListMeant, wholeAnswer, fitAnswer, Room, abovePaper};
+ghost use Rattle.genotype.specs.Inner.{ListMeant, wholeAnswer, fitAnswer, Room, Fillable, abovePaper};
 
 // The answer of a reader.
 pub enum Read {
@@ -141,6 +141,34 @@ fn fill(text: &[u8], numbers: &mut [u64], missing: &mut [u8], phased: &mut [u8])
     }
 }
 
+// Fills the slices where the answer, which is given back, is done.
+fn fill_judged(
+    text: &[u8],
+    read: Read,
+    numbers: &mut [u64],
+    missing: &mut [u8],
+    phased: &mut [u8],
+) -> Read
+    requires { ⌜ Fillable (now text) read (now numbers) (now missing) (now phased) ⌝ }
+    ensures { λ r. ⌜ Reads (readPaper read) (listOf (readingOf (now (text .entry)))) (now (numbers .entry)) (now (missing .entry)) (now (phased .entry)) r (now (numbers .exit)) (now (missing .exit)) (now (phased .exit)) ⌝ }
+{
+    let Read::Done(_) = read else {
+        return read;
+    };
+    fill(text, numbers, missing, phased);
+    read
+}
+
+// Whether three lengths are one.
+fn one_length(numbers: usize, missing: usize, phased: usize) -> bool
+    ensures { λ r. ⌜ r ≡ oneLength numbers missing phased ⌝ }
+{
+    if numbers == missing {
+        return numbers == phased;
+    }
+    false
+}
+
 // Reads a genotype. Only an answer of 0 changes the slices, and only their first entries, one for each allele.
 pub fn read_genotype(
     text: &[u8],
@@ -150,18 +178,11 @@ pub fn read_genotype(
 ) -> Read
     ensures { λ r. ⌜ ReadsText (now (text .entry)) (now (numbers .entry)) (now (missing .entry)) (now (phased .entry)) r (now (numbers .exit)) (now (missing .exit)) (now (phased .exit)) ⌝ }
 {
-    if numbers.len() != missing.len() {
-        return Read::Lengths;
+    if one_length(numbers.len(), missing.len(), phased.len()) {
+        let read = judge(text, numbers.len());
+        return fill_judged(text, read, numbers, missing, phased);
     }
-    if numbers.len() != phased.len() {
-        return Read::Lengths;
-    }
-    let read = judge(text, numbers.len());
-    let Read::Done(_) = read else {
-        return read;
-    };
-    fill(text, numbers, missing, phased);
-    read
+    Read::Lengths
 }
 
 // Reads a genotype whose alleles an ALT column must have.
@@ -174,16 +195,9 @@ pub fn read_checked(
 ) -> Read
     ensures { λ r. ⌜ ReadsChecked (now (text .entry)) (now (alt .entry)) (now (numbers .entry)) (now (missing .entry)) (now (phased .entry)) r (now (numbers .exit)) (now (missing .exit)) (now (phased .exit)) ⌝ }
 {
-    if numbers.len() != missing.len() {
-        return Read::Lengths;
+    if one_length(numbers.len(), missing.len(), phased.len()) {
+        let read = judge_checked(text, alt, numbers.len());
+        return fill_judged(text, read, numbers, missing, phased);
     }
-    if numbers.len() != phased.len() {
-        return Read::Lengths;
-    }
-    let read = judge_checked(text, alt, numbers.len());
-    let Read::Done(_) = read else {
-        return read;
-    };
-    fill(text, numbers, missing, phased);
-    read
+    Read::Lengths
 }

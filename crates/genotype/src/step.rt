@@ -2,8 +2,6 @@
 use crate::allele::Allele;
 use decimal::read::Number;
 use decimal::read::read_decimal;
-use pieces::step;
-use pieces::step::piece_at;
 use text::same::same_bytes;
 ghost use mathlib.Core.Path.{_≡_};
 ghost use Prim.Native.Nat.{_+_, _≤_, _<_};
@@ -51,10 +49,15 @@ fn implied(text: &[u8], from: usize) -> bool
     requires { ⌜ from ≤ length (now text) ⌝ }
     ensures { λ r. ⌜ r ≡ impliedBy (drop from (now (text .entry))) ⌝ }
 {
-    match piece_at(text, b'/', from) {
-        step::Step::More(_, _) => false,
-        _ => true,
+    let mut i = next_mark(text, from);
+    while i < text.len() {
+        if text[i] == b'/' {
+            return false;
+        }
+        i += 1;
+        i = next_mark(text, i);
     }
+    true
 }
 
 // A piece without its mark: `.` or a decimal.

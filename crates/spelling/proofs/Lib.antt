@@ -1,6 +1,7 @@
 pub mod SpellLaws
 pub mod TallyLaws
 pub mod PlanLaws
+pub mod TextLaws
 pub mod PutLaws
 pub mod RowLaws
 pub mod LayLaws
@@ -16,6 +17,5 @@ pub mod RoundTrip
 pub mod Impostors
 pub mod Slices
 pub mod EndToEnd
-pub mod TallySteps
 pub mod ListLaws
 pub mod CaseLaws

@@ -1,5 +1,5 @@
 -- Writing a list from a place of an output on: beyond it, or at the start of the rest; and our writer says no more. Assumes nothing.
-use Prim.Native.Nat.{ℕ, _+_, _-_, _≤_, _<_}
+use Prim.Native.Nat.{ℕ, _-_, _≤_, _<_}
 use native.Mathlib.Nat.{le-refl}
 use mathlib.Core.Path.{_≡_, refl, _∙_}
 use mathlib.Core.Bool.{Bool, true, false}
@@ -15,16 +15,12 @@ use Rattle.text.proofs.Lists.{rest-all, rest-put, rest-back}
 use Rattle.genotype.specs.declared.allele.Allele.{Allele}
 use Rattle.spelling.specs.Spelling.{spell}
 use Rattle.spelling.specs.Permitted.{from44}
-use Rattle.spelling.specs.Inner.{fitsAt, WritesList}
+use Rattle.spelling.specs.Inner.{WritesList}
 use Rattle.spelling.specs.Paper.{writePaper}
 use Rattle.spelling.specs.Write.{spelledAnswer, textOf, listAnswer, listLeft}
 use Rattle.spelling.specs.Demands.{writer}
 use Rattle.spelling.specs.declared.write.Write.{Write}
 use Rattle.spelling.specs.declared.write.Write.the-variants as W
-
-pub fits-at : (vs : List ℕ) (at : ℕ) (l : List ℕ) → at + length vs ≤ length l → fitsAt vs at l ≡ true
-unfolding fitsAt
-fits-at vs at l h = le-leb _ _ h
 
 pub record ListOutcome (as′ : List Allele) (late : Bool) (out : List ℕ) (at : ℕ) (r : Write) (out′ : List ℕ) : Type 0 where
   pub answer : writePaper r ≡ listAnswer as′ late out at

@@ -1,4 +1,4 @@
--- What the tally of a whole list means: the plan made of it says how the list is spelled, and whether that fits. Assumes nothing.
+-- What the tally of a whole list means: the plan made of it says how the list is spelled, and whether that fits, and what it takes. Assumes nothing.
 use Prim.Native.Nat.{ℕ, _+_, _-_, _≤_, _<_, zero-le}
 use mathlib.Core.Path.{_≡_, refl, sym, ap, _∙_}
 use mathlib.Core.Bool.{Bool, true, false, _&&_, Bool·beq, and-true, and-assoc}
@@ -31,6 +31,7 @@ pub record Gathered (t : Tally) (f l : Bool) (room n : ℕ) : Type 0 where
   pub sound : t .sound ≡ true
   pub first : t .first ≡ f
   pub later : t .later ≡ l
+  pub room-is : t .room ≡ room
   pub fits : t .fits ≡ leb n room
   pub left : n ≤ room → t .left ≡ room - n
 
@@ -40,7 +41,7 @@ gather-short {t} {f} {l} {room} {n} m g = by (decLe n room) (decLe m (t .left))
     none-left : room < n + m → t .left < m → Gathered (shortened t m) f l room (n + m)
     none-left s z =
         rw (← short-not t m z)
-        (record { sound = g .sound; first = g .first; later = g .later; fits = sym (lt-leb _ _ s); left = λ k. absurd (omega arith) })
+        (record { sound = g .sound; first = g .first; later = g .later; room-is = g .room-is; fits = sym (lt-leb _ _ s); left = λ k. absurd (omega arith) })
 
     by : Dec (n ≤ room) → Dec (m ≤ t .left) → Gathered (shortened t m) f l room (n + m)
     by (yes h) (yes y) =
@@ -51,6 +52,7 @@ gather-short {t} {f} {l} {room} {n} m g = by (decLe n room) (decLe m (t .left))
           sound = g .sound;
           first = g .first;
           later = g .later;
+          room-is = g .room-is;
           fits = g .fits ∙ le-leb _ _ h ∙ sym (le-leb _ _ s);
           left = λ _. omega arith;
         })
@@ -62,6 +64,7 @@ gather-short {t} {f} {l} {room} {n} m g = by (decLe n room) (decLe m (t .left))
           sound = g .sound;
           first = g .first;
           later = g .later;
+          room-is = g .room-is;
           fits = g .fits ∙ lt-leb _ _ o ∙ sym (lt-leb _ _ s);
           left = λ k. absurd (omega arith);
         })
@@ -73,12 +76,12 @@ gather-later : {t : Tally} {f l : Bool} {room n : ℕ} (a : Allele) (k : ℕ) �
 gather-later {t} a k g s z =
     rw (tallied-sound t a k (g .sound) s, counted-later t a k z, marked-length a)
     (gather-short (length (bodyText a) + 1)
-    (record { sound = g .sound; first = g .first; later = ap (λ (b : Bool). b && a .phased) (g .later); fits = g .fits; left = g .left }))
+    (record { sound = g .sound; first = g .first; later = ap (λ (b : Bool). b && a .phased) (g .later); room-is = g .room-is; fits = g .fits; left = g .left }))
 
 gather-first : (a : Allele) (room : ℕ) → isSound a ≡ true → Gathered (tallied (begun room) a 0) (a .phased) true room (length (alleleText true a))
 gather-first a room s =
     let g : Gathered (firstly (begun room) (a .phased)) (a .phased) true room 0 =
-    rw (← begin-is room) (record { sound = refl; first = refl; later = refl; fits = sym (le-leb 0 room zero-le); left = λ _. sym (sub-zero room) }) in
+    rw (← begin-is room) (record { sound = refl; first = refl; later = refl; room-is = refl; fits = sym (le-leb 0 room zero-le); left = λ _. sym (sub-zero room) }) in
     rw (tallied-sound (begun room) a 0 (g .sound) s, counted-first (begun room) a 0 refl, bare-text a)
     (rw (zero-add (length (bodyText a))) at (gather-short (length (bodyText a)) g))
 
@@ -137,10 +140,11 @@ stop-from (a ∷ as′) k t i h e = by (isSound a) refl (stop-from as′ (k + 1)
 
 -- ---- the plan
 
--- the list has this text, and it fits
-pub record Spells (as′ : List Allele) (late : Bool) (vs : List ℕ) (room : ℕ) : Type 0 where
+-- the list has this text, it fits, and the count is its length
+pub record Spells (as′ : List Allele) (late : Bool) (vs : List ℕ) (room n : ℕ) : Type 0 where
   pub is : spell late as′ ≡ text vs
   pub fits : length vs ≤ room
+  pub count : n ≡ length vs
 
 -- the list has a text, and it does not fit
 pub record Overflows (as′ : List Allele) (late : Bool) (room : ℕ) : Type 0 where
@@ -149,8 +153,8 @@ pub record Overflows (as′ : List Allele) (late : Bool) (room : ℕ) : Type 0 w
   pub lacks : room < length vs
 
 abbrev pub Told : List Allele → Bool → ℕ → Plan → Type 0
-Told as′ late room P.Bare = Spells as′ late (listText true as′) room
-Told as′ late room P.Marked = Spells as′ late (listText false as′) room
+Told as′ late room (P.Bare n) = Spells as′ late (listText true as′) room n
+Told as′ late room (P.Marked n) = Spells as′ late (listText false as′) room n
 Told as′ late room P.Empty = spell late as′ ≡ empty
 Told as′ late room (P.Bad k) = spell late as′ ≡ bad k
 Told as′ late room P.Phasing = spell late as′ ≡ phasing
@@ -161,19 +165,19 @@ module _ (a : Allele) (as′ : List Allele) (late : Bool) (room : ℕ) where
       → spell late (a ∷ as′) ≡ shaped (Bool·beq (a .phased) (allPhased as′)) late (a ∷ as′) → Told (a ∷ as′) late room (shapeOf t late)
   unfolding shapeOf shaped
   shape-told t g sp =
-      rw (g .first, g .later, g .fits) (by (Bool·beq (a .phased) (allPhased as′)) late sp (decLe (length (listText true (a ∷ as′))) room) (decLt 0 (t .left)))
+      rw (g .first, g .later, g .fits, g .room-is) (by (Bool·beq (a .phased) (allPhased as′)) late sp (decLe (length (listText true (a ∷ as′))) room) (decLt 0 (t .left)))
     where
       size : ℕ
       size = length (listText true (a ∷ as′))
 
       by : (b c : Bool) → spell late (a ∷ as′) ≡ shaped b c (a ∷ as′) → Dec (size ≤ room) → Dec (0 < t .left)
-          → Told (a ∷ as′) late room (pick b (pick (leb size room) P.Bare P.Short) (pick c (pick (leb size room && ltb 0 (t .left)) P.Marked P.Short) P.Phasing))
-      by true c e (yes h) d = rw (le-leb _ _ h) (record { is = e; fits = h })
+          → Told (a ∷ as′) late room (pick b (pick (leb size room) (P.Bare (room - t .left)) P.Short) (pick c (pick (leb size room && ltb 0 (t .left)) (P.Marked (room - t .left + 1)) P.Short) P.Phasing))
+      by true c e (yes h) d = let o = g .left h in rw (le-leb _ _ h) (record { is = e; fits = h; count = omega arith })
       by true c e (no h) d = let s : room < size = omega arith in rw (lt-leb _ _ s) (record { vs = listText true (a ∷ as′); is = e; lacks = s })
       by false true e (yes h) (yes d) =
           let m = marked-longer a as′ in
           let o = g .left h in
-          rw (le-leb _ _ h, lt-ltb _ _ d) (record { is = e; fits = omega arith })
+          rw (le-leb _ _ h, lt-ltb _ _ d) (record { is = e; fits = omega arith; count = omega arith })
       by false true e (yes h) (no d) =
           let m = marked-longer a as′ in
           let o = g .left h in

@@ -1,24 +1,32 @@
--- Writing one allele at a place: each way through each function. The mark is stored once the rest is written. Assumes nothing.
+-- Writing one allele at a place, and as planned: each way through each function. The mark is stored once the rest is written. Assumes nothing.
 use Prim.Native.Nat.{ℕ, _+_, _-_, _^_, _≤_, _<_}
-use mathlib.Core.Path.{_≡_, _∙_}
+use mathlib.Core.Path.{_≡_, refl, _∙_}
 use mathlib.Core.Bool.{Bool, true, false}
 use mathlib.Core.List.{List, [], _∷_}
 use native.Mathlib.Omega.{arith}
+use native.Mathlib.Nat.{add-zero}
+use native.Mathlib.Decide.{decLe}
+use types.Run.{OneOf, miss}
+use denote.Enum.Declared.{tagOf}
 use mir.Syntax.{w64}
 use mir.Val.{Fits}
 use lib.ListN.{length, take, drop, set}
+use lib.Dec.{eqb}
 use borrow.Author.Tests.{le-leb, lt-leb}
 use borrow.Rule.Slice.PartMut.{putMid}
 use Rattle.text.specs.Over.{overAt, Writes}
 use Rattle.text.specs.declared.copy.Written.{Written}
 use Rattle.text.specs.declared.copy.Written.the-variants.{Done, Short}
-use Rattle.text.proofs.Lists.{length-rest, rest-put, rest-back, overAt-before}
+use Rattle.text.proofs.Lists.{length-rest, rest-put, rest-back, overAt-before, overAt-nil}
 use Rattle.text.proofs.WrittenLaws.{Wrote, writes-done, writes-short}
 use Rattle.decimal.specs.Shortest.{shortest}
 use Rattle.genotype.specs.Means.{markByte}
 use Rattle.genotype.specs.declared.allele.Allele.{Allele}
 use Rattle.spelling.specs.Spelling.{bodyText, alleleText}
-use Rattle.spelling.specs.Inner.{fitsAt, PutsAt}
+use Rattle.spelling.specs.Inner.{oneText, fitsAt, PutsAt}
+use Rattle.spelling.specs.declared.tally.Plan.{Plan}
+use Rattle.spelling.specs.declared.tally.Plan.the-variants as P
+use Rattle.spelling.proofs.tally.Plan as D
 use Rattle.spelling.proofs.SpellLaws.{body-dot, body-number, bare-text, marked-text, marked-length}
 
 -- ---- without its mark
@@ -40,6 +48,13 @@ module _ (vs : List ℕ) (at : ℕ) (l : List ℕ) where
   puts-fits : at + length vs ≤ length l → PutsAt vs at l (at + length vs) (overAt at vs l)
   unfolding fitsAt
   puts-fits h = record { place = rw (le-leb _ _ h); bytes = rw (le-leb _ _ h) }
+
+puts-nothing : (at : ℕ) (l : List ℕ) → PutsAt [] at l at l
+puts-nothing at l =
+    elim (decLe at (length l)) [
+      | yes h ↦ rw (overAt-nil at l, add-zero) at (puts-fits [] at l (omega arith))
+      | no h ↦ puts-lacks [] at l (omega arith)
+    ]
 
 module _ {vs : List ℕ} {at : ℕ} {l : List ℕ} {r : ℕ} {l′ : List ℕ} (w : PutsAt vs at l r l′) (h : at + length vs ≤ length l) where
   pub put-place : r ≡ at + length vs
@@ -114,4 +129,28 @@ module _ (a : Allele) (bare : Bool) (at : ℕ) (l : List ℕ) where
             let m = marked-length a in
             rw (e, rest-back (at + 1) l ys (g .bytes)) (puts-lacks (alleleText false a) at l (omega arith))
 
-pub ruleset laws = (put-dot, put-number, put-beyond, put-bare-sum, put-bare, put-bare-short, put-full, put-mark-sum, put-mark, put-mark-short)
+-- ---- as planned
+
+none-text : (x : Plan) (k : ℕ) (a : Allele) → OneOf (2 ∷ 3 ∷ 4 ∷ 5 ∷ []) (tagOf D.the-type x) → oneText x k a ≡ []
+unfolding oneText
+none-text (P.Bare n) k a h = absurd (miss (2 ∷ 3 ∷ 4 ∷ 5 ∷ []) 0 tt h)
+none-text (P.Marked n) k a h = absurd (miss (2 ∷ 3 ∷ 4 ∷ 5 ∷ []) 1 tt h)
+none-text P.Empty k a h = refl
+none-text (P.Bad i) k a h = refl
+none-text P.Phasing k a h = refl
+none-text P.Short k a h = refl
+
+module _ (a : Allele) (k : ℕ) (x : Plan) {at : ℕ} {l : List ℕ} where
+  module _ {n r : ℕ} {l′ : List ℕ} where
+    pub one-bare : x ≡ P.Bare n → PutsAt (alleleText (eqb k 0) a) at l r l′ → PutsAt (oneText x k a) at l r l′
+    unfolding oneText
+    one-bare e w = rw e w
+
+    pub one-marked : x ≡ P.Marked n → PutsAt (alleleText false a) at l r l′ → PutsAt (oneText x k a) at l r l′
+    unfolding oneText
+    one-marked e w = rw e w
+
+  pub one-none : OneOf (2 ∷ 3 ∷ 4 ∷ 5 ∷ []) (tagOf D.the-type x) → PutsAt (oneText x k a) at l at l
+  one-none h = rw (none-text x k a h) (puts-nothing at l)
+
+pub ruleset laws = (put-dot, put-number, put-beyond, put-bare-sum, put-bare, put-bare-short, put-full, put-mark-sum, put-mark, put-mark-short, one-bare, one-marked, one-none)

@@ -1,38 +1,27 @@
--- The pass over three slices that gathers their list's tally: the alleles still to come stand for all of them.
--- Assumes nothing.
-use Prim.Native.Nat.{ℕ, _+_, _<_, _≤_, zero-le}
+-- The pass over a list of alleles that gathers its tally: the alleles still to come stand for all of them. Assumes nothing.
+use Prim.Native.Nat.{ℕ, _+_}
 use mathlib.Core.Path.{_≡_}
-use mathlib.Core.List.{List}
-use native.Mathlib.Omega.{arith}
-use lib.ListN.{length, drop}
+use mathlib.Core.List.{List, [], _∷_}
+use lib.ListN.{drop}
 use Rattle.genotype.specs.declared.allele.Allele.{Allele}
-use Rattle.genotype.specs.Answers.{Parallel}
-use Rattle.spelling.specs.Inner.{begun, tallied, tallyFrom, tallyOf}
-use Rattle.genotype.specs.Row.{alleleAt, rowOf}
 use Rattle.genotype.proofs.RowLaws.{row-here, row-past}
+use Rattle.spelling.specs.Inner.{begun, tallied, tallyFrom, tallyOf}
 use Rattle.spelling.specs.declared.tally.Tally.{Tally}
 
-pub record Tallying (n m p : List ℕ) (room : ℕ) (t : Tally) (k : ℕ) : Type 0 where
-  pub one-length : Parallel n m p
-  pub within : k ≤ length n
-  pub same : tallyFrom t k (drop k (rowOf n m p)) ≡ tallyOf room (rowOf n m p)
+pub record Tallying (as′ : List Allele) (room : ℕ) (t : Tally) (k : ℕ) : Type 0 where
+  pub same : tallyFrom t k (drop k as′) ≡ tallyOf room as′
 
-pub tally-first : {n m p : List ℕ} {room : ℕ} {t : Tally} → Parallel n m p → t ≡ begun room → Tallying n m p room t 0
+pub tally-first : {as′ : List Allele} {room : ℕ} {t : Tally} → t ≡ begun room → Tallying as′ room t 0
 unfolding tallyOf
-tally-first q e = record { one-length = q; within = zero-le; same = rw e }
+tally-first e = record { same = rw e }
 
-module _ {n m p : List ℕ} {room : ℕ} {t : Tally} {k : ℕ} (g : Tallying n m p room t k) where
-  pub tally-turn : {a : Allele} {u : Tally} → k < length n → a ≡ alleleAt n m p k → u ≡ tallied t a k → Tallying n m p room u (k + 1)
+module _ {as′ : List Allele} {room : ℕ} {t : Tally} {k : ℕ} (g : Tallying as′ room t k) where
+  pub tally-turn : {a : Allele} {u : Tally} → drop k as′ ≡ a ∷ drop (k + 1) as′ → u ≡ tallied t a k → Tallying as′ room u (k + 1)
   unfolding tallyFrom
-  tally-turn h e f =
-      record {
-        one-length = g .one-length;
-        within = omega arith;
-        same = rw f (rw (row-here n m p k (g .one-length) h e) at (g .same));
-      }
+  tally-turn e f = record { same = rw f (rw e at (g .same)) }
 
-  pub tally-past : length n ≤ k → t ≡ tallyOf room (rowOf n m p)
+  pub tally-past : drop k as′ ≡ [] → t ≡ tallyOf room as′
   unfolding tallyFrom
-  tally-past h = rw (row-past n m p k (g .one-length) h) at (g .same)
+  tally-past e = rw e at (g .same)
 
-pub ruleset laws = (tally-first, tally-turn, tally-past)
+pub ruleset laws = (tally-first, tally-turn, tally-past, row-here, row-past)

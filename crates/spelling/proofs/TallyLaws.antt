@@ -1,7 +1,10 @@
 -- What one pass over a list gathers, and the plan made of it: each way through each function. Assumes nothing.
-use Prim.Native.Nat.{ℕ, _+_, _-_, _≤_, _<_}
+use Prim.Native.Nat.{ℕ, _+_, _-_, _^_, _≤_, _<_}
 use mathlib.Core.Path.{_≡_, refl, sym, ap, _∙_}
 use mathlib.Core.Bool.{Bool, true, false, not, _&&_, Bool·beq}
+use native.Mathlib.Omega.{arith}
+use mir.Syntax.{w64}
+use mir.Val.{Fits}
 use lib.ListN.{length}
 use borrow.Author.Tests.{lt-ltb, le-ltb, le-leb, lt-leb, eq-eqb, ne-eqb, not-true, not-false}
 use Rattle.genotype.specs.declared.allele.Allele.{Allele}
@@ -15,30 +18,30 @@ use Rattle.spelling.proofs.SpellLaws as spell-laws
 
 -- ---- the steps
 
-pub begin-is : (room : ℕ) → _≡_ {A = Tally} (record { sound = true; bad = 0; first = true; later = true; fits = true; left = room }) (begun room)
+pub begin-is : (room : ℕ) → _≡_ {A = Tally} (record { sound = true; bad = 0; first = true; later = true; room = room; fits = true; left = room }) (begun room)
 unfolding begun
 begin-is room = refl
 
 module _ (t : Tally) (n : ℕ) where
   pub short-not : t .left < n
-      → _≡_ {A = Tally} (record { sound = t .sound; bad = t .bad; first = t .first; later = t .later; fits = false; left = t .left }) (shortened t n)
+      → _≡_ {A = Tally} (record { sound = t .sound; bad = t .bad; first = t .first; later = t .later; room = t .room; fits = false; left = t .left }) (shortened t n)
   unfolding shortened
   short-not h = rw (lt-leb _ _ h)
 
   pub short-fits : n ≤ t .left
-      → _≡_ {A = Tally} (record { sound = t .sound; bad = t .bad; first = t .first; later = t .later; fits = t .fits; left = t .left - n }) (shortened t n)
+      → _≡_ {A = Tally} (record { sound = t .sound; bad = t .bad; first = t .first; later = t .later; room = t .room; fits = t .fits; left = t .left - n }) (shortened t n)
   unfolding shortened
   short-fits h = rw (le-leb _ _ h)
 
 -- with the phasing of a first allele, and of a later one, and stopped at an index
 abbrev pub firstly : Tally → Bool → Tally
-firstly t b = record { sound = t .sound; bad = t .bad; first = b; later = t .later; fits = t .fits; left = t .left }
+firstly t b = record { sound = t .sound; bad = t .bad; first = b; later = t .later; room = t .room; fits = t .fits; left = t .left }
 
 abbrev pub laterly : Tally → Bool → Tally
-laterly t b = record { sound = t .sound; bad = t .bad; first = t .first; later = b; fits = t .fits; left = t .left }
+laterly t b = record { sound = t .sound; bad = t .bad; first = t .first; later = b; room = t .room; fits = t .fits; left = t .left }
 
 abbrev pub stopped : Tally → ℕ → Tally
-stopped t k = record { sound = false; bad = k; first = t .first; later = t .later; fits = t .fits; left = t .left }
+stopped t k = record { sound = false; bad = k; first = t .first; later = t .later; room = t .room; fits = t .fits; left = t .left }
 
 module _ (t : Tally) (a : Allele) (k : ℕ) where
   pub tallied-stopped : t .sound ≡ false → tallied t a k ≡ t
@@ -96,6 +99,9 @@ module _ (t : Tally) (a : Allele) (k : ℕ) where
 
 -- ---- the plan
 
+pub spent-sum : (t : Tally) {r : ℕ} → r ≡ t .room - t .left → 0 < t .left → t .room < 2 ^ 64 → Fits w64 (r + 1)
+spent-sum t e h f = record { fits = omega arith }
+
 module _ (t : Tally) (n : ℕ) (late : Bool) where
   pub plan-empty : n ≡ 0 → P.Empty ≡ planOf t n late
   unfolding planOf
@@ -118,9 +124,9 @@ module _ (t : Tally) (n : ℕ) (late : Bool) where
       plan-shape g = g ∙ sym (plan-sound (not-false (t .sound) h))
 
       module _ (b : Bool·beq (t .first) (t .later) ≡ true) where
-        pub plan-bare : t .fits ≡ true → P.Bare ≡ planOf t n late
+        pub plan-bare : {r : ℕ} → t .fits ≡ true → r ≡ t .room - t .left → P.Bare r ≡ planOf t n late
         unfolding shapeOf
-        plan-bare f = plan-shape (rw (b, f))
+        plan-bare f e = plan-shape (rw (b, f, e))
 
         pub plan-bare-short : t .fits ≡ false → P.Short ≡ planOf t n late
         unfolding shapeOf
@@ -132,9 +138,9 @@ module _ (t : Tally) (n : ℕ) (late : Bool) where
         plan-phasing y = plan-shape (rw (b, ← g, not-true l y))
 
         module _ (y : not l ≡ false) where
-          pub plan-marked : t .fits ≡ true → 0 < t .left → P.Marked ≡ planOf t n late
+          pub plan-marked : {r : ℕ} → t .fits ≡ true → 0 < t .left → r ≡ t .room - t .left → P.Marked (r + 1) ≡ planOf t n late
           unfolding shapeOf
-          plan-marked f m = plan-shape (rw (b, ← g, not-false l y, f, lt-ltb _ _ m))
+          plan-marked f m e = plan-shape (rw (b, ← g, not-false l y, f, lt-ltb _ _ m, e))
 
           pub plan-marked-full : t .fits ≡ true → t .left ≤ 0 → P.Short ≡ planOf t n late
           unfolding shapeOf
@@ -144,4 +150,4 @@ module _ (t : Tally) (n : ℕ) (late : Bool) where
           unfolding shapeOf
           plan-marked-short f = plan-shape (rw (b, ← g, not-false l y, f))
 
-pub ruleset laws = (spell-laws.laws, begin-is, short-not, short-fits, add-stopped, add-unsound, add-first, add-unphased, add-phased, plan-empty, plan-bad, plan-bare, plan-bare-short, plan-phasing, plan-marked, plan-marked-full, plan-marked-short)
+pub ruleset laws = (spell-laws.laws, begin-is, short-not, short-fits, add-stopped, add-unsound, add-first, add-unphased, add-phased, spent-sum, plan-empty, plan-bad, plan-bare, plan-bare-short, plan-phasing, plan-marked, plan-marked-full, plan-marked-short)

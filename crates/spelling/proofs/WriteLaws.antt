@@ -1,5 +1,5 @@
 -- Writing a list: each plan's answer and bytes, at the start of an output and from a place on. Assumes nothing.
-use Prim.Native.Nat.{ℕ, _-_, _≤_, _<_}
+use Prim.Native.Nat.{ℕ, _-_, _≤_, _<_, zero-le}
 use mathlib.Core.Path.{_≡_, refl, sym, _∙_}
 use mathlib.Core.Bool.{Bool, true, false}
 use mathlib.Core.List.{List, []}
@@ -12,14 +12,14 @@ use Rattle.text.specs.Pick.{pick}
 use Rattle.text.specs.Answer.{Answer, says, numberOf}
 use Rattle.text.specs.Over.{over, overAt, laid}
 use Rattle.text.proofs.CopyLaws.{room-fits, room-lacks}
-use Rattle.text.proofs.Lists.{rest-all, rest-put, rest-back}
+use Rattle.text.proofs.Lists.{over-nil, rest-all, rest-put, rest-back}
 use Rattle.genotype.specs.Answers as G
 use Rattle.genotype.specs.declared.allele.Allele.{Allele}
 use Rattle.genotype.proofs.AnswerLaws.{row-even, row-uneven-nm, row-uneven-np, row-done-nm, row-done-np}
 use Rattle.genotype.specs.Answers.{Parallel}
-use Rattle.spelling.specs.Spelling.{listText, Spelled, bad, phasing, empty, spell}
+use Rattle.spelling.specs.Spelling.{Spelled, bad, phasing, empty, spell}
 use Rattle.spelling.specs.Permitted.{from44}
-use Rattle.spelling.specs.Inner.{tallyOf, planOf, WritesList}
+use Rattle.spelling.specs.Inner.{tallyOf, planOf, answerOf, plannedText, WritesList}
 use Rattle.spelling.specs.Write.{Small}
 use Rattle.genotype.specs.Row.{rowOf}
 use Rattle.spelling.specs.Paper.{writePaper}
@@ -30,6 +30,7 @@ use Rattle.spelling.specs.declared.tally.Plan.the-variants as P
 use Rattle.spelling.specs.declared.write.Write.{Write}
 use Rattle.spelling.specs.declared.write.Write.the-variants as W
 use Rattle.genotype.proofs.RowLaws.{row-length}
+use Rattle.spelling.proofs.TextLaws.{text-bare, text-marked, text-empty, text-bad, text-phasing, text-short}
 use Rattle.spelling.proofs.PlanLaws.{Spells, Overflows, Told, plan-told}
 
 -- ---- at the start of an output
@@ -42,58 +43,93 @@ module _ {as′ : List Allele} {late : Bool} (l : List ℕ) where
   writes-by : {s : Spelled} {r : Write} {l′ : List ℕ} → spell late as′ ≡ s → Spelt s l r l′ → WritesList as′ late l r l′
   writes-by e w = record { answer = rw e (w .0); bytes = rw e (w .1) }
 
-  pub writes-text : {vs l′ : List ℕ} {r : ℕ} → Spells as′ late vs (length l) → r ≡ length vs → l′ ≡ over vs l → WritesList as′ late l (W.Done r) l′
+  writes-text : {vs : List ℕ} {n : ℕ} → Spells as′ late vs (length l) n → WritesList as′ late l (W.Done n) (over vs l)
   unfolding writePaper spelledAnswer textOf
-  writes-text {vs} g e b = writes-by (g .is) (rw (room-fits vs l (g .fits), e), rw (room-fits vs l (g .fits)) b)
+  writes-text {vs} g = writes-by (g .is) (rw (room-fits vs l (g .fits), g .count), rw (room-fits vs l (g .fits)))
 
-  pub writes-short : Overflows as′ late (length l) → WritesList as′ late l W.Short l
+  writes-short : Overflows as′ late (length l) → WritesList as′ late l W.Short l
   unfolding writePaper spelledAnswer textOf
   writes-short g = writes-by (g .is) (rw (room-lacks (g .vs) l (g .lacks)), rw (room-lacks (g .vs) l (g .lacks)))
 
-  pub writes-empty : spell late as′ ≡ empty → WritesList as′ late l W.Empty l
+  writes-empty : spell late as′ ≡ empty → WritesList as′ late l W.Empty l
   unfolding writePaper spelledAnswer
   writes-empty e = writes-by e (refl, refl)
 
-  pub writes-bad : {k : ℕ} → spell late as′ ≡ bad k → WritesList as′ late l (W.Bad k) l
+  writes-bad : {k : ℕ} → spell late as′ ≡ bad k → WritesList as′ late l (W.Bad k) l
   unfolding writePaper spelledAnswer
   writes-bad e = writes-by e (refl, refl)
 
-  pub writes-phasing : spell late as′ ≡ phasing → WritesList as′ late l W.Phasing l
+  writes-phasing : spell late as′ ≡ phasing → WritesList as′ late l W.Phasing l
   unfolding writePaper spelledAnswer
   writes-phasing e = writes-by e (refl, refl)
 
-module _ {n m p : List ℕ} (late : Bool) (l : List ℕ) {t : Tally} {x : Plan} (q : Parallel n m p) (e : t ≡ tallyOf (length l) (rowOf n m p))
+-- what each plan tells, answered and written
+module _ (as′ : List Allele) (late : Bool) (l : List ℕ) where
+  told-room : (x : Plan) → Told as′ late (length l) x → length (plannedText x as′) ≤ length l
+  told-room (P.Bare n) g = rw (text-bare n as′) (g .fits)
+  told-room (P.Marked n) g = rw (text-marked n 0 as′) (g .fits)
+  told-room P.Empty g = rw (text-empty 0 as′) zero-le
+  told-room (P.Bad k) g = rw (text-bad k 0 as′) zero-le
+  told-room P.Phasing g = rw (text-phasing 0 as′) zero-le
+  told-room P.Short g = rw (text-short 0 as′) zero-le
+
+  told-writes : (x : Plan) → Told as′ late (length l) x → WritesList as′ late l (answerOf x) (over (plannedText x as′) l)
+  unfolding answerOf
+  told-writes (P.Bare n) g = rw (text-bare n as′) (writes-text l g)
+  told-writes (P.Marked n) g = rw (text-marked n 0 as′) (writes-text l g)
+  told-writes P.Empty g = rw (text-empty 0 as′, over-nil l) (writes-empty l g)
+  told-writes (P.Bad k) g = rw (text-bad k 0 as′, over-nil l) (writes-bad l g)
+  told-writes P.Phasing g = rw (text-phasing 0 as′, over-nil l) (writes-phasing l g)
+  told-writes P.Short g = rw (text-short 0 as′, over-nil l) (writes-short l g)
+
+  module _ {t : Tally} {x : Plan} (e : t ≡ tallyOf (length l) as′) (f : x ≡ planOf t (length as′) late) where
+    told : Told as′ late (length l) x
+    told = rw (f, e) (plan-told as′ late (length l))
+
+    pub planned-room : length (plannedText x as′) ≤ length l
+    planned-room = told-room x told
+
+    pub planned-writes : {r : Write} {l′ : List ℕ} → r ≡ answerOf x → l′ ≡ over (plannedText x as′) l → WritesList as′ late l r l′
+    planned-writes a b = rw (a, b) (told-writes x told)
+
+-- the same of a list that comes as three slices, which have its count
+module _ (n m p : List ℕ) (late : Bool) (l : List ℕ) {t : Tally} {x : Plan} (q : Parallel n m p) (e : t ≡ tallyOf (length l) (rowOf n m p))
     (f : x ≡ planOf t (length n) late) where
-  told : {y : Plan} → x ≡ y → Told (rowOf n m p) late (length l) y
-  told h = rw (← h, f, e, ← row-length n m p q) (plan-told (rowOf n m p) late (length l))
+  count-same : x ≡ planOf t (length (rowOf n m p)) late
+  count-same = rw (row-length n m p q) f
 
-  module _ (h : x ≡ P.Bare) where
-    pub bare-room : length (listText true (rowOf n m p)) ≤ length l
-    bare-room = told h .fits
+  pub slices-room : length (plannedText x (rowOf n m p)) ≤ length l
+  slices-room = planned-room (rowOf n m p) late l e count-same
 
-    pub rest-bare : {r : ℕ} {l′ : List ℕ} → r ≡ length (listText true (rowOf n m p)) → l′ ≡ over (listText true (rowOf n m p)) l
-        → WritesList (rowOf n m p) late l (W.Done r) l′
-    rest-bare = writes-text l (told h)
+  pub slices-writes : {r : Write} {l′ : List ℕ} → r ≡ answerOf x → l′ ≡ over (plannedText x (rowOf n m p)) l → WritesList (rowOf n m p) late l r l′
+  slices-writes = planned-writes (rowOf n m p) late l e count-same
 
-  module _ (h : x ≡ P.Marked) where
-    pub marked-room : length (listText false (rowOf n m p)) ≤ length l
-    marked-room = told h .fits
+-- ---- a plan's answer
 
-    pub rest-marked : {r : ℕ} {l′ : List ℕ} → r ≡ length (listText false (rowOf n m p)) → l′ ≡ over (listText false (rowOf n m p)) l
-        → WritesList (rowOf n m p) late l (W.Done r) l′
-    rest-marked = writes-text l (told h)
+module _ {x : Plan} where
+  pub answer-bare : {n : ℕ} → x ≡ P.Bare n → W.Done n ≡ answerOf x
+  unfolding answerOf
+  answer-bare e = rw e
 
-  pub rest-empty : x ≡ P.Empty → WritesList (rowOf n m p) late l W.Empty l
-  rest-empty h = writes-empty l (told h)
+  pub answer-marked : {n : ℕ} → x ≡ P.Marked n → W.Done n ≡ answerOf x
+  unfolding answerOf
+  answer-marked e = rw e
 
-  pub rest-bad : {k : ℕ} → x ≡ P.Bad k → WritesList (rowOf n m p) late l (W.Bad k) l
-  rest-bad h = writes-bad l (told h)
+  pub answer-empty : x ≡ P.Empty → W.Empty ≡ answerOf x
+  unfolding answerOf
+  answer-empty e = rw e
 
-  pub rest-phasing : x ≡ P.Phasing → WritesList (rowOf n m p) late l W.Phasing l
-  rest-phasing h = writes-phasing l (told h)
+  pub answer-bad : {k : ℕ} → x ≡ P.Bad k → W.Bad k ≡ answerOf x
+  unfolding answerOf
+  answer-bad e = rw e
 
-  pub rest-short : x ≡ P.Short → WritesList (rowOf n m p) late l W.Short l
-  rest-short h = writes-short l (told h)
+  pub answer-phasing : x ≡ P.Phasing → W.Phasing ≡ answerOf x
+  unfolding answerOf
+  answer-phasing e = rw e
+
+  pub answer-short : x ≡ P.Short → W.Short ≡ answerOf x
+  unfolding answerOf
+  answer-short e = rw e
 
 -- ---- from a place on
 
@@ -177,4 +213,4 @@ module _ {n : List ℕ} where
   unfolding writePaper
   small-lengths = record { small = λ e. absurd (omega arith) }
 
-pub ruleset laws = (bare-room, rest-bare, marked-room, rest-marked, rest-empty, rest-bad, rest-phasing, rest-short, write-beyond, write-differ, write-differ-2, write-row, small-done, small-beyond, small-lengths)
+pub ruleset laws = (slices-room, slices-writes, answer-bare, answer-marked, answer-empty, answer-bad, answer-phasing, answer-short, write-beyond, write-differ, write-differ-2, write-row, small-done, small-beyond, small-lengths)

@@ -1,4 +1,5 @@
 // Writing one allele at a place of the output.
+use crate::tally::Plan;
 use decimal::print::print_decimal;
 use genotype::allele::Allele;
 use text::copy::Written;
@@ -6,8 +7,9 @@ use text::copy::copy;
 ghost use mathlib.Core.Path.{_≡_};
 ghost use Rattle.text.specs.Over.{Writes};
 ghost use Rattle.genotype.specs.Means.{markByte};
-ghost use Rattle.spelling.specs.Spelling.{bodyText};
-ghost use Rattle.spelling.specs.Promises.{PutsAllele};
+ghost use Rattle.spelling.specs.Spelling.{bodyText, alleleText};
+ghost use Rattle.spelling.specs.Inner.{PutsAt};
+ghost use Rattle.spelling.specs.Promises.{PutsOne};
 
 // Writes an allele without its mark at the start of the output: `.` or its number.
 fn put_body(a: Allele, out: &mut [u8]) -> Written
@@ -28,8 +30,8 @@ fn mark_byte(phased: bool) -> u8
 
 // Writes an allele, without its mark where it is bare, at the place `at`, and returns the place past it; where it does not
 // fit there, nothing is written and the place is returned.
-pub fn put_allele(a: Allele, bare: bool, out: &mut [u8], at: usize) -> usize
-    ensures { λ r. ⌜ PutsAllele a bare (now (out .entry)) at r (now (out .exit)) ⌝ }
+fn put_allele(a: Allele, bare: bool, out: &mut [u8], at: usize) -> usize
+    ensures { λ r. ⌜ PutsAt (alleleText bare a) at (now (out .entry)) r (now (out .exit)) ⌝ }
 {
     if at > out.len() {
         return at;
@@ -50,5 +52,17 @@ pub fn put_allele(a: Allele, bare: bool, out: &mut [u8], at: usize) -> usize
             body + n
         }
         Written::Short => at,
+    }
+}
+
+// Writes the allele with index k of a list at the place `at`, as planned, and returns the place past it. Nothing is written
+// where it does not fit there, or where the list is refused.
+pub fn put_one(out: &mut [u8], at: usize, a: Allele, plan: Plan, k: usize) -> usize
+    ensures { λ r. ⌜ PutsOne a plan k (now (out .entry)) at r (now (out .exit)) ⌝ }
+{
+    match plan {
+        Plan::Bare(_) => put_allele(a, k == 0, out, at),
+        Plan::Marked(_) => put_allele(a, false, out, at),
+        _ => at,
     }
 }

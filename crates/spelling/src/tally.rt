@@ -3,7 +3,7 @@
 use decimal::print::decimal_len;
 use genotype::allele::Allele;
 ghost use mathlib.Core.Path.{_≡_};
-ghost use Prim.Native.Nat.{_≤_};
+ghost use Prim.Native.Nat.{_-_, _≤_};
 ghost use lib.ListN.{length};
 ghost use Rattle.spelling.specs.Spelling.{bodyText};
 ghost use Rattle.spelling.specs.Permitted.{from44};
@@ -18,16 +18,17 @@ pub struct Tally {
     // The first phasing, and whether each later one is phased.
     pub first: bool,
     pub later: bool,
-    // Whether the spelling fits, its first allele without a mark, and the room left after it.
+    // The room that it began with, whether the spelling fits, its first allele without a mark, and the room left after it.
+    pub room: usize,
     pub fits: bool,
     pub left: usize,
 }
 
 // How a list is to be written.
 pub enum Plan {
-    // The first allele without its mark, or with it.
-    Bare,
-    Marked,
+    // The first allele without its mark, or with it: how many bytes that takes.
+    Bare(usize),
+    Marked(usize),
     // 11: the list is empty.
     Empty,
     // 12: the allele with this index is missing and has a number.
@@ -47,6 +48,7 @@ pub fn begin(room: usize) -> Tally
         bad: 0,
         first: true,
         later: true,
+        room,
         fits: true,
         left: room,
     }
@@ -120,6 +122,16 @@ fn from_44(major: u32, minor: u32) -> bool
     false
 }
 
+// How many bytes of the room are taken, its first allele without a mark.
+fn spent(tally: Tally) -> usize
+    ensures { λ r. ⌜ r ≡ tally .room - tally .left ⌝ }
+{
+    if tally.left > tally.room {
+        return 0;
+    }
+    tally.room - tally.left
+}
+
 // How a list of `count` alleles with this tally is to be written. The first mark takes a byte more.
 pub fn plan_for(tally: Tally, count: usize, major: u32, minor: u32) -> Plan
     ensures { λ r. ⌜ Plans tally count major minor r ⌝ }
@@ -132,7 +144,7 @@ pub fn plan_for(tally: Tally, count: usize, major: u32, minor: u32) -> Plan
     }
     if tally.first == tally.later {
         if tally.fits {
-            return Plan::Bare;
+            return Plan::Bare(spent(tally));
         }
         return Plan::Short;
     }
@@ -141,7 +153,7 @@ pub fn plan_for(tally: Tally, count: usize, major: u32, minor: u32) -> Plan
     }
     if tally.fits {
         if tally.left > 0 {
-            return Plan::Marked;
+            return Plan::Marked(spent(tally) + 1);
         }
     }
     Plan::Short

@@ -1,5 +1,5 @@
 // Writing a list of alleles that comes as three slices of one length.
-use crate::put::put_allele;
+use crate::put::put_one;
 use crate::tally::Plan;
 use crate::tally::Tally;
 use crate::tally::add;
@@ -11,9 +11,9 @@ ghost use Prim.Native.Nat.{_≤_, _<_};
 ghost use lib.ListN.{length};
 ghost use Rattle.genotype.specs.Answers.{Parallel};
 ghost use Rattle.text.specs.Over.{over};
-ghost use Rattle.spelling.specs.Spelling.{listText};
 ghost use Rattle.spelling.specs.Permitted.{from44};
-ghost use Rattle.spelling.specs.Inner.{tallyOf, WritesList};
+ghost use Rattle.spelling.specs.Inner.{tallyOf, plannedText, WritesList};
+ghost use Rattle.spelling.specs.Promises.{Answers};
 ghost use Rattle.spelling.specs.Write.{Small, WritesRow, SmallWhereDone};
 ghost use Rattle.genotype.specs.Row.{alleleAt, rowOf};
 
@@ -63,22 +63,33 @@ fn tally_row(numbers: &[u64], missing: &[u8], phased: &[u8], room: usize) -> Tal
     tally
 }
 
-// Writes the whole list at the start of the output, the first allele bare or not, and returns how many bytes it took.
-fn put_row(numbers: &[u64], missing: &[u8], phased: &[u8], bare: bool, out: &mut [u8]) -> usize
+// Writes the whole list at the start of the output, as planned.
+fn put_row(numbers: &[u64], missing: &[u8], phased: &[u8], plan: Plan, out: &mut [u8])
     requires { ⌜ Parallel (now numbers) (now missing) (now phased) ⌝ }
-    requires { ⌜ length (listText bare (rowOf (now numbers) (now missing) (now phased))) ≤ length (now out) ⌝ }
-    ensures { λ r. ⌜ r ≡ length (listText bare (rowOf (now (numbers .entry)) (now (missing .entry)) (now (phased .entry)))) ⌝ }
-    ensures { λ r. ⌜ now (out .exit) ≡ over (listText bare (rowOf (now (numbers .entry)) (now (missing .entry)) (now (phased .entry)))) (now (out .entry)) ⌝ }
+    requires { ⌜ length (plannedText plan (rowOf (now numbers) (now missing) (now phased))) ≤ length (now out) ⌝ }
+    ensures { λ _. ⌜ now (out .exit) ≡ over (plannedText plan (rowOf (now (numbers .entry)) (now (missing .entry)) (now (phased .entry)))) (now (out .entry)) ⌝ }
 {
     let mut at = 0;
-    let mut lead = bare;
     let mut k = 0;
     while k < numbers.len() {
-        at = put_allele(allele_at(numbers, missing, phased, k), lead, out, at);
-        lead = false;
+        let allele = allele_at(numbers, missing, phased, k);
+        at = put_one(out, at, allele, plan, k);
         k += 1;
     }
-    at
+}
+
+// The answer that a plan gives.
+pub fn answer_of(plan: Plan) -> Write
+    ensures { λ r. ⌜ Answers plan r ⌝ }
+{
+    match plan {
+        Plan::Bare(n) => Write::Done(n),
+        Plan::Marked(n) => Write::Done(n),
+        Plan::Empty => Write::Empty,
+        Plan::Bad(k) => Write::Bad(k),
+        Plan::Phasing => Write::Phasing,
+        Plan::Short => Write::Short,
+    }
 }
 
 // Writes the shortest permitted spelling at the start of the output.
@@ -95,14 +106,9 @@ fn write_rest(
     ensures { λ r. ⌜ Small (now (numbers .entry)) ⌝ }
 {
     let tally = tally_row(numbers, missing, phased, out.len());
-    match plan_for(tally, numbers.len(), major, minor) {
-        Plan::Bare => Write::Done(put_row(numbers, missing, phased, true, out)),
-        Plan::Marked => Write::Done(put_row(numbers, missing, phased, false, out)),
-        Plan::Empty => Write::Empty,
-        Plan::Bad(k) => Write::Bad(k),
-        Plan::Phasing => Write::Phasing,
-        Plan::Short => Write::Short,
-    }
+    let plan = plan_for(tally, numbers.len(), major, minor);
+    put_row(numbers, missing, phased, plan, out);
+    answer_of(plan)
 }
 
 // Writes the shortest spelling that a file format permits, from the place `at` on.

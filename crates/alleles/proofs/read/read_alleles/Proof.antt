@@ -37,8 +37,7 @@ use denote.Triple.Clauses.{ensured, lasts}
 use denote.Triple.Table.{entered, cited}
 use denote.Triple.Walked.{says, Stays, gave-slice, stay-none-slice, walkOf, goes-gave-slice, goes-none-slice, Walks, ends-at, walked, walk-meets}
 use denote.Exit.{yes}
-use Rattle.genotype.specs.Reading.{readingOf}
-use Rattle.genotype.specs.Answers.{readAnswer}
+use Rattle.genotype.specs.Answers.{textAnswer}
 use Rattle.genotype.specs.Paper.{readPaper}
 use Rattle.genotype.specs.declared.allele.Allele.{Allele}
 use Rattle.genotype.specs.declared.read.Read.{Read}
@@ -126,8 +125,8 @@ module _ {M : Type 1} (𝓤 : URA M) (H : Heap 𝓤) (A : Atoms 𝓤) (W : Given
       nothing ! $ move ! (1 ∷ 0 ∷ []) $ join ! $ nothing ! $ owned ! usize (Is usize) (uint-makes 𝓤 H A W w64) n _ (refl, room .0) $ fjoin ! $ move ! (2 ∷ 0 ∷ []) $ fjoin ! $ move ! (1 ∷ 0 ∷ []) $ join ! $ frame ! $ done !
 
   -- of its `ensured`, the clause alone
-  judged : (r : Read) → ent 𝓤 (ensured 𝓤 H A judge.ended (judge.clauses 𝓤 H A mem run) (κ, tt) (x, (n, tt)) tt r) (fact 𝓤 (readPaper r ≡ readAnswer (readingOf ts) n))
-  judged r = exE 𝓤 _ (λ ws. snd∗ 𝓤 (sem 𝓤 H A (lasts judge.ended (κ, tt) (x, (n, tt)) ws)) (fact 𝓤 (readPaper r ≡ readAnswer (readingOf ts) n)))
+  judged : (r : Read) → ent 𝓤 (ensured 𝓤 H A judge.ended (judge.clauses 𝓤 H A mem run) (κ, tt) (x, (n, tt)) tt r) (fact 𝓤 (readPaper r ≡ textAnswer ts n))
+  judged r = exE 𝓤 _ (λ ws. snd∗ 𝓤 (sem 𝓤 H A (lasts judge.ended (κ, tt) (x, (n, tt)) ws)) (fact 𝓤 (readPaper r ≡ textAnswer ts n)))
 
   -- ---- the call of `fill`, where the text was judged
   module _ (r : Read) (gr : Is N.the-row r (N′.lowered r ∷ [])) where
@@ -158,7 +157,7 @@ module _ {M : Type 1} (𝓤 : URA M) (H : Heap 𝓤) (A : Atoms 𝓤) (W : Given
         -- [what the callee asks; what the text owns; what the row owns; a token; true; _6; …; _0; …]
         calls-at ! fm (Judge 𝓤 H A mem run) known-judge to-judge (and-then ! (load ! (from ! (stop !)) (look ! 15 refl)) (and-then ! (load ! (from ! (stop !)) (look ! 9 refl)) (no-more !))) (λ u.
         use1 W (later (some (λ (r : Read). ((‵ (flft κ q) ⊛ ‵ ftrue) ⊛ ‵ (N.the-row .own r (u ∷ []))) ⊛ raw (ensured 𝓤 H A judge.ended (judge.clauses 𝓤 H A mem run) (κ, tt) (x, (n, tt)) tt r)))) (id⊢ 𝓤 _) $ await ! tt $ pick ! (λ r.
-        split ! $ move ! (1 ∷ []) $ use1 W (raw (fact 𝓤 (readPaper r ≡ readAnswer (readingOf ts) n))) (judged r) $ heard ! (readPaper r ≡ readAnswer (readingOf ts) n) (λ h.
+        split ! $ move ! (1 ∷ []) $ use1 W (raw (fact 𝓤 (readPaper r ≡ textAnswer ts n))) (judged r) $ heard ! (readPaper r ≡ textAnswer ts n) (λ h.
         split ! $ move ! (1 ∷ []) $
         peeks ! N.the-row (Is N.the-row) (shows 𝓤 H A N.the-row) r (u ∷ []) (λ is.
         land ! (from ! (stop !)) (init ! 12 refl (EL.lawful N.the-type N′.the-laws 𝓤 H A W tt .typed r _ is .0)) $

@@ -10,6 +10,9 @@ returns c = search (needs, laws)
 returns-2 : tie.Need-returns-2
 returns-2 c = search (needs, laws)
 
+spent-requires : tie.Need-spent-requires
+spent-requires c κs = search (needs, laws)
+
 returns-3 : tie.Need-returns-3
 returns-3 c = search (needs, laws)
 
@@ -21,6 +24,12 @@ from-44-requires c κs = search (needs, laws)
 
 returns-5 : tie.Need-returns-5
 returns-5 c = search (needs, laws)
+
+spent-requires-2 : tie.Need-spent-requires-2
+spent-requires-2 c κs = search (needs, laws)
+
+add-t11 : tie.Need-add-t11
+add-t11 c = search (needs, laws)
 
 returns-6 : tie.Need-returns-6
 returns-6 c = search (needs, laws)
@@ -37,10 +46,13 @@ plan-for-spec =
     (tie.spec
     returns
     returns-2
+    spent-requires
     returns-3
     returns-4
     from-44-requires
     returns-5
+    spent-requires-2
+    add-t11
     returns-6
     returns-7
     returns-8)

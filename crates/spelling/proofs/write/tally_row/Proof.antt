@@ -4,12 +4,13 @@ use Prim.Native.Nat.{_-_}
 use native.Mathlib.Omega.{arith}
 use lib.ListN.{length}
 use borrow.Author.Needs.{needs}
+use Rattle.genotype.specs.Row.{rowOf}
 use Rattle.spelling.proofs.RowLaws.{Tallying, laws}
 use Rattle.spelling.proofs.write.tally_row.Statement.{statement}
 use Rattle.spelling.proofs.write.tally_row.Tie as tie
 
 abbrev Inv-loop : tie.InvT-loop
-Inv-loop numbers missing phased room tally₀ k₀ tally k = Tallying numbers missing phased room tally k
+Inv-loop numbers missing phased room tally₀ k₀ tally k = Tallying (rowOf numbers missing phased) room tally k
 
 abbrev μ-loop : tie.MeasureT-loop
 μ-loop numbers missing phased room tally₀ k₀ tally k = length numbers - k
