@@ -15,7 +15,7 @@ use Rattle.listing.specs.Output.{rowBytes, rowsBytes}
 use Rattle.listing.specs.Turn.{on, gives, turnMove}
 use Rattle.listing.specs.Paper.{rowPaper, turnPaper}
 use Rattle.listing.specs.Demands.{Further, Turns}
-use Rattle.listing.specs.Inner.{Reaches, Known, Lays, has-room, no-room, Counts}
+use Rattle.listing.specs.Inner.{Reaches, Known, Lays, has-room, no-room, Counts, Takes, goes, lays, stays}
 use Rattle.listing.specs.Drive.{turnOf, passed, filled, printed, Steps, here, passes, prints, Stops, misplaced, wants, lacks, ends, Drives}
 use Rattle.listing.specs.declared.turn.Phase.{Phase}
 use Rattle.listing.specs.declared.turn.Row.{Row}
@@ -26,6 +26,8 @@ use Rattle.listing.specs.declared.print.Totals.{Totals}
 use Rattle.listing.specs.declared.drive.State.{State}
 use Rattle.listing.specs.declared.drive.Why.{Why}
 use Rattle.listing.specs.declared.drive.Why.the-variants as W
+use Rattle.listing.specs.declared.drive.Taken.{Taken}
+use Rattle.listing.specs.declared.drive.Taken.the-variants as K
 use Rattle.listing.proofs.Turns.{turns}
 use Rattle.listing.proofs.Runs as runs
 use Rattle.listing.proofs.TurnLaws.{reach-later}
@@ -71,6 +73,49 @@ module _ (last : Bool) (w : List ℕ) (s : State) (h : s .at ≤ length w) where
   unfolding Turns
   print-further {r} {then} {next} e = runs.on-row (turns last (s .phase) w (s .at) h .prints r then next e)
 
+-- ---- one turn
+
+found : (last : Bool) (w : List ℕ) (s : State) (t : Turn) {row : Row} {then : Phase} {next : ℕ} → turnPaper t ≡ turnMove last (s .phase) w (s .at) → t ≡ T.Found row then next
+    → turnOf last w s ≡ gives (rowPaper row) then next
+unfolding turnPaper
+found last w s t m e = sym m ∙ rw e
+
+module _ (last : Bool) (w : List ℕ) (s : State) {l : List ℕ} {t : Turn} (m : turnPaper t ≡ turnMove last (s .phase) w (s .at)) where
+  pub take-beyond : t ≡ T.Beyond → Takes last w s l (K.Stop W.Beyond) l
+  unfolding turnPaper
+  take-beyond e = stays (misplaced (sym m ∙ rw e)) refl
+
+  pub take-more : t ≡ T.More → Takes last w s l (K.Stop W.More) l
+  unfolding turnPaper
+  take-more e = stays (wants (sym m ∙ rw e)) refl
+
+  pub take-end : t ≡ T.End → Takes last w s l (K.Stop W.Done) l
+  unfolding turnPaper
+  take-end e = stays (ends (sym m ∙ rw e)) refl
+
+  pub take-on : {then : Phase} {next : ℕ} → t ≡ T.On then next → Takes last w s l (K.On (passed s then next)) l
+  unfolding turnPaper
+  take-on {then} {next} e = goes {then = then} {next = next} (sym m ∙ rw e) refl
+
+  module _ {row : Row} {then : Phase} {next : ℕ} (e : t ≡ T.Found row then next) {r : Written} {l′ : List ℕ} (v : Lays (s .put) (rowBytes (rowPaper row)) l r l′) where
+    pub take-full : r ≡ Short → Takes last w s l (K.Stop W.Full) l′
+    take-full q = go (rw q at v)
+      where
+        go : Lays (s .put) (rowBytes (rowPaper row)) l Short l′ → Takes last w s l (K.Stop W.Full) l′
+        go (no-room a b) = stays (lacks (found last w s t m e) a) b
+
+    pub take-row : {n : ℕ} {c : Totals} → r ≡ Done n → Counts (s .totals) (rowPaper row) c
+        → Takes last w s l (K.On (record { phase = then; at = next; put = n; totals = c })) l′
+    take-row {n} {c} q o = go (rw q at v)
+      where
+        same : {a : ℕ} {b : Totals} → filled s (rowPaper row) ≡ a → printed s (rowPaper row) then next .totals ≡ b
+            → printed s (rowPaper row) then next ≡ record { phase = then; at = next; put = a; totals = b }
+        same a b = λ i. record { phase = then; at = next; put = a i; totals = b i }
+
+        go : Lays (s .put) (rowBytes (rowPaper row)) l (Done n) l′ → Takes last w s l (K.On (record { phase = then; at = next; put = n; totals = c })) l′
+        go (has-room k a b) =
+            rw (← same (sym k) (ap₂ (λ (n m : ℕ). record { read = n; refused = m }) (sym (o .read)) (sym (o .refused)))) (lays (found last w s t m e) (omega arith) b)
+
 -- ---- the loop
 
 -- from the state s₀ and the bytes l₀ turns have led to s and l; where a line was found to end further on, so does the line there
@@ -94,77 +139,45 @@ module _ {last : Bool} {w : List ℕ} {s₀ s : State} {l₀ l : List ℕ} {x : 
   unfolding turnMove
   go-beyond h = stop (misplaced (rw (lt-ltb (length w) (s .at) h)))
 
-  module _ {t : Turn} (m : turnPaper t ≡ turnMove last (s .phase) w (s .at)) where
-    pub stop-beyond : t ≡ T.Beyond → Drives last w s₀ l₀ (record { why = W.Beyond; state = s }) l
-    unfolding turnPaper
-    stop-beyond e = stop (misplaced (sym m ∙ rw e))
+  module _ {r : Taken} {l′ : List ℕ} (v : Takes last w s l r l′) where
+    pub taken-stops : {why : Why} → r ≡ K.Stop why → Drives last w s₀ l₀ (record { why = why; state = s }) l′
+    taken-stops {why} q = go (rw q at v)
+      where
+        go : Takes last w s l (K.Stop why) l′ → Drives last w s₀ l₀ (record { why = why; state = s }) l′
+        go (stays y e) = rw e (stop y)
 
-    pub stop-more : t ≡ T.More → Drives last w s₀ l₀ (record { why = W.More; state = s }) l
-    unfolding turnPaper
-    stop-more e = stop (wants (sym m ∙ rw e))
+    module _ {e : State} (q : r ≡ K.On e) (h : s .at ≤ length w) where
+      pub taken-less : left w e < left w s
+      taken-less = go (rw q at v)
+        where
+          go : {e : State} → Takes last w s l (K.On e) l′ → left w e < left w s
+          go (goes m b) = runs.lower (pass-further last w s h m)
+          go (lays m f b) = runs.lower (print-further last w s h m)
 
-    pub stop-end : t ≡ T.End → Drives last w s₀ l₀ (record { why = W.Done; state = s }) l
-    unfolding turnPaper
-    stop-end e = stop (ends (sym m ∙ rw e))
-
-    module _ {then : Phase} {next : ℕ} (e : t ≡ T.On then next) (h : s .at ≤ length w) where
-      on-moves : turnOf last w s ≡ on then next
-      unfolding turnPaper
-      on-moves = sym m ∙ rw e
-
-      pub go-on : {y : Reach} → Reaches w (s .at) y → Going last w s₀ l₀ (record { phase = then; at = next; put = s .put; totals = s .totals }) l y
-      go-on {y} k =
-          let f = pass-further last w s h on-moves in
-          record {
-            rows = g .rows;
-            steps = steps-pass (g .steps) on-moves;
-            bytes = g .bytes;
-            len = g .len;
-            known = reach-later w (s .at) y next k (f .from);
-          }
-
-      pub on-less : left w (record { phase = then; at = next; put = s .put; totals = s .totals }) < left w s
-      on-less = runs.lower (pass-further last w s h on-moves)
-
-    module _ {row : Row} {then : Phase} {next : ℕ} (e : t ≡ T.Found row then next) where
-      found : turnOf last w s ≡ gives (rowPaper row) then next
-      unfolding turnPaper
-      found = sym m ∙ rw e
-
-      module _ {r : Written} {l′ : List ℕ} (v : Lays (s .put) (rowBytes (rowPaper row)) l r l′) where
-        pub stop-full : r ≡ Short → Drives last w s₀ l₀ (record { why = W.Full; state = s }) l′
-        stop-full q = go (rw q at v)
-          where
-            go : Lays (s .put) (rowBytes (rowPaper row)) l Short l′ → Drives last w s₀ l₀ (record { why = W.Full; state = s }) l′
-            go (no-room a b) = rw b (stop (lacks found a))
-
-        module _ {n : ℕ} (q : r ≡ Done n) (h : s .at ≤ length w) where
-          pub row-less : (c : Totals) → left w (record { phase = then; at = next; put = n; totals = c }) < left w s
-          row-less c = runs.lower (print-further last w s h found)
-
-          go-row : {y : Reach} → filled s (rowPaper row) ≤ length l → Reaches w (s .at) y
-              → Going last w s₀ l₀ (printed s (rowPaper row) then next) (overAt (s .put) (rowBytes (rowPaper row)) l) y
-          go-row {y} a k =
+      pub taken-goes : {y : Reach} → Reaches w (s .at) y → Going last w s₀ l₀ e l′ y
+      taken-goes {y} k = go (rw q at v)
+        where
+          go : {e : State} → Takes last w s l (K.On e) l′ → Going last w s₀ l₀ e l′ y
+          go (goes {next = next} m b) =
+              let f = pass-further last w s h m in
+              rw b
+              (record {
+                rows = g .rows;
+                steps = steps-pass (g .steps) m;
+                bytes = g .bytes;
+                len = g .len;
+                known = reach-later w (s .at) y next k (f .from);
+              })
+          go (lays {r = a} {next = next} m f b) =
               let p = steps-put (g .steps) in
               let z = g .len in
-              let b : s₀ .put + length (rowsBytes (g .rows)) ≤ length l₀ = omega arith in
-              let f = print-further last w s h found in
-              record {
-                rows = g .rows ++ rowPaper row ∷ [];
-                steps = steps-print (g .steps) found (omega arith);
-                bytes = rw (rows-snoc (g .rows) (rowPaper row), overAt-append (s₀ .put) (rowsBytes (g .rows)) (rowBytes (rowPaper row)) l₀ b, ← g .bytes, p);
-                len = length-overAt (s .put) (rowBytes (rowPaper row)) l a ∙ z;
-                known = reach-later w (s .at) y next k (f .from);
-              }
-
-          pub row-put : {c : Totals} {y : Reach} → Counts (s .totals) (rowPaper row) c → Reaches w (s .at) y
-              → Going last w s₀ l₀ (record { phase = then; at = next; put = n; totals = c }) l′ y
-          row-put {c} {y} o k = go (rw q at v)
-            where
-              same : {a : ℕ} {b : Totals} → filled s (rowPaper row) ≡ a → printed s (rowPaper row) then next .totals ≡ b
-                  → printed s (rowPaper row) then next ≡ record { phase = then; at = next; put = a; totals = b }
-              same a b = λ i. record { phase = then; at = next; put = a i; totals = b i }
-
-              go : Lays (s .put) (rowBytes (rowPaper row)) l (Done n) l′ → Going last w s₀ l₀ (record { phase = then; at = next; put = n; totals = c }) l′ y
-              go (has-room e a b) =
-                  rw (b, ← same (sym e) (ap₂ (λ (n m : ℕ). record { read = n; refused = m }) (sym (o .read)) (sym (o .refused)))) (go-row (omega arith) k)
+              let i : s₀ .put + length (rowsBytes (g .rows)) ≤ length l₀ = omega arith in
+              let n = print-further last w s h m in
+              rw b
+              (record {
+                rows = g .rows ++ a ∷ [];
+                steps = steps-print (g .steps) m (omega arith);
+                bytes = rw (rows-snoc (g .rows) a, overAt-append (s₀ .put) (rowsBytes (g .rows)) (rowBytes a) l₀ i, ← g .bytes, p);
+                len = length-overAt (s .put) (rowBytes a) l f ∙ z;
+                known = reach-later w (s .at) y next k (n .from);
+              })

@@ -25,11 +25,11 @@ pastLine s at = at + sizeOf (lineOf (drop at s))
 -- ---- a line without LF
 
 module _ (u : List ℕ) (f : Free 10 u) where
-  pub size-open : sizeOf (lineOf u) ≡ length u
+  size-open : sizeOf (lineOf u) ≡ length u
   unfolding sizeOf
   size-open = rw (line-end u f, nothing-bytes) (omega arith)
 
-  pub whole-open : (last : Bool) → isWhole last (lineOf u) ≡ last
+  whole-open : (last : Bool) → isWhole last (lineOf u) ≡ last
   unfolding isWhole
   whole-open last = rw (line-end u f)
 
@@ -46,7 +46,7 @@ module _ (t : List ℕ) (f : Free 10 t) where
   unfolding sizeOf
   size-feed rest = rw (line-feed t rest f, fed-line t .is rest) (fed-line t .long)
 
-  pub whole-feed : (rest : List ℕ) (last : Bool) → isWhole last (lineOf (t ++ 10 ∷ rest)) ≡ true
+  whole-feed : (rest : List ℕ) (last : Bool) → isWhole last (lineOf (t ++ 10 ∷ rest)) ≡ true
   whole-feed rest last = rw (line-feed t rest f, fed-line t .is rest) (whole-ended last _ _ rest (fed-line t .some))
 
   columns-feed : (x y : List ℕ) → columnsOf (lineOf (t ++ 10 ∷ x)) ≡ columnsOf (lineOf (t ++ 10 ∷ y))

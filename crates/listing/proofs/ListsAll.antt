@@ -111,7 +111,7 @@ running {s} {base} {end} {last} {st} {b} {l} (D.reads {n = n} {last′ = last′
     q = asked-read a
 
     within : q .to .state .at ≤ end
-    within = at-within end b (q .driven) (q .place .buffer) (q .place .window) (q .place .output)
+    within = at-within end b (q .driven) (q .place .buffer) (q .place .window)
 
     place : base + (end - n) ≡ base + q .to .state .at
     place = let c = q .count in let i = within in omega arith

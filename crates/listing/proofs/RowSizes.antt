@@ -6,7 +6,7 @@ use mathlib.Core.List.{List, [], _∷_}
 use mathlib.Core.Option.{some}
 use native.Mathlib.Omega.{arith}
 use native.Mathlib.Decide.{decLt}
-use lib.ListN.{length, getD, drop, length-append, length-drop, List·getD-eq-default}
+use lib.ListN.{length, getD, drop, length-drop, List·getD-eq-default}
 use Rattle.text.specs.Pick.{pick}
 use Rattle.text.specs.Same.{same}
 use Rattle.text.specs.Answer.{Answer, says, numberOf}
@@ -14,14 +14,14 @@ use Rattle.pieces.specs.Pieces.{split, pieces}
 use Rattle.pieces.proofs.CountLaws.{count-most}
 use Rattle.pieces.proofs.PieceLaws.{split-count, pieces-none, pieces-some}
 use Rattle.pieces.proofs.NumberLaws.{piece-within}
-use Rattle.decimal.specs.Shortest.{shortest}
 use Rattle.decimal.proofs.Shortest.{length-20}
 use Rattle.info.specs.Info.{infoCount}
 use Rattle.info.proofs.Counts.{count-pieces}
 use Rattle.line.specs.Line.{Line, line}
 use Rattle.line.specs.Place.{columnOf}
-use Rattle.listing.specs.Output.{numbers, rowBytes, totalBytes}
+use Rattle.listing.specs.Output.{rowBytes, totalBytes}
 use Rattle.listing.specs.Listing.{sizeOf, columnsOf, infosOf, infosIn, countsOf, rowOf}
+use Rattle.listing.proofs.PrintLaws.{read-size, refused-size, total-size}
 
 -- ---- pieces
 
@@ -56,25 +56,17 @@ infos-few t = by (same (getD (split 9 t) 7 []) (46 ∷ []))
     by true = omega (arith, few [])
     by false = omega (arith, few (getD (split 9 t) 7 []), piece-short 9 t 6)
 
--- ---- numbers
-
-numbers-few : (n : ℕ) (ns : List ℕ) → n < 2 ^ 64 → length (numbers (n ∷ ns)) ≤ 21 + length (numbers ns)
-unfolding numbers
-numbers-few n ns h = omega (arith, length-20 n h, length-append (shortest n) (numbers ns))
+-- ---- lines with such numbers
 
 read-few : (a b c : ℕ) → a < 2 ^ 64 → b < 2 ^ 64 → c < 2 ^ 64 → length (rowBytes (says 0 (a ∷ b ∷ c ∷ []))) ≤ 96
-unfolding rowBytes numbers
-read-few a b c p q r =
-    omega (arith, numbers-few a (b ∷ c ∷ []) p, numbers-few b (c ∷ []) q, numbers-few c [] r, length-append (numbers (a ∷ b ∷ c ∷ [])) (10 ∷ []))
+read-few a b c p q r = omega (arith, read-size a b c, length-20 a p, length-20 b q, length-20 c r)
 
 pub refused-few : (n : ℕ) (vs : List ℕ) → suc n < 2 ^ 64 → length (rowBytes (says (suc n) vs)) ≤ 96
-unfolding rowBytes numbers
-refused-few n vs h = omega (arith, numbers-few (suc n) [] h, length-append (numbers (suc n ∷ [])) (10 ∷ []))
+refused-few n vs h = omega (arith, refused-size n vs, length-20 (suc n) h)
 
 -- the last line has no more either
 pub total-few : (a b : ℕ) → a < 2 ^ 64 → b < 2 ^ 64 → length (totalBytes a b) ≤ 96
-unfolding totalBytes numbers
-total-few a b p q = simp length-append (omega (arith, length-20 a p, length-20 b q))
+total-few a b p q = omega (arith, total-size a b, length-20 a p, length-20 b q)
 
 -- ---- a row
 

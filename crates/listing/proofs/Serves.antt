@@ -30,7 +30,7 @@ use Rattle.listing.proofs.PrintLaws.{take-laid}
 use Rattle.listing.proofs.DriveLaws.{left, pass-further, print-further}
 use Rattle.listing.proofs.Told.{Onward, drive-counted, drive-room, drive-size, drive-onward, drive-inside, drive-asks, drive-full}
 use Rattle.listing.proofs.RowSizes.{total-few}
-use Rattle.listing.proofs.AskLaws.{asked}
+use Rattle.listing.proofs.AskLaws.{asked, wanted}
 use Rattle.listing.proofs.ListsAll.{read-on}
 
 -- ---- every state has an answer
@@ -193,7 +193,7 @@ module _ (s : List ℕ) (p : Stand) (y : Ready s p) (f g : ℕ) (k : Marked p f 
 
     does : {r : Ask} {b′ l″ : List ℕ} {why : Why} → d .why ≡ why → Wants (p .end) (d .state) (p .buffer) m r b′ l″ why
         → Asks (p .last) (p .end) (p .state) (p .buffer) (p .out) r b′ l″
-    does = asked (p .end) (p .buffer) x (y .place .buffer) (y .place .window) (y .place .output)
+    does e z = asked (p .end) (p .buffer) x (y .place .buffer) (y .place .window) (y .place .output) (wanted e z)
 
     after-read : d .why ≡ W.More → From s p
     after-read e =

@@ -1,4 +1,4 @@
--- The line at a place is told by the first LF from there on; each way through a turn is then the definition's clause. Assumes nothing.
+-- The line at a place is the one that is found there; each way through a turn is then the definition's clause. Assumes nothing.
 use Prim.Native.Nat.{ℕ, _+_, _-_, _<_, _≤_}
 use mathlib.Core.Path.{_≡_, refl, sym, ap, _∙_}
 use mathlib.Core.Bool.{Bool, true, false, _||_}
@@ -10,26 +10,23 @@ use lib.Dec.{ltb}
 use borrow.Author.Tests.{lt-ltb, le-ltb, eq-eqb, ne-eqb}
 use Rattle.text.specs.Pick.{pick}
 use Rattle.text.specs.Answer.{says}
-use Rattle.text.specs.Range.{cut}
-use Rattle.text.specs.declared.range.Range.{Range}
-use Rattle.text.proofs.Lists.{here, cut-length}
-use Rattle.pieces.specs.Inner.{pastQuiet}
-use Rattle.pieces.specs.Pieces.{split, stepAnswer}
+use Rattle.text.proofs.Lists.{here}
 use Rattle.pieces.specs.Demands.{Free}
-use Rattle.pieces.specs.Paper.{stepPaper}
-use Rattle.pieces.specs.declared.step.Step.{Step}
-use Rattle.pieces.specs.declared.step.Step.the-variants as S
-use Rattle.pieces.proofs.BlockLaws.{past-quiet}
-use Rattle.pieces.proofs.PieceLaws.{free-nil, free-left, split-nil, first-free, one-text, more-text}
-use Rattle.pieces.proofs.StepLaws.{Further, step-tells, further-fits}
-use Rattle.line.proofs.ReadLaws.{part-free}
-use Rattle.line.proofs.LineLaws.{AtFeed, none, one, at-feed}
+use Rattle.pieces.proofs.PieceLaws.{free-left}
 use Rattle.line.specs.Line.{nothing, feed, return-feed, Line, line, lineOf, readAnswer}
+use Rattle.line.specs.Paper.{endingOf}
+use Rattle.line.specs.Promises.{FindsLine}
+use Rattle.line.specs.declared.ending.Ending.{Ending}
+use Rattle.line.specs.declared.ending.Ending.the-variants as E
+use Rattle.line.specs.declared.extent.Lined.{Lined}
+use Rattle.line.specs.declared.extent.Lined.the-variants as L
+use Rattle.line.proofs.LineLaws.{AtFeed, none, one, at-feed}
+use Rattle.line.proofs.Extents.{found, beyond}
 use Rattle.listing.specs.Listing.{sizeOf, longest, beginsHash}
 use Rattle.listing.specs.Turn.{isWhole, passMove, leadMove, readMove, lineMove, phaseMove, turnMove, gives}
 use Rattle.listing.specs.Paper.{refusalNumber, rowPaper, turnPaper}
 use Rattle.listing.specs.Inner.{Ends, Reaches, Known}
-use Rattle.listing.proofs.LineLaws.{pastLine, size-open, whole-open, size-feed, whole-feed, size-after, whole-after}
+use Rattle.listing.proofs.LineLaws.{pastLine, size-feed, size-after, whole-after}
 use Rattle.listing.specs.declared.turn.Phase.{Phase}
 use Rattle.listing.specs.declared.turn.Phase.the-variants as P
 use Rattle.listing.specs.declared.turn.Reach.{Reach}
@@ -40,15 +37,27 @@ use Rattle.listing.specs.declared.turn.Turn.the-variants as T
 
 -- ---- where a line ends
 
--- no LF from the place on
-open-ends : {w : List ℕ} {at : ℕ} → at ≤ length w → Free 10 (drop at w) → Ends w at (length w) false
-open-ends {w} {at} h f =
-    record { size = omega (arith, size-open (drop at w) f, length-drop at w); within = omega arith; whole = whole-open (drop at w) f false }
+module _ (w : List ℕ) (at : ℕ) {x : Lined} (f : FindsLine w at x) where
+  found-ends : {end next : ℕ} {e : Ending} {fed : Bool} → x ≡ L.At end e next → ((t rest : List ℕ) → isWhole false (line t (endingOf e) rest) ≡ fed) → Ends w at next fed
+  unfolding sizeOf
+  found-ends q k =
+      let g = found w at f q in
+      record { size = rw (g .is) (omega (arith, g .past)); within = g .within; whole = rw (g .is) (k (g .text) (g .rest)) }
 
--- the first LF stands behind a text
-fed-ends : {w : List ℕ} {at : ℕ} (t rest : List ℕ) {next : ℕ} → Free 10 t → drop at w ≡ t ++ 10 ∷ rest → next ≡ at + length t + 1 → next ≤ length w → Ends w at next true
-fed-ends t rest f e n h =
-    record { size = rw e (omega (arith, size-feed t f rest)); within = h; whole = rw e (whole-feed t f rest false) }
+  pub reach-open : {end next : ℕ} {e : Ending} → x ≡ L.At end e next → e ≡ E.Nothing → Reaches w at (record { end = next; fed = false })
+  unfolding isWhole
+  reach-open q z = found-ends q (λ t rest. rw z)
+
+  pub reach-feed : {end next : ℕ} {e : Ending} → x ≡ L.At end e next → e ≡ E.Feed → Reaches w at (record { end = next; fed = true })
+  unfolding isWhole
+  reach-feed q z = found-ends q (λ t rest. rw z)
+
+  pub reach-return : {end next : ℕ} {e : Ending} → x ≡ L.At end e next → e ≡ E.ReturnFeed → Reaches w at (record { end = next; fed = true })
+  unfolding isWhole
+  reach-return q z = found-ends q (λ t rest. rw z)
+
+  pub reach-beyond : at ≤ length w → x ≡ L.Beyond → Reaches w at (record { end = at; fed = false })
+  reach-beyond h q = absurd (let l = beyond w at f q in omega arith)
 
 -- where no LF stands between two places, the lines at both end alike
 module _ (w : List ℕ) (from at : ℕ) (h : from ≤ at) (l : at ≤ length w) (f : Free 10 (take (at - from) (drop from w))) where
@@ -66,48 +75,8 @@ module _ (w : List ℕ) (from at : ℕ) (h : from ≤ at) (l : at ≤ length w) 
   whole-same : isWhole false (lineOf (drop from w)) ≡ isWhole false (lineOf (drop at w))
   whole-same = ap (λ (u : List ℕ). isWhole false (lineOf u)) parted ∙ whole-after false (take (at - from) (drop from w)) (drop at w) f
 
-  ends-earlier : {next : ℕ} {fed : Bool} → Ends w at next fed → Ends w from next fed
-  ends-earlier e = record { size = e .size ∙ sym past-same; within = e .within; whole = whole-same ∙ e .whole }
-
   ends-later : {next : ℕ} {fed : Bool} → Ends w from next fed → Ends w at next fed
   ends-later e = record { size = e .size ∙ past-same; within = e .within; whole = sym whole-same ∙ e .whole }
-
--- what is found past quiet blocks
-module _ (w : List ℕ) (at : ℕ) {from : ℕ} (q : from ≡ pastQuiet 10 10 w at) (h : at ≤ length w) where
-  inside : from ≤ length w
-  inside = past-quiet h q .within
-
-  found-past : {next : ℕ} {fed : Bool} → Ends w from next fed → Ends w at next fed
-  found-past =
-      let c = past-quiet h q in
-      ends-earlier w at from (c .after) (c .within) (part-free w 10 at from (c .after) (c .within) (c .no-first))
-
-module _ (w : List ℕ) (at : ℕ) {from : ℕ} (q : from ≡ pastQuiet 10 10 w at) (h : at ≤ length w) {x : Step} (e : stepPaper x ≡ stepAnswer 10 w from) where
-  pub reach-more : {r : Range} {next : ℕ} → x ≡ S.More r next → Reaches w at (record { end = next; fed = true })
-  reach-more {r} {next} z = found-past w at q h (by (step-tells 10 w from (S.More r next) (rw z at e)))
-    where
-      by : Further 10 w from r next → Ends w from next true
-      by f = behind (split 10 (drop next w)) (f .pieces) refl
-        where
-          behind : (ps : List (List ℕ)) → split 10 (drop from w) ≡ cut r w ∷ ps → split 10 (drop next w) ≡ ps → Ends w from next true
-          behind [] s z = absurd (split-nil 10 _ z)
-          behind (p ∷ ps) s z =
-              let l = cut-length r w (further-fits f) in
-              let b = f .past in
-              fed-ends (cut r w) _ (first-free 10 (drop from w) s) (more-text 10 (drop from w) s) (omega arith) (f .within)
-
-  pub reach-last : {r : Range} → x ≡ S.Last r → Reaches w at (record { end = length w; fed = false })
-  reach-last {r} z =
-      let p = step-tells 10 w from (S.Last r) (rw z at e) .pieces in
-      found-past w at q h (open-ends (inside w at q h) (rw (one-text 10 p) (first-free 10 (drop from w) p)))
-
-  pub reach-nothing : x ≡ S.Nothing → Reaches w at (record { end = length w; fed = false })
-  reach-nothing z =
-      let n = step-tells 10 w from S.Nothing (rw z at e) in
-      open-ends h (rw (drop-of-length-le w {i = at} (omega arith)) free-nil)
-
-  pub reach-beyond : x ≡ S.Beyond → Reaches w at (record { end = length w; fed = false })
-  reach-beyond z = absurd (let l = step-tells 10 w from S.Beyond (rw z at e) in omega (arith, inside w at q h))
 
 -- no LF stands in a line before its end
 free-before : {w : List ℕ} {from next : ℕ} {fed : Bool} (at : ℕ) → Ends w from next fed → from ≤ at → at < next → Free 10 (take (at - from) (drop from w))
@@ -236,4 +205,4 @@ module _ (last : Bool) (w : List ℕ) (at : ℕ) {phase : Phase} (r : Turn) (h :
   turn-rest q e = rw (le-ltb (length w) at h, q) e
 
 pub ruleset laws =
-    (reach-known, reach-more, reach-last, reach-nothing, reach-beyond, whole-fed, whole-last, pass-whole, pass-none, pass-some, end-after, read-long, read-line, read-more, lead-last, lead-none, lead-hash, lead-other, long-whole, long-open, turn-lead, turn-comment, turn-lines, turn-rest)
+    (reach-known, whole-fed, whole-last, pass-whole, pass-none, pass-some, end-after, read-long, read-line, read-more, lead-last, lead-none, lead-hash, lead-other, long-whole, long-open, turn-lead, turn-comment, turn-lines, turn-rest)

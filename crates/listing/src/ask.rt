@@ -1,4 +1,5 @@
 // What a program that lists is to do next: all that is left to it is to read and to write.
+use crate::drive::Driven;
 use crate::drive::State;
 use crate::drive::Why;
 use crate::drive::drive;
@@ -6,7 +7,8 @@ use crate::keep::keep_rest;
 use crate::print::print_totals;
 use text::copy::Written;
 ghost use mathlib.Core.Path.{_≡_};
-ghost use Rattle.listing.specs.Ask.{writtenOut, Asks};
+ghost use Rattle.listing.specs.Inner.{Stopped};
+ghost use Rattle.listing.specs.Ask.{atFront, writtenOut, Wants, Asks};
 
 // What is to be done.
 pub enum Ask {
@@ -21,17 +23,43 @@ pub enum Ask {
 }
 
 // After the output was written out.
-fn written_out(state: State) -> State
+fn written_out(mut state: State) -> State
     ensures { λ r. ⌜ r ≡ writtenOut state ⌝ }
 {
-    let phase = state.phase;
-    let at = state.at;
-    let totals = state.totals;
-    State {
-        phase,
-        at,
-        put: 0,
-        totals,
+    state.put = 0;
+    state
+}
+
+// At the start of another window.
+fn at_front(mut state: State) -> State
+    ensures { λ r. ⌜ r ≡ atFront state ⌝ }
+{
+    state.at = 0;
+    state
+}
+
+// What is asked for where the turns stop.
+fn ask_where(driven: Driven, buffer: &mut [u8], end: usize, out: &mut [u8]) -> Ask
+    requires { ⌜ Stopped end driven (now buffer) ⌝ }
+    ensures { λ r. ⌜ Wants end (driven .state) (now (buffer .entry)) (now (out .entry)) r (now (buffer .exit)) (now (out .exit)) (driven .why) ⌝ }
+{
+    let why = driven.why;
+    let state = driven.state;
+    let put = state.put;
+    match why {
+        Why::Beyond => Ask::Beyond,
+        Why::More => {
+            let kept = keep_rest(buffer, state.at, end);
+            Ask::Read(kept, at_front(state))
+        }
+        Why::Full => Ask::Write(put, written_out(state)),
+        Why::Done => {
+            let totals = state.totals;
+            match print_totals(totals, out, put) {
+                Written::Done(len) => Ask::Last(len),
+                Written::Short => Ask::Write(put, written_out(state)),
+            }
+        }
     }
 }
 
@@ -49,32 +77,5 @@ pub fn ask_next(buffer: &mut [u8], end: usize, last: bool, state: State, out: &m
         return Ask::Beyond;
     }
     let driven = drive(&buffer[..end], last, state, out);
-    let why = driven.why;
-    let now = driven.state;
-    let put = now.put;
-    let totals = now.totals;
-    match why {
-        Why::Beyond => Ask::Beyond,
-        Why::More => {
-            let phase = now.phase;
-            let kept = keep_rest(buffer, now.at, end);
-            Ask::Read(
-                kept,
-                State {
-                    phase,
-                    at: 0,
-                    put,
-                    totals,
-                },
-            )
-        }
-        Why::Full => Ask::Write(put, written_out(now)),
-        Why::Done => {
-            let printed = print_totals(totals, out, put);
-            match printed {
-                Written::Done(len) => Ask::Last(len),
-                Written::Short => Ask::Write(put, written_out(now)),
-            }
-        }
-    }
+    ask_where(driven, buffer, end, out)
 }

@@ -10,7 +10,7 @@ use crate::turn::turn_at;
 use text::copy::Written;
 ghost use Prim.Native.Nat.{_≤_};
 ghost use lib.ListN.{length};
-ghost use Rattle.listing.specs.Inner.{Reaches, Known};
+ghost use Rattle.listing.specs.Inner.{Reaches, Known, Takes};
 ghost use Rattle.listing.specs.Drive.{Drives};
 ghost use Rattle.listing.specs.Promises.{BeginsListing};
 
@@ -67,6 +67,44 @@ fn reach_at(w: &[u8], at: usize, reach: Reach) -> Reach
     reach_from(w, at)
 }
 
+// What one turn comes to: the next state, or why no turn is taken.
+enum Taken {
+    On(State),
+    Stop(Why),
+}
+
+// Takes one turn from a state, and puts its row into the output behind what that holds.
+fn take_turn(w: &[u8], last: bool, state: State, reach: Reach, out: &mut [u8]) -> Taken
+    requires { ⌜ state .at ≤ length (now w) ⌝ }
+    requires { ⌜ Reaches (now w) (state .at) reach ⌝ }
+    ensures { λ r. ⌜ Takes last (now (w .entry)) state (now (out .entry)) r (now (out .exit)) ⌝ }
+{
+    let phase = state.phase;
+    let put = state.put;
+    let totals = state.totals;
+    let turn = turn_at(w, last, phase, state.at, reach);
+    match turn {
+        Turn::Beyond => Taken::Stop(Why::Beyond),
+        Turn::More => Taken::Stop(Why::More),
+        Turn::End => Taken::Stop(Why::Done),
+        Turn::On(then, next) => Taken::On(State {
+            phase: then,
+            at: next,
+            put,
+            totals,
+        }),
+        Turn::Found(row, then, next) => match print_row(row, out, put) {
+            Written::Done(len) => Taken::On(State {
+                phase: then,
+                at: next,
+                put: len,
+                totals: count_row(totals, row),
+            }),
+            Written::Short => Taken::Stop(Why::Full),
+        },
+    }
+}
+
 // Takes turns over a window from a state on, and puts their rows into the output behind what it holds, until the window is used
 // up, the output has no room for the next row, or the input ends. `last` says that the window is all that is left of the input.
 pub fn drive(w: &[u8], last: bool, state: State, out: &mut [u8]) -> Driven
@@ -75,64 +113,20 @@ pub fn drive(w: &[u8], last: bool, state: State, out: &mut [u8]) -> Driven
     let mut now = state;
     let mut reach = Reach { end: 0, fed: false };
     loop {
-        let phase = now.phase;
-        let at = now.at;
-        let put = now.put;
-        let totals = now.totals;
-        if at > w.len() {
+        if now.at > w.len() {
             return Driven {
                 why: Why::Beyond,
                 state: now,
             };
         }
-        reach = reach_at(w, at, reach);
-        let turn = turn_at(w, last, phase, at, reach);
-        match turn {
-            Turn::Beyond => {
-                return Driven {
-                    why: Why::Beyond,
-                    state: now,
-                };
+        reach = reach_at(w, now.at, reach);
+        let taken = take_turn(w, last, now, reach, out);
+        match taken {
+            Taken::On(next) => {
+                now = next;
             }
-            Turn::More => {
-                return Driven {
-                    why: Why::More,
-                    state: now,
-                };
-            }
-            Turn::End => {
-                return Driven {
-                    why: Why::Done,
-                    state: now,
-                };
-            }
-            Turn::On(then, next) => {
-                now = State {
-                    phase: then,
-                    at: next,
-                    put,
-                    totals,
-                };
-                continue;
-            }
-            Turn::Found(row, then, next) => {
-                let printed = print_row(row, out, put);
-                match printed {
-                    Written::Done(len) => {
-                        now = State {
-                            phase: then,
-                            at: next,
-                            put: len,
-                            totals: count_row(totals, row),
-                        };
-                    }
-                    Written::Short => {
-                        return Driven {
-                            why: Why::Full,
-                            state: now,
-                        };
-                    }
-                }
+            Taken::Stop(why) => {
+                return Driven { why, state: now };
             }
         }
     }

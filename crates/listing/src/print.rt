@@ -1,17 +1,18 @@
 // The lines that vcflist prints, and what its last line counts.
 use crate::turn::Refusal;
 use crate::turn::Row;
+use decimal::print::decimal_len;
 use decimal::print::print_decimal;
 use text::copy::Written;
 use text::copy::copy;
 ghost use mathlib.Core.Path.{_≡_};
-ghost use Prim.Native.Nat.{_≤_, _+_};
+ghost use Prim.Native.Nat.{_≤_, _+_, _-_};
 ghost use lib.ListN.{length};
 ghost use mathlib.Core.List.{[], _∷_};
 ghost use Rattle.text.specs.Answer.{says};
-ghost use Rattle.listing.specs.Output.{numbers, rowBytes, totalBytes, oneMore};
+ghost use Rattle.listing.specs.Output.{rowBytes, totalBytes, oneMore};
 ghost use Rattle.listing.specs.Paper.{refusalNumber, rowPaper};
-ghost use Rattle.listing.specs.Inner.{Put, Lays, Counts};
+ghost use Rattle.listing.specs.Inner.{spaced, Put, Sizes, Lays, Counts};
 
 // How many lines were read, and how many refused.
 pub struct Totals {
@@ -19,45 +20,43 @@ pub struct Totals {
     pub refused: u64,
 }
 
-// Puts bytes into a line behind its first `at`, and answers how many there are then.
-fn put(line: &mut [u8], at: usize, s: &[u8]) -> usize
-    requires { ⌜ at + length (now s) ≤ length (now line) ⌝ }
-    ensures { λ r. ⌜ Put at (now (s .entry)) (now (line .entry)) r (now (line .exit)) ⌝ }
+// Puts bytes into the output from a place on, and answers the place behind them.
+fn put(out: &mut [u8], at: usize, s: &[u8]) -> usize
+    requires { ⌜ at + length (now s) ≤ length (now out) ⌝ }
+    ensures { λ r. ⌜ Put at (now (s .entry)) (now (out .entry)) r (now (out .exit)) ⌝ }
 {
-    let mut i = 0;
-    while i < s.len() {
-        line[at + i] = s[i];
-        i += 1;
-    }
-    at + i
+    copy(s, &mut out[at..]);
+    at + s.len()
 }
 
-// Puts a space and a number, of which none has more than 20 digits.
-fn put_number(line: &mut [u8], at: usize, n: u64) -> usize
-    requires { ⌜ at + 21 ≤ length (now line) ⌝ }
-    ensures { λ r. ⌜ Put at (numbers (n ∷ [])) (now (line .entry)) r (now (line .exit)) ⌝ }
-    ensures { λ r. ⌜ r ≤ at + 21 ⌝ }
+// Puts a space and a number.
+fn put_number(out: &mut [u8], at: usize, n: u64) -> usize
+    requires { ⌜ at + length (spaced n) ≤ length (now out) ⌝ }
+    ensures { λ r. ⌜ Put at (spaced n) (now (out .entry)) r (now (out .exit)) ⌝ }
 {
-    let written = print_decimal(n, &mut line[at + 1..]);
-    line[at] = b' ';
+    let written = print_decimal(n, &mut out[at + 1..]);
+    out[at] = b' ';
     match written {
         Written::Done(len) => at + 1 + len,
         Written::Short => at,
     }
 }
 
-// Lays a line behind the first `at` bytes of the output, and answers how many it holds then.
-fn lay(line: &[u8], out: &mut [u8], at: usize) -> Written
-    ensures { λ r. ⌜ Lays at (now (line .entry)) (now (out .entry)) r (now (out .exit)) ⌝ }
+// How many bytes a space and a number are.
+fn number_size(n: u64) -> usize
+    ensures { λ r. ⌜ Sizes n r ⌝ }
 {
-    if at > out.len() {
-        return Written::Short;
+    1 + decimal_len(n)
+}
+
+// How many bytes an output of `len` has behind its first `at`.
+fn room_behind(len: usize, at: usize) -> usize
+    ensures { λ r. ⌜ r ≡ len - at ⌝ }
+{
+    if at > len {
+        return 0;
     }
-    let written = copy(line, &mut out[at..]);
-    match written {
-        Written::Done(len) => Written::Done(at + len),
-        Written::Short => Written::Short,
-    }
+    len - at
 }
 
 // The number of a refusal.
@@ -76,24 +75,28 @@ fn number_of(why: Refusal) -> u64
 fn print_read(columns: u64, infos: u64, samples: u64, out: &mut [u8], at: usize) -> Written
     ensures { λ r. ⌜ Lays at (rowBytes (says 0 (columns ∷ infos ∷ samples ∷ []))) (now (out .entry)) r (now (out .exit)) ⌝ }
 {
-    let mut line = [0u8; 96];
-    let word = put(&mut line, 0, b"ok");
-    let first = put_number(&mut line, word, columns);
-    let second = put_number(&mut line, first, infos);
-    let third = put_number(&mut line, second, samples);
-    let end = put(&mut line, third, b"\n");
-    lay(&line[..end], out, at)
+    let size = 3 + number_size(columns) + number_size(infos) + number_size(samples);
+    if size > room_behind(out.len(), at) {
+        return Written::Short;
+    }
+    let word = put(out, at, b"ok");
+    let first = put_number(out, word, columns);
+    let second = put_number(out, first, infos);
+    let third = put_number(out, second, samples);
+    Written::Done(put(out, third, b"\n"))
 }
 
 fn print_refused(number: u64, out: &mut [u8], at: usize) -> Written
     requires { ⌜ 1 ≤ number ⌝ }
     ensures { λ r. ⌜ Lays at (rowBytes (says number [])) (now (out .entry)) r (now (out .exit)) ⌝ }
 {
-    let mut line = [0u8; 96];
-    let word = put(&mut line, 0, b"refused");
-    let last = put_number(&mut line, word, number);
-    let end = put(&mut line, last, b"\n");
-    lay(&line[..end], out, at)
+    let size = 8 + number_size(number);
+    if size > room_behind(out.len(), at) {
+        return Written::Short;
+    }
+    let word = put(out, at, b"refused");
+    let last = put_number(out, word, number);
+    Written::Done(put(out, last, b"\n"))
 }
 
 // Prints a row behind the first `at` bytes of the output.
@@ -114,13 +117,15 @@ pub(crate) fn print_totals(totals: Totals, out: &mut [u8], at: usize) -> Written
 {
     let read = totals.read;
     let refused = totals.refused;
-    let mut line = [0u8; 96];
-    let first = put(&mut line, 0, b"read");
-    let second = put_number(&mut line, first, read);
-    let third = put(&mut line, second, b" refused");
-    let last = put_number(&mut line, third, refused);
-    let end = put(&mut line, last, b"\n");
-    lay(&line[..end], out, at)
+    let size = 13 + number_size(read) + number_size(refused);
+    if size > room_behind(out.len(), at) {
+        return Written::Short;
+    }
+    let first = put(out, at, b"read");
+    let second = put_number(out, first, read);
+    let third = put(out, second, b" refused");
+    let last = put_number(out, third, refused);
+    Written::Done(put(out, last, b"\n"))
 }
 
 // One more, where 64 bits hold it.

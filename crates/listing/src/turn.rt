@@ -2,14 +2,14 @@
 use fields::field::Text;
 use fields::field::field;
 use info::count::count as count_infos;
+use line::ending::Ending;
+use line::extent::Lined;
+use line::extent::line_at;
 use line::place::Name;
 use line::place::place_of;
 use line::read::Read;
 use line::read::Record;
 use line::read::read_line;
-use pieces::block::past_quiet;
-use pieces::step::Step;
-use pieces::step::piece_at;
 use samples::columns::count as count_samples;
 ghost use mathlib.Core.Path.{_≡_};
 ghost use mathlib.Core.Bool.{_||_};
@@ -80,25 +80,19 @@ pub(crate) struct Reach {
     pub(crate) fed: bool,
 }
 
-// Looks for the line's LF, by blocks of 32 bytes first, since few lines are shorter.
+// Looks for the line's end.
 pub(crate) fn reach_from(w: &[u8], at: usize) -> Reach
     requires { ⌜ at ≤ length (now w) ⌝ }
     ensures { λ r. ⌜ Reaches (now (w .entry)) at r ⌝ }
 {
-    let from = past_quiet(w, b'\n', b'\n', at);
-    let found = piece_at(w, b'\n', from);
-    match found {
-        Step::More(_, end) => Reach { end, fed: true },
-        Step::Last(_) => Reach {
-            end: w.len(),
-            fed: false,
+    match line_at(w, at) {
+        Lined::At(_, ending, end) => match ending {
+            Ending::Nothing => Reach { end, fed: false },
+            Ending::Feed => Reach { end, fed: true },
+            Ending::ReturnFeed => Reach { end, fed: true },
         },
-        Step::Nothing => Reach {
-            end: w.len(),
-            fed: false,
-        },
-        Step::Beyond => Reach {
-            end: w.len(),
+        Lined::Beyond => Reach {
+            end: at,
             fed: false,
         },
     }

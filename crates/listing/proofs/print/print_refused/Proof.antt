@@ -1,62 +1,54 @@
--- `listing::print::print_refused` meets its contract: the line is the pieces put one behind the other, and is laid whole. Assumes nothing.
-use Rattle.listing.proofs.PrintLaws.{line-laws}
+-- `listing::print::print_refused` meets its contract: the pieces are put one behind the other, where there is room for all. Assumes nothing.
+use Rattle.listing.proofs.PrintLaws.{refused-lacks, refused-line}
 use borrow.Author.Needs.{needs}
 use Rattle.listing.proofs.print.print_refused.Statement.{statement}
 use Rattle.listing.proofs.print.print_refused.Tie as tie
 
-slice-aggregate-put : tie.Need-slice-aggregate-put
-slice-aggregate-put c = search (needs, line-laws)
+number-size-requires : tie.Need-number-size-requires
+number-size-requires c κs = search needs
 
-slice-aggregate-put-2 : tie.Need-slice-aggregate-put-2
-slice-aggregate-put-2 c = search (needs, line-laws)
+add-size : tie.Need-add-size
+add-size c = search needs
 
-put-requires : tie.Need-put-requires
-put-requires c κs = search (needs, line-laws)
-
-slice-aggregate-put-number : tie.Need-slice-aggregate-put-number
-slice-aggregate-put-number c = search (needs, line-laws)
-
-put-number-requires : tie.Need-put-number-requires
-put-number-requires c κs = search (needs, line-laws)
-
-slice-aggregate-put-3 : tie.Need-slice-aggregate-put-3
-slice-aggregate-put-3 c = search (needs, line-laws)
-
-slice-aggregate-put-4 : tie.Need-slice-aggregate-put-4
-slice-aggregate-put-4 c = search (needs, line-laws)
-
-put-requires-2 : tie.Need-put-requires-2
-put-requires-2 c κs = search (needs, line-laws)
-
-array-share-prefix-line : tie.Need-array-share-prefix-line
-array-share-prefix-line c = search (needs, line-laws)
-
-slice-aggregate-lay : tie.Need-slice-aggregate-lay
-slice-aggregate-lay c = search (needs, line-laws)
-
-lay-requires : tie.Need-lay-requires
-lay-requires c κs = search (needs, line-laws)
-
-same-length : tie.Need-same-length
-same-length c = search (needs, line-laws)
+room-behind-requires : tie.Need-room-behind-requires
+room-behind-requires c κs = search needs
 
 returns : tie.Need-returns
-returns c = search (needs, line-laws)
+returns c = search (needs, refused-lacks)
+
+slice-aggregate-put : tie.Need-slice-aggregate-put
+slice-aggregate-put c = search needs
+
+put-requires : tie.Need-put-requires
+put-requires c κs = search needs
+
+put-number-requires : tie.Need-put-number-requires
+put-number-requires c κs = search needs
+
+slice-aggregate-put-2 : tie.Need-slice-aggregate-put-2
+slice-aggregate-put-2 c = search needs
+
+put-requires-2 : tie.Need-put-requires-2
+put-requires-2 c κs = search needs
+
+same-length : tie.Need-same-length
+same-length c = search needs
+
+returns-2 : tie.Need-returns-2
+returns-2 c = search (needs, refused-line)
 
 pub print-refused-spec : {M : Type 1} → statement M
 print-refused-spec =
     tie.close
     (tie.spec
+    number-size-requires
+    add-size
+    room-behind-requires
+    returns
     slice-aggregate-put
-    slice-aggregate-put-2
     put-requires
-    slice-aggregate-put-number
     put-number-requires
-    slice-aggregate-put-3
-    slice-aggregate-put-4
+    slice-aggregate-put-2
     put-requires-2
-    array-share-prefix-line
-    slice-aggregate-lay
-    lay-requires
     same-length
-    returns)
+    returns-2)
