@@ -7,8 +7,8 @@
  * How a slice crosses. As two arguments: a pointer, and how many elements (not bytes) it points to. A caller must keep this,
  * since no function can see whether it was kept:
  *
- *   - the pointer is not null and is aligned for its type, also where the count is 0 (any such address will do);
- *   - so many elements can be read there and, where the pointer is not const, written;
+ *   - the pointer is aligned for its type, and so many elements can be read there and, where it is not const, written;
+ *   - where the count is 0 the pointer is not used: it may be null, or any other;
  *   - what can be written overlaps no other slice of the same call; slices that are only read may overlap each other.
  *
  * A text is bytes, and no 0 byte ends it.
@@ -16,11 +16,12 @@
  * What comes back. Each function returns a number: BRUNCADORZA_DONE, or a refusal below. The three that end in `_count` return
  * the count itself. A place is two values, a start and a length in bytes, counted from the start of the text that was given.
  *
- * How values cross. A function that answers more than its number is lent `values`, and has at most K of them; its
- * BRUNCADORZA_..._VALUES is K + 1. It sets values[0] to how many values follow and values[1], values[2], .. to the values,
- * and changes nothing behind them. How many there are tells an absent thing from a present one. Where values_n is below K + 1
- * the answer is BRUNCADORZA_SHORT, before anything else is judged, and nothing at all is written, not even values[0]: with an
- * array of the named size this cannot come about.
+ * How values cross. A function that answers more than its number is lent an array `values`, always of the same length:
+ * BRUNCADORZA_VALUES numbers, and BRUNCADORZA_LINE_VALUES for bruncadorza_read_line. In C such a parameter is a plain pointer,
+ * so a caller must keep that so many numbers are there, aligned, and in no slice of the same call. The function sets
+ * values[0] to how many values follow and values[1], values[2], .. to the values, and changes nothing behind them. How many
+ * there are tells an absent thing from a present one. No function fills its array: there is room for values that are added
+ * later, so that a caller's arrays can stay as they are.
  *
  * In the comments below `0: next, start, length` says that the number 0 comes with these three values, and `6` that it comes
  * with none.
@@ -54,7 +55,7 @@ enum bruncadorza_number {
     BRUNCADORZA_BAD_FILTER = 14,      /* a filter is invalid */
     BRUNCADORZA_BAD_ALT = 15,         /* an ALT entry is invalid */
     BRUNCADORZA_BAD_LENGTHS = 16,     /* the ends of a list fall or pass its text; parallel slices differ in length */
-    BRUNCADORZA_SHORT = 17,           /* the output, the lent row or `values` is too short */
+    BRUNCADORZA_SHORT = 17,           /* the output or the lent row is too short */
     BRUNCADORZA_BAD_COLUMN = 18,      /* joiner: a column is empty, holds a tab or an LF, or is the last and ends in CR */
     BRUNCADORZA_FEW_COLUMNS = 19,     /* joiner: fewer than eight columns, or nine */
     BRUNCADORZA_ABOVE_ALT = 20,       /* checked reader: an allele number is above the ALT count */
@@ -75,30 +76,9 @@ enum bruncadorza_name {
     BRUNCADORZA_SAMPLES = 9
 };
 
-/* The size of `values` for each function that has any. */
-#define BRUNCADORZA_FIND_SPACE_VALUES 2
-#define BRUNCADORZA_READ_DECIMAL_VALUES 2
-#define BRUNCADORZA_PRINT_DECIMAL_VALUES 2
-#define BRUNCADORZA_READ_LINE_VALUES 22
-#define BRUNCADORZA_FIELD_TEXT_VALUES 3
-#define BRUNCADORZA_PLACE_IN_VALUES 3
-#define BRUNCADORZA_READ_POS_VALUES 2
-#define BRUNCADORZA_INFO_STEP_VALUES 6
-#define BRUNCADORZA_INFO_FIND_VALUES 6
-#define BRUNCADORZA_INFO_VALUE_VALUES 3
-#define BRUNCADORZA_SAMPLE_AT_VALUES 4
-#define BRUNCADORZA_SAMPLE_VALUES 3
-#define BRUNCADORZA_SUBFIELD_VALUES 3
-#define BRUNCADORZA_KEY_INDEX_VALUES 2
-#define BRUNCADORZA_GENOTYPE_STEP_VALUES 5
-#define BRUNCADORZA_GENOTYPE_JUDGE_VALUES 2
-#define BRUNCADORZA_GENOTYPE_JUDGE_CHECKED_VALUES 2
-#define BRUNCADORZA_READ_GENOTYPE_VALUES 2
-#define BRUNCADORZA_READ_GENOTYPE_CHECKED_VALUES 2
-#define BRUNCADORZA_WRITE_GENOTYPE_VALUES 2
-#define BRUNCADORZA_WRITE_FILTERS_VALUES 2
-#define BRUNCADORZA_WRITE_ALTS_VALUES 2
-#define BRUNCADORZA_JOIN_VALUES 2
+/* How long the array `values` is: for bruncadorza_read_line, and for every other function that has values. */
+#define BRUNCADORZA_LINE_VALUES 24
+#define BRUNCADORZA_VALUES 8
 
 /* Characters and decimal numbers */
 
@@ -107,51 +87,51 @@ uint64_t bruncadorza_check_utf8(const uint8_t *text, size_t text_n);
 
 /* Whether the text holds white space. 0: 1 where it does, else 0. Or 5. */
 uint64_t bruncadorza_find_space(const uint8_t *text, size_t text_n,
-                                uint64_t *values, size_t values_n);
+                                uint64_t values[BRUNCADORZA_VALUES]);
 
 /* What a decimal text is worth. 0: the number. Or 12. */
 uint64_t bruncadorza_read_decimal(const uint8_t *text, size_t text_n,
-                                  uint64_t *values, size_t values_n);
+                                  uint64_t values[BRUNCADORZA_VALUES]);
 
 /* Writes the shortest decimal of n at the start of `out`. 0: how many bytes were written. Or 17. Only 0 changes `out`. */
 uint64_t bruncadorza_print_decimal(uint64_t n, uint8_t *out, size_t out_n,
-                                   uint64_t *values, size_t values_n);
+                                   uint64_t values[BRUNCADORZA_VALUES]);
 
 /* Lines */
 
 /* Reads the line at the place `at`. 0: the next place, then the start and the length of each of the ten fields. 1 to 6: the
    next place, from which to go on. */
 uint64_t bruncadorza_read_line(const uint8_t *s, size_t s_n, size_t at,
-                               uint64_t *values, size_t values_n);
+                               uint64_t values[BRUNCADORZA_LINE_VALUES]);
 
 /* The text of a field (enum bruncadorza_name) at the place that bruncadorza_read_line gave for it in the same `s`. 0: its start
    and length, or no value where it is absent (`.` in QUAL). 6 where the place does not fit `s`; 10 where `name` is above 9. */
 uint64_t bruncadorza_field_text(const uint8_t *s, size_t s_n, uint64_t name, size_t start, size_t len,
-                                uint64_t *values, size_t values_n);
+                                uint64_t values[BRUNCADORZA_VALUES]);
 
 /* Whether a place fits `s`. 0: its start and length. Or 6. */
 uint64_t bruncadorza_place_in(const uint8_t *s, size_t s_n, size_t start, size_t len,
-                              uint64_t *values, size_t values_n);
+                              uint64_t values[BRUNCADORZA_VALUES]);
 
 /* What the text of POS says. 0: the position, or no value for `0`, which means none. Or 21. */
 uint64_t bruncadorza_read_pos(const uint8_t *text, size_t text_n,
-                              uint64_t *values, size_t values_n);
+                              uint64_t values[BRUNCADORZA_VALUES]);
 
 /* INFO. The column is the field's text: a `.` comes as the empty text. */
 
 /* The entry at the place `at`. 0: the next place, the key's start and length and, where there is a value, its start and length.
    6 to 10: the next place. */
 uint64_t bruncadorza_info_step(const uint8_t *column, size_t column_n, size_t at,
-                               uint64_t *values, size_t values_n);
+                               uint64_t values[BRUNCADORZA_VALUES]);
 
 /* The first entry whose key is equal, or the first refusal before it, or 10 with the column's length; as bruncadorza_info_step. */
 uint64_t bruncadorza_info_find(const uint8_t *column, size_t column_n, const uint8_t *key, size_t key_n,
-                               uint64_t *values, size_t values_n);
+                               uint64_t values[BRUNCADORZA_VALUES]);
 
 /* The value of the first entry whose key is equal, as a place in the column. Always 0: its start and length; column_n and 0 where
    there is no value to show. bruncadorza_info_find tells an absent value, an empty one and a refusal apart. */
 uint64_t bruncadorza_info_value(const uint8_t *column, size_t column_n, const uint8_t *key, size_t key_n,
-                                uint64_t *values, size_t values_n);
+                                uint64_t values[BRUNCADORZA_VALUES]);
 
 /* How many entries the column claims: the count itself. */
 uint64_t bruncadorza_info_count(const uint8_t *column, size_t column_n);
@@ -164,19 +144,19 @@ uint64_t bruncadorza_samples_count(const uint8_t *samples, size_t samples_n);
 /* The sample at the place `at`. 0: its start and length and, where it is not the last, the next place. 10 where the text is empty;
    6. */
 uint64_t bruncadorza_sample_at(const uint8_t *samples, size_t samples_n, size_t at,
-                               uint64_t *values, size_t values_n);
+                               uint64_t values[BRUNCADORZA_VALUES]);
 
 /* Sample n, counted from 0. 0: its start and length. Or 10. */
 uint64_t bruncadorza_sample(const uint8_t *samples, size_t samples_n, size_t n,
-                            uint64_t *values, size_t values_n);
+                            uint64_t values[BRUNCADORZA_VALUES]);
 
 /* Subfield n of a sample, counted from 0. 0: its start and length. Or 10. */
 uint64_t bruncadorza_subfield(const uint8_t *sample, size_t sample_n, size_t n,
-                              uint64_t *values, size_t values_n);
+                              uint64_t values[BRUNCADORZA_VALUES]);
 
 /* The first key of FORMAT that is equal. 0: its index, from 0. Or 10. */
 uint64_t bruncadorza_key_index(const uint8_t *format, size_t format_n, const uint8_t *key, size_t key_n,
-                               uint64_t *values, size_t values_n);
+                               uint64_t values[BRUNCADORZA_VALUES]);
 
 /* Genotypes. A list of alleles is three slices of one length: the numbers, the missing marks and the phasings. Readers write 0 or
    1 for a mark or a phasing; the writer takes any other value than 0 as 1. An allele that is missing has the number 0. */
@@ -184,36 +164,36 @@ uint64_t bruncadorza_key_index(const uint8_t *format, size_t format_n, const uin
 /* The allele at the place `at`, as the first of the text from there on. 0: the next place, the number, the missing mark, the
    phasing. Or 6, 10 at the text's end, 11 where it is empty, 12. */
 uint64_t bruncadorza_genotype_step(const uint8_t *text, size_t text_n, size_t at,
-                                   uint64_t *values, size_t values_n);
+                                   uint64_t values[BRUNCADORZA_VALUES]);
 
 /* What reading the text into slices of the length `room` answers. 0: how many alleles. 12: the index of the first piece that is
    no allele. Or 11, 17. */
 uint64_t bruncadorza_genotype_judge(const uint8_t *text, size_t text_n, size_t room,
-                                    uint64_t *values, size_t values_n);
+                                    uint64_t values[BRUNCADORZA_VALUES]);
 
 /* The same where no number may be above the count of the ALT column `alt`. Also 20: the index of the first that is. */
 uint64_t bruncadorza_genotype_judge_checked(const uint8_t *text, size_t text_n, const uint8_t *alt, size_t alt_n, size_t room,
-                                            uint64_t *values, size_t values_n);
+                                            uint64_t values[BRUNCADORZA_VALUES]);
 
 /* Reads a genotype. 0: how many alleles. 12: the index of the first piece that is no allele. Or 11; 16 where the lengths of the
    three slices differ; 17. Only 0 changes the slices, and only their first entries. */
 uint64_t bruncadorza_read_genotype(const uint8_t *text, size_t text_n,
                                    uint64_t *numbers, size_t numbers_n, uint8_t *missing, size_t missing_n,
                                    uint8_t *phased, size_t phased_n,
-                                   uint64_t *values, size_t values_n);
+                                   uint64_t values[BRUNCADORZA_VALUES]);
 
 /* The same where no number may be above the count of the ALT column `alt`. Also 20: the index of the first that is. */
 uint64_t bruncadorza_read_genotype_checked(const uint8_t *text, size_t text_n, const uint8_t *alt, size_t alt_n,
                                            uint64_t *numbers, size_t numbers_n, uint8_t *missing, size_t missing_n,
                                            uint8_t *phased, size_t phased_n,
-                                           uint64_t *values, size_t values_n);
+                                           uint64_t values[BRUNCADORZA_VALUES]);
 
 /* Writes the shortest spelling that the file format major.minor permits, from the place `at` of `out` on. 0: how many bytes were
    written. 12: the index of the first allele that is missing and has a number. Or 6, 11, 13, 16, 17. Only 0 changes `out`. */
 uint64_t bruncadorza_write_genotype(const uint64_t *numbers, size_t numbers_n, const uint8_t *missing, size_t missing_n,
                                     const uint8_t *phased, size_t phased_n, uint32_t major, uint32_t minor,
                                     uint8_t *out, size_t out_n, size_t at,
-                                    uint64_t *values, size_t values_n);
+                                    uint64_t values[BRUNCADORZA_VALUES]);
 
 /* Filters, ALT and joining. A list is one text and the end of each entry: the first entry starts at 0, each later one at the end
    before it. */
@@ -231,19 +211,19 @@ uint64_t bruncadorza_alt_count(const uint8_t *column, size_t column_n);
    filter. Or 6, 16, 17. Only 0 changes `out`. */
 uint64_t bruncadorza_write_filters(const uint8_t *text, size_t text_n, const size_t *ends, size_t ends_n,
                                    uint8_t *out, size_t out_n, size_t at,
-                                   uint64_t *values, size_t values_n);
+                                   uint64_t values[BRUNCADORZA_VALUES]);
 
 /* Writes ALT entries with `,` between, from the place `at` of `out` on. 0: how many bytes were written. 5, 15: the index of the
    entry. Or 6, 16, 17. Only 0 changes `out`. */
 uint64_t bruncadorza_write_alts(const uint8_t *text, size_t text_n, const size_t *ends, size_t ends_n,
                                 uint8_t *out, size_t out_n, size_t at,
-                                uint64_t *values, size_t values_n);
+                                uint64_t values[BRUNCADORZA_VALUES]);
 
 /* Writes columns with tabs between and a final LF, from the place `at` of `out` on. 0: how many bytes were written. 5, 18: the
    index of the column. Or 6, 16, 17, 19. Only 0 changes `out`. */
 uint64_t bruncadorza_join(const uint8_t *text, size_t text_n, const size_t *ends, size_t ends_n,
                           uint8_t *out, size_t out_n, size_t at,
-                          uint64_t *values, size_t values_n);
+                          uint64_t values[BRUNCADORZA_VALUES]);
 
 #ifdef __cplusplus
 }

@@ -1,33 +1,32 @@
-//! Our side, by the functions of the static library as a caller in C has them: a slice is a pointer and a count.
+//! Our side, by the functions of the static library as a caller in C has them: a slice is a pointer and a count, and `values` a pointer.
 use crate::inputs::{Input, Place};
-use crate::side::{Room, Tally};
+use crate::side::{Room, Tally, Values};
 
 type Bytes = *const u8;
-type Values = *mut u64;
 
 unsafe extern "C" {
-    fn bruncadorza_read_line(s: Bytes, s_n: usize, at: usize, values: Values, values_n: usize) -> u64;
-    fn bruncadorza_read_pos(text: Bytes, text_n: usize, values: Values, values_n: usize) -> u64;
-    fn bruncadorza_info_step(column: Bytes, column_n: usize, at: usize, values: Values, values_n: usize) -> u64;
+    fn bruncadorza_read_line(s: Bytes, s_n: usize, at: usize, values: &mut [u64; 24]) -> u64;
+    fn bruncadorza_read_pos(text: Bytes, text_n: usize, values: &mut Values) -> u64;
+    fn bruncadorza_info_step(column: Bytes, column_n: usize, at: usize, values: &mut Values) -> u64;
     fn bruncadorza_info_count(column: Bytes, column_n: usize) -> u64;
-    fn bruncadorza_sample_at(samples: Bytes, samples_n: usize, at: usize, values: Values, values_n: usize) -> u64;
-    fn bruncadorza_subfield(sample: Bytes, sample_n: usize, n: usize, values: Values, values_n: usize) -> u64;
+    fn bruncadorza_sample_at(samples: Bytes, samples_n: usize, at: usize, values: &mut Values) -> u64;
+    fn bruncadorza_subfield(sample: Bytes, sample_n: usize, n: usize, values: &mut Values) -> u64;
     fn bruncadorza_read_genotype(
         text: Bytes, text_n: usize, numbers: *mut u64, numbers_n: usize, missing: *mut u8, missing_n: usize,
-        phased: *mut u8, phased_n: usize, values: Values, values_n: usize,
+        phased: *mut u8, phased_n: usize, values: &mut Values,
     ) -> u64;
     fn bruncadorza_read_genotype_checked(
         text: Bytes, text_n: usize, alt: Bytes, alt_n: usize, numbers: *mut u64, numbers_n: usize, missing: *mut u8,
-        missing_n: usize, phased: *mut u8, phased_n: usize, values: Values, values_n: usize,
+        missing_n: usize, phased: *mut u8, phased_n: usize, values: &mut Values,
     ) -> u64;
     fn bruncadorza_write_genotype(
         numbers: *const u64, numbers_n: usize, missing: Bytes, missing_n: usize, phased: Bytes, phased_n: usize,
-        major: u32, minor: u32, out: *mut u8, out_n: usize, at: usize, values: Values, values_n: usize,
+        major: u32, minor: u32, out: *mut u8, out_n: usize, at: usize, values: &mut Values,
     ) -> u64;
     fn bruncadorza_check_utf8(text: Bytes, text_n: usize) -> u64;
     fn bruncadorza_join(
         text: Bytes, text_n: usize, ends: *const usize, ends_n: usize, out: *mut u8, out_n: usize, at: usize,
-        values: Values, values_n: usize,
+        values: &mut Values,
     ) -> u64;
 }
 
@@ -37,11 +36,10 @@ unsafe extern "C" {
 fn each_line(input: &Input, mut visit: impl FnMut(usize, &[u64], &mut Tally)) -> Tally {
     let body = &input.body[..];
     let mut tally = Tally::default();
-    let mut values = [0; 22];
+    let mut values = [0; 24];
     let mut at = 0;
     loop {
-        let number =
-            unsafe { bruncadorza_read_line(body.as_ptr(), body.len(), at, values.as_mut_ptr(), values.len()) };
+        let number = unsafe { bruncadorza_read_line(body.as_ptr(), body.len(), at, &mut values) };
         if number == 1 {
             return tally;
         }
@@ -62,10 +60,10 @@ pub fn read(input: &Input, _: &mut Room) -> Tally {
 }
 
 pub fn read_pos(input: &Input, _: &mut Room) -> Tally {
+    let mut values = Values::default();
     each_line(input, |_, fields, tally| {
         let text = place(fields, 1).of(&input.body);
-        let mut values = [0; 2];
-        let number = unsafe { bruncadorza_read_pos(text.as_ptr(), text.len(), values.as_mut_ptr(), values.len()) };
+        let number = unsafe { bruncadorza_read_pos(text.as_ptr(), text.len(), &mut values) };
         assert_eq!((number, values[0]), (0, 1), "POS is a position");
         tally.add(values[1] as usize);
     })
@@ -83,13 +81,11 @@ fn each_info<'a>(input: &'a Input, mut visit: impl FnMut(&'a [u8], &mut Tally)) 
 }
 
 pub fn info_steps(input: &Input, _: &mut Room) -> Tally {
+    let mut values = Values::default();
     each_info(input, |column, tally| {
-        let mut values = [0; 6];
         let mut at = 0;
         loop {
-            let number = unsafe {
-                bruncadorza_info_step(column.as_ptr(), column.len(), at, values.as_mut_ptr(), values.len())
-            };
+            let number = unsafe { bruncadorza_info_step(column.as_ptr(), column.len(), at, &mut values) };
             if number == 10 {
                 return;
             }
@@ -110,17 +106,14 @@ pub fn info_count(input: &Input, _: &mut Room) -> Tally {
 /// The first subfield of every sample.
 #[inline]
 fn each_genotype<'a>(samples: &'a [u8], mut visit: impl FnMut(&'a [u8])) {
-    let mut values = [0; 4];
+    let mut values = Values::default();
+    let mut first = Values::default();
     let mut at = 0;
     loop {
-        let number = unsafe {
-            bruncadorza_sample_at(samples.as_ptr(), samples.len(), at, values.as_mut_ptr(), values.len())
-        };
+        let number = unsafe { bruncadorza_sample_at(samples.as_ptr(), samples.len(), at, &mut values) };
         assert_eq!(number, 0, "a sample");
         let sample = Place { start: values[1] as usize, len: values[2] as usize }.of(samples);
-        let mut first = [0; 3];
-        let number =
-            unsafe { bruncadorza_subfield(sample.as_ptr(), sample.len(), 0, first.as_mut_ptr(), first.len()) };
+        let number = unsafe { bruncadorza_subfield(sample.as_ptr(), sample.len(), 0, &mut first) };
         assert_eq!(number, 0, "a subfield");
         visit(Place { start: first[1] as usize, len: first[2] as usize }.of(sample));
         if values[0] < 3 {
@@ -139,29 +132,27 @@ fn add(count: usize, room: &Room, tally: &mut Tally) {
 
 #[inline]
 fn read_genotype(text: &[u8], room: &mut Room, tally: &mut Tally) {
-    let mut values = [0; 2];
     let number = unsafe {
         bruncadorza_read_genotype(
             text.as_ptr(), text.len(), room.numbers.as_mut_ptr(), room.numbers.len(), room.missing.as_mut_ptr(),
-            room.missing.len(), room.phased.as_mut_ptr(), room.phased.len(), values.as_mut_ptr(), values.len(),
+            room.missing.len(), room.phased.as_mut_ptr(), room.phased.len(), &mut room.values,
         )
     };
     assert_eq!(number, 0, "a genotype");
-    add(values[1] as usize, room, tally);
+    add(room.values[1] as usize, room, tally);
 }
 
 #[inline]
 fn read_checked(text: &[u8], alt: &[u8], room: &mut Room, tally: &mut Tally) {
-    let mut values = [0; 2];
     let number = unsafe {
         bruncadorza_read_genotype_checked(
             text.as_ptr(), text.len(), alt.as_ptr(), alt.len(), room.numbers.as_mut_ptr(), room.numbers.len(),
             room.missing.as_mut_ptr(), room.missing.len(), room.phased.as_mut_ptr(), room.phased.len(),
-            values.as_mut_ptr(), values.len(),
+            &mut room.values,
         )
     };
     assert_eq!(number, 0, "a genotype that ALT has");
-    add(values[1] as usize, room, tally);
+    add(room.values[1] as usize, room, tally);
 }
 
 pub fn genotypes(input: &Input, room: &mut Room) -> Tally {
@@ -197,16 +188,15 @@ pub fn write(input: &Input, room: &mut Room) -> Tally {
     for &end in &input.allele_ends {
         let (numbers, missing, phased) =
             (&input.numbers[start..end], &input.missing[start..end], &input.phased[start..end]);
-        let mut values = [0; 2];
         let number = unsafe {
             bruncadorza_write_genotype(
                 numbers.as_ptr(), numbers.len(), missing.as_ptr(), missing.len(), phased.as_ptr(), phased.len(), 4, 4,
-                room.out.as_mut_ptr(), room.out.len(), room.written, values.as_mut_ptr(), values.len(),
+                room.out.as_mut_ptr(), room.out.len(), room.written, &mut room.values,
             )
         };
         assert_eq!(number, 0, "a list in order");
-        tally.add(values[1] as usize);
-        room.written += values[1] as usize;
+        tally.add(room.values[1] as usize);
+        room.written += room.values[1] as usize;
         start = end;
     }
     tally
@@ -226,16 +216,15 @@ pub fn join(input: &Input, room: &mut Room) -> Tally {
     for &count in &input.column_counts {
         let ends = &input.column_ends[first..first + count];
         let (columns, rest) = text.split_at(ends[count - 1]);
-        let mut values = [0; 2];
         let number = unsafe {
             bruncadorza_join(
                 columns.as_ptr(), columns.len(), ends.as_ptr(), ends.len(), room.out.as_mut_ptr(), room.out.len(),
-                room.written, values.as_mut_ptr(), values.len(),
+                room.written, &mut room.values,
             )
         };
         assert_eq!(number, 0, "columns in order");
-        tally.add(values[1] as usize);
-        room.written += values[1] as usize;
+        tally.add(room.values[1] as usize);
+        room.written += room.values[1] as usize;
         (text, first) = (rest, first + count);
     }
     tally

@@ -21,6 +21,9 @@ impl Tally {
     }
 }
 
+/// What an entry for C is lent for its values.
+pub type Values = [u64; 8];
+
 /// Memory that a side writes to, allocated before anything is measured.
 pub struct Room {
     pub record: vcf_oracle::Record,
@@ -30,6 +33,7 @@ pub struct Room {
     pub numbers: Vec<u64>,
     pub missing: Vec<u8>,
     pub phased: Vec<u8>,
+    pub values: Values,
 }
 
 impl Room {
@@ -41,6 +45,7 @@ impl Room {
             numbers: vec![0; 64],
             missing: vec![0; 64],
             phased: vec![0; 64],
+            values: Values::default(),
         }
     }
 }

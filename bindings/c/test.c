@@ -48,31 +48,20 @@ static int two(const uint64_t *values, uint64_t a, uint64_t b) {
 }
 
 static void leaves(void) {
-    uint64_t values[BRUNCADORZA_FIND_SPACE_VALUES];
+    uint64_t values[BRUNCADORZA_VALUES];
     uint8_t out[4] = {0xEE, 0xEE, 0xEE, 0xEE};
 
     CHECK(bruncadorza_check_utf8(BYTES("\xC3\xA9")) == BRUNCADORZA_DONE);
     CHECK(bruncadorza_check_utf8(BYTES("\xC3")) == BRUNCADORZA_NOT_UTF8);
-    CHECK(bruncadorza_find_space(BYTES("a b"), values, 2) == BRUNCADORZA_DONE && one(values, 1));
-    CHECK(bruncadorza_find_space(BYTES("ab"), values, 2) == BRUNCADORZA_DONE && one(values, 0));
-    CHECK(bruncadorza_find_space(BYTES("\xFF"), values, 2) == BRUNCADORZA_NOT_UTF8 && none(values));
-    CHECK(bruncadorza_read_decimal(BYTES("18446744073709551615"), values, 2) == BRUNCADORZA_DONE && one(values, UINT64_MAX));
-    CHECK(bruncadorza_read_decimal(BYTES("18446744073709551616"), values, 2) == BRUNCADORZA_BAD_NUMBER && none(values));
-    CHECK(bruncadorza_print_decimal(12345, out, 4, values, 2) == BRUNCADORZA_SHORT && none(values));
+    CHECK(bruncadorza_find_space(BYTES("a b"), values) == BRUNCADORZA_DONE && one(values, 1));
+    CHECK(bruncadorza_find_space(BYTES("ab"), values) == BRUNCADORZA_DONE && one(values, 0));
+    CHECK(bruncadorza_find_space(BYTES("\xFF"), values) == BRUNCADORZA_NOT_UTF8 && none(values));
+    CHECK(bruncadorza_read_decimal(BYTES("18446744073709551615"), values) == BRUNCADORZA_DONE && one(values, UINT64_MAX));
+    CHECK(bruncadorza_read_decimal(BYTES("18446744073709551616"), values) == BRUNCADORZA_BAD_NUMBER && none(values));
+    CHECK(bruncadorza_print_decimal(12345, out, 4, values) == BRUNCADORZA_SHORT && none(values));
     CHECK(memcmp(out, "\xEE\xEE\xEE\xEE", 4) == 0);
-    CHECK(bruncadorza_print_decimal(123, out, 4, values, 2) == BRUNCADORZA_DONE && one(values, 3));
+    CHECK(bruncadorza_print_decimal(123, out, 4, values) == BRUNCADORZA_DONE && one(values, 3));
     CHECK(memcmp(out, "123\xEE", 4) == 0);
-}
-
-/* `values` that is too short is refused before anything is judged, and nothing is written. */
-static void short_values(void) {
-    uint64_t values[2] = {77, 77};
-    uint8_t out[2] = {0xEE, 0xEE};
-
-    CHECK(bruncadorza_read_decimal(BYTES("x"), values, 1) == BRUNCADORZA_SHORT && values[0] == 77);
-    CHECK(bruncadorza_print_decimal(12, out, 2, values, 0) == BRUNCADORZA_SHORT && values[0] == 77);
-    CHECK(out[0] == 0xEE && out[1] == 0xEE);
-    CHECK(bruncadorza_read_line(BYTES(""), 0, values, 2) == BRUNCADORZA_SHORT && values[0] == 77 && values[1] == 77);
 }
 
 static void lines(void) {
@@ -80,99 +69,101 @@ static void lines(void) {
     const uint8_t *s = (const uint8_t *)text;
     const size_t n = sizeof text - 1;
     const uint64_t expected[21] = {39, 0, 1, 2, 1, 4, 1, 6, 1, 8, 3, 12, 1, 14, 4, 19, 7, 27, 2, 30, 7};
-    uint64_t values[BRUNCADORZA_READ_LINE_VALUES];
-    uint64_t place[BRUNCADORZA_FIELD_TEXT_VALUES];
+    uint64_t values[BRUNCADORZA_LINE_VALUES];
+    uint64_t place[BRUNCADORZA_VALUES];
 
-    CHECK(bruncadorza_read_line(s, n, 0, values, BRUNCADORZA_READ_LINE_VALUES) == BRUNCADORZA_DONE && are(values, 21, expected));
-    CHECK(bruncadorza_field_text(s, n, BRUNCADORZA_INFO, 19, 7, place, 3) == BRUNCADORZA_DONE && two(place, 19, 7));
-    CHECK(bruncadorza_field_text(s, n, BRUNCADORZA_ID, 4, 1, place, 3) == BRUNCADORZA_DONE && two(place, 5, 0));
-    CHECK(bruncadorza_field_text(s, n, BRUNCADORZA_QUAL, 12, 1, place, 3) == BRUNCADORZA_DONE && none(place));
-    CHECK(bruncadorza_field_text(s, n, BRUNCADORZA_CHROM, n, 1, place, 3) == BRUNCADORZA_BEYOND && none(place));
-    CHECK(bruncadorza_field_text(s, n, 10, 0, 1, place, 3) == BRUNCADORZA_NOTHING && none(place));
-    CHECK(bruncadorza_read_line(s, n, 39, values, BRUNCADORZA_READ_LINE_VALUES) == BRUNCADORZA_COLUMN_CUT && one(values, n));
-    CHECK(bruncadorza_read_line(s, n, n, values, BRUNCADORZA_READ_LINE_VALUES) == BRUNCADORZA_END && one(values, n));
-    CHECK(bruncadorza_read_line(s, n, n + 1, values, BRUNCADORZA_READ_LINE_VALUES) == BRUNCADORZA_BEYOND && one(values, n + 1));
-    CHECK(bruncadorza_read_line(BYTES("\t"), 0, values, BRUNCADORZA_READ_LINE_VALUES) == BRUNCADORZA_EMPTY_COLUMN && one(values, 1));
-    CHECK(bruncadorza_read_line(BYTES("1\n"), 0, values, BRUNCADORZA_READ_LINE_VALUES) == BRUNCADORZA_COLUMN_FED && one(values, 2));
-    CHECK(bruncadorza_place_in(s, n, 1, n - 1, place, BRUNCADORZA_PLACE_IN_VALUES) == BRUNCADORZA_DONE && two(place, 1, n - 1));
-    CHECK(bruncadorza_place_in(s, n, 1, SIZE_MAX, place, BRUNCADORZA_PLACE_IN_VALUES) == BRUNCADORZA_BEYOND && none(place));
-    CHECK(bruncadorza_read_pos(BYTES("7"), values, BRUNCADORZA_READ_POS_VALUES) == BRUNCADORZA_DONE && one(values, 7));
-    CHECK(bruncadorza_read_pos(BYTES("0"), values, BRUNCADORZA_READ_POS_VALUES) == BRUNCADORZA_DONE && none(values));
-    CHECK(bruncadorza_read_pos(BYTES("00"), values, BRUNCADORZA_READ_POS_VALUES) == BRUNCADORZA_BAD_POS && none(values));
+    CHECK(bruncadorza_read_line(s, n, 0, values) == BRUNCADORZA_DONE && are(values, 21, expected));
+    CHECK(bruncadorza_field_text(s, n, BRUNCADORZA_INFO, 19, 7, place) == BRUNCADORZA_DONE && two(place, 19, 7));
+    CHECK(bruncadorza_field_text(s, n, BRUNCADORZA_ID, 4, 1, place) == BRUNCADORZA_DONE && two(place, 5, 0));
+    CHECK(bruncadorza_field_text(s, n, BRUNCADORZA_QUAL, 12, 1, place) == BRUNCADORZA_DONE && none(place));
+    CHECK(bruncadorza_field_text(s, n, BRUNCADORZA_CHROM, n, 1, place) == BRUNCADORZA_BEYOND && none(place));
+    CHECK(bruncadorza_field_text(s, n, 10, 0, 1, place) == BRUNCADORZA_NOTHING && none(place));
+    CHECK(bruncadorza_read_line(s, n, 39, values) == BRUNCADORZA_COLUMN_CUT && one(values, n));
+    CHECK(bruncadorza_read_line(s, n, n, values) == BRUNCADORZA_END && one(values, n));
+    CHECK(bruncadorza_read_line(s, n, n + 1, values) == BRUNCADORZA_BEYOND && one(values, n + 1));
+    CHECK(bruncadorza_read_line(BYTES("\t"), 0, values) == BRUNCADORZA_EMPTY_COLUMN && one(values, 1));
+    CHECK(bruncadorza_read_line(BYTES("1\n"), 0, values) == BRUNCADORZA_COLUMN_FED && one(values, 2));
+    CHECK(bruncadorza_place_in(s, n, 1, n - 1, place) == BRUNCADORZA_DONE && two(place, 1, n - 1));
+    CHECK(bruncadorza_place_in(s, n, 1, SIZE_MAX, place) == BRUNCADORZA_BEYOND && none(place));
+    CHECK(bruncadorza_read_pos(BYTES("7"), values) == BRUNCADORZA_DONE && one(values, 7));
+    CHECK(bruncadorza_read_pos(BYTES("0"), values) == BRUNCADORZA_DONE && none(values));
+    CHECK(bruncadorza_read_pos(BYTES("00"), values) == BRUNCADORZA_BAD_POS && none(values));
 }
 
 static void infos(void) {
     const uint64_t with_value[5] = {5, 0, 2, 3, 1};
     const uint64_t without[3] = {7, 5, 2};
-    uint64_t values[BRUNCADORZA_INFO_STEP_VALUES];
+    uint64_t values[BRUNCADORZA_VALUES];
 
-    CHECK(bruncadorza_info_step(BYTES("DP=9;DB"), 0, values, 6) == BRUNCADORZA_DONE && are(values, 5, with_value));
-    CHECK(bruncadorza_info_step(BYTES("DP=9;DB"), 5, values, 6) == BRUNCADORZA_DONE && are(values, 3, without));
-    CHECK(bruncadorza_info_step(BYTES("DP=9;DB"), 7, values, 6) == BRUNCADORZA_NOTHING && one(values, 7));
-    CHECK(bruncadorza_info_step(BYTES("DP=9;DB"), 8, values, 6) == BRUNCADORZA_BEYOND && one(values, 8));
-    CHECK(bruncadorza_info_step(BYTES("a;"), 0, values, 6) == BRUNCADORZA_INFO_AFTER_KEY && one(values, 2));
-    CHECK(bruncadorza_info_step(BYTES("=b"), 0, values, 6) == BRUNCADORZA_INFO_NO_KEY && one(values, 1));
-    CHECK(bruncadorza_info_step(BYTES("a=b;"), 0, values, 6) == BRUNCADORZA_INFO_AFTER_VALUE && one(values, 4));
-    CHECK(bruncadorza_info_find(BYTES("DP=9;DB"), BYTES("DB"), values, BRUNCADORZA_INFO_FIND_VALUES) == BRUNCADORZA_DONE && are(values, 3, without));
-    CHECK(bruncadorza_info_find(BYTES("DP=9;DB"), BYTES("D"), values, BRUNCADORZA_INFO_FIND_VALUES) == BRUNCADORZA_NOTHING && one(values, 7));
-    CHECK(bruncadorza_info_value(BYTES("DP=9;DB"), BYTES("DP"), values, BRUNCADORZA_INFO_VALUE_VALUES) == BRUNCADORZA_DONE && two(values, 3, 1));
-    CHECK(bruncadorza_info_value(BYTES("DP=9;DB"), BYTES("DB"), values, BRUNCADORZA_INFO_VALUE_VALUES) == BRUNCADORZA_DONE && two(values, 7, 0));
+    CHECK(bruncadorza_info_step(BYTES("DP=9;DB"), 0, values) == BRUNCADORZA_DONE && are(values, 5, with_value));
+    CHECK(bruncadorza_info_step(BYTES("DP=9;DB"), 5, values) == BRUNCADORZA_DONE && are(values, 3, without));
+    CHECK(bruncadorza_info_step(BYTES("DP=9;DB"), 7, values) == BRUNCADORZA_NOTHING && one(values, 7));
+    CHECK(bruncadorza_info_step(BYTES("DP=9;DB"), 8, values) == BRUNCADORZA_BEYOND && one(values, 8));
+    CHECK(bruncadorza_info_step(BYTES("a;"), 0, values) == BRUNCADORZA_INFO_AFTER_KEY && one(values, 2));
+    CHECK(bruncadorza_info_step(BYTES("=b"), 0, values) == BRUNCADORZA_INFO_NO_KEY && one(values, 1));
+    CHECK(bruncadorza_info_step(BYTES("a=b;"), 0, values) == BRUNCADORZA_INFO_AFTER_VALUE && one(values, 4));
+    CHECK(bruncadorza_info_find(BYTES("DP=9;DB"), BYTES("DB"), values) == BRUNCADORZA_DONE && are(values, 3, without));
+    CHECK(bruncadorza_info_find(BYTES("DP=9;DB"), BYTES("D"), values) == BRUNCADORZA_NOTHING && one(values, 7));
+    CHECK(bruncadorza_info_value(BYTES("DP=9;DB"), BYTES("DP"), values) == BRUNCADORZA_DONE && two(values, 3, 1));
+    CHECK(bruncadorza_info_value(BYTES("DP=9;DB"), BYTES("DB"), values) == BRUNCADORZA_DONE && two(values, 7, 0));
     CHECK(bruncadorza_info_count(BYTES("DP=9;DB")) == 2);
     CHECK(bruncadorza_info_count(BYTES("")) == 0);
 }
 
 static void samples(void) {
     const uint64_t more[3] = {0, 3, 4};
-    uint64_t values[BRUNCADORZA_SAMPLE_AT_VALUES];
+    uint64_t values[BRUNCADORZA_VALUES];
 
     CHECK(bruncadorza_samples_count(BYTES("0|2\t./1")) == 2);
-    CHECK(bruncadorza_sample_at(BYTES("0|2\t./1"), 0, values, 4) == BRUNCADORZA_DONE && are(values, 3, more));
-    CHECK(bruncadorza_sample_at(BYTES("0|2\t./1"), 4, values, 4) == BRUNCADORZA_DONE && two(values, 4, 3));
-    CHECK(bruncadorza_sample_at(BYTES("0|2\t./1"), 8, values, 4) == BRUNCADORZA_BEYOND && none(values));
-    CHECK(bruncadorza_sample_at(BYTES(""), 0, values, 4) == BRUNCADORZA_NOTHING && none(values));
-    CHECK(bruncadorza_sample(BYTES("0|2\t./1"), 1, values, BRUNCADORZA_SAMPLE_VALUES) == BRUNCADORZA_DONE && two(values, 4, 3));
-    CHECK(bruncadorza_sample(BYTES("0|2\t./1"), 2, values, BRUNCADORZA_SAMPLE_VALUES) == BRUNCADORZA_NOTHING && none(values));
-    CHECK(bruncadorza_subfield(BYTES("9:0|2"), 1, values, BRUNCADORZA_SUBFIELD_VALUES) == BRUNCADORZA_DONE && two(values, 2, 3));
-    CHECK(bruncadorza_subfield(BYTES("9:0|2"), 2, values, BRUNCADORZA_SUBFIELD_VALUES) == BRUNCADORZA_NOTHING && none(values));
-    CHECK(bruncadorza_key_index(BYTES("DP:GT"), BYTES("GT"), values, BRUNCADORZA_KEY_INDEX_VALUES) == BRUNCADORZA_DONE && one(values, 1));
-    CHECK(bruncadorza_key_index(BYTES("DP:GT"), BYTES("G"), values, BRUNCADORZA_KEY_INDEX_VALUES) == BRUNCADORZA_NOTHING && none(values));
+    CHECK(bruncadorza_sample_at(BYTES("0|2\t./1"), 0, values) == BRUNCADORZA_DONE && are(values, 3, more));
+    CHECK(bruncadorza_sample_at(BYTES("0|2\t./1"), 4, values) == BRUNCADORZA_DONE && two(values, 4, 3));
+    CHECK(bruncadorza_sample_at(BYTES("0|2\t./1"), 8, values) == BRUNCADORZA_BEYOND && none(values));
+    CHECK(bruncadorza_sample_at(BYTES(""), 0, values) == BRUNCADORZA_NOTHING && none(values));
+    CHECK(bruncadorza_sample(BYTES("0|2\t./1"), 1, values) == BRUNCADORZA_DONE && two(values, 4, 3));
+    CHECK(bruncadorza_sample(BYTES("0|2\t./1"), 2, values) == BRUNCADORZA_NOTHING && none(values));
+    CHECK(bruncadorza_subfield(BYTES("9:0|2"), 1, values) == BRUNCADORZA_DONE && two(values, 2, 3));
+    CHECK(bruncadorza_subfield(BYTES("9:0|2"), 2, values) == BRUNCADORZA_NOTHING && none(values));
+    CHECK(bruncadorza_key_index(BYTES("DP:GT"), BYTES("GT"), values) == BRUNCADORZA_DONE && one(values, 1));
+    CHECK(bruncadorza_key_index(BYTES("DP:GT"), BYTES("G"), values) == BRUNCADORZA_NOTHING && none(values));
 }
 
 static void judged_genotypes(void) {
     const uint64_t first[4] = {1, 0, 1, 0};
     const uint64_t second[4] = {4, 12, 0, 0};
-    uint64_t values[BRUNCADORZA_GENOTYPE_STEP_VALUES];
+    uint64_t values[BRUNCADORZA_VALUES];
 
-    CHECK(bruncadorza_genotype_step(BYTES("./12"), 0, values, 5) == BRUNCADORZA_DONE && are(values, 4, first));
-    CHECK(bruncadorza_genotype_step(BYTES("./12"), 1, values, 5) == BRUNCADORZA_DONE && are(values, 4, second));
-    CHECK(bruncadorza_genotype_step(BYTES("./12"), 4, values, 5) == BRUNCADORZA_NOTHING && none(values));
-    CHECK(bruncadorza_genotype_step(BYTES("./12"), 5, values, 5) == BRUNCADORZA_BEYOND && none(values));
-    CHECK(bruncadorza_genotype_step(BYTES(""), 0, values, 5) == BRUNCADORZA_GENOTYPE_EMPTY && none(values));
-    CHECK(bruncadorza_genotype_step(BYTES("x"), 0, values, 5) == BRUNCADORZA_BAD_NUMBER && none(values));
-    CHECK(bruncadorza_genotype_judge(BYTES("./12"), 2, values, 2) == BRUNCADORZA_DONE && one(values, 2));
-    CHECK(bruncadorza_genotype_judge(BYTES("./12"), 1, values, 2) == BRUNCADORZA_SHORT && none(values));
-    CHECK(bruncadorza_genotype_judge_checked(BYTES("0/2"), BYTES("C,G"), 2, values, 2) == BRUNCADORZA_DONE && one(values, 2));
-    CHECK(bruncadorza_genotype_judge_checked(BYTES("0/3"), BYTES("C,G"), 2, values, 2) == BRUNCADORZA_ABOVE_ALT && one(values, 1));
+    CHECK(bruncadorza_genotype_step(BYTES("./12"), 0, values) == BRUNCADORZA_DONE && are(values, 4, first));
+    CHECK(bruncadorza_genotype_step(BYTES("./12"), 1, values) == BRUNCADORZA_DONE && are(values, 4, second));
+    CHECK(bruncadorza_genotype_step(BYTES("./12"), 4, values) == BRUNCADORZA_NOTHING && none(values));
+    CHECK(bruncadorza_genotype_step(BYTES("./12"), 5, values) == BRUNCADORZA_BEYOND && none(values));
+    CHECK(bruncadorza_genotype_step(BYTES(""), 0, values) == BRUNCADORZA_GENOTYPE_EMPTY && none(values));
+    CHECK(bruncadorza_genotype_step(BYTES("x"), 0, values) == BRUNCADORZA_BAD_NUMBER && none(values));
+    CHECK(bruncadorza_genotype_judge(BYTES("./12"), 2, values) == BRUNCADORZA_DONE && one(values, 2));
+    CHECK(bruncadorza_genotype_judge(BYTES("./12"), 1, values) == BRUNCADORZA_SHORT && none(values));
+    CHECK(bruncadorza_genotype_judge_checked(BYTES("0/2"), BYTES("C,G"), 2, values) == BRUNCADORZA_DONE && one(values, 2));
+    CHECK(bruncadorza_genotype_judge_checked(BYTES("0/3"), BYTES("C,G"), 2, values) == BRUNCADORZA_ABOVE_ALT && one(values, 1));
 }
 
 static void read_genotypes(void) {
     uint64_t numbers[3] = {7, 7, 7};
     uint8_t missing[3] = {7, 7, 7};
     uint8_t phased[3] = {7, 7, 7};
-    uint64_t values[BRUNCADORZA_READ_GENOTYPE_VALUES];
+    uint64_t values[BRUNCADORZA_VALUES];
 
-    CHECK(bruncadorza_read_genotype(BYTES(""), numbers, 3, missing, 3, phased, 3, values, 2) == BRUNCADORZA_GENOTYPE_EMPTY && none(values));
-    CHECK(bruncadorza_read_genotype(BYTES("0|x"), numbers, 3, missing, 3, phased, 3, values, 2) == BRUNCADORZA_BAD_NUMBER && one(values, 1));
-    CHECK(bruncadorza_read_genotype(BYTES("0|1"), numbers, 3, missing, 2, phased, 3, values, 2) == BRUNCADORZA_BAD_LENGTHS && none(values));
-    CHECK(bruncadorza_read_genotype(BYTES("0|1"), numbers, 1, missing, 1, phased, 1, values, 2) == BRUNCADORZA_SHORT && none(values));
+    CHECK(bruncadorza_read_genotype(BYTES(""), numbers, 3, missing, 3, phased, 3, values) == BRUNCADORZA_GENOTYPE_EMPTY && none(values));
+    CHECK(bruncadorza_read_genotype(BYTES("0|x"), numbers, 3, missing, 3, phased, 3, values) == BRUNCADORZA_BAD_NUMBER && one(values, 1));
+    CHECK(bruncadorza_read_genotype(BYTES("0|1"), numbers, 3, missing, 2, phased, 3, values) == BRUNCADORZA_BAD_LENGTHS && none(values));
+    CHECK(bruncadorza_read_genotype(BYTES("0|1"), numbers, 1, missing, 1, phased, 1, values) == BRUNCADORZA_SHORT && none(values));
+    CHECK(bruncadorza_read_genotype(BYTES("x"), numbers, 0, missing, 1, phased, 0, values) == BRUNCADORZA_BAD_LENGTHS && none(values));
+    CHECK(bruncadorza_read_genotype(BYTES("x"), numbers, 0, missing, 0, phased, 0, values) == BRUNCADORZA_BAD_NUMBER && one(values, 0));
     CHECK(numbers[0] == 7 && missing[0] == 7 && phased[0] == 7);
-    CHECK(bruncadorza_read_genotype(BYTES(".|5"), numbers, 3, missing, 3, phased, 3, values, 2) == BRUNCADORZA_DONE && one(values, 2));
+    CHECK(bruncadorza_read_genotype(BYTES(".|5"), numbers, 3, missing, 3, phased, 3, values) == BRUNCADORZA_DONE && one(values, 2));
     CHECK(numbers[0] == 0 && numbers[1] == 5 && numbers[2] == 7);
     CHECK(missing[0] == 1 && missing[1] == 0 && missing[2] == 7);
     CHECK(phased[0] == 1 && phased[1] == 1 && phased[2] == 7);
-    CHECK(bruncadorza_read_genotype_checked(BYTES("3|0"), BYTES("C,G"), numbers, 3, missing, 3, phased, 3, values, 2) == BRUNCADORZA_ABOVE_ALT && one(values, 0));
+    CHECK(bruncadorza_read_genotype_checked(BYTES("3|0"), BYTES("C,G"), numbers, 3, missing, 3, phased, 3, values) == BRUNCADORZA_ABOVE_ALT && one(values, 0));
     CHECK(numbers[0] == 0 && missing[0] == 1);
-    CHECK(bruncadorza_read_genotype_checked(BYTES("2|0"), BYTES("C,G"), numbers, 3, missing, 3, phased, 3, values, 2) == BRUNCADORZA_DONE && one(values, 2));
+    CHECK(bruncadorza_read_genotype_checked(BYTES("2|0"), BYTES("C,G"), numbers, 3, missing, 3, phased, 3, values) == BRUNCADORZA_DONE && one(values, 2));
     CHECK(numbers[0] == 2 && missing[0] == 0 && numbers[2] == 7);
 }
 
@@ -182,16 +173,16 @@ static void written_genotypes(void) {
     const uint8_t phased[2] = {1, 0};
     const uint8_t both[2] = {1, 1};
     uint8_t out[8] = "eeeeeee";
-    uint64_t values[BRUNCADORZA_WRITE_GENOTYPE_VALUES];
+    uint64_t values[BRUNCADORZA_VALUES];
 
-    CHECK(bruncadorza_write_genotype(numbers, 2, missing, 2, phased, 2, 4, 3, out, 8, 1, values, 2) == BRUNCADORZA_BAD_PHASING && none(values));
-    CHECK(bruncadorza_write_genotype(numbers, 2, both, 2, phased, 2, 4, 4, out, 8, 1, values, 2) == BRUNCADORZA_BAD_NUMBER && one(values, 1));
-    CHECK(bruncadorza_write_genotype(numbers, 2, missing, 1, phased, 2, 4, 4, out, 8, 1, values, 2) == BRUNCADORZA_BAD_LENGTHS && none(values));
-    CHECK(bruncadorza_write_genotype(numbers, 2, missing, 2, phased, 2, 4, 4, out, 8, 9, values, 2) == BRUNCADORZA_BEYOND && none(values));
-    CHECK(bruncadorza_write_genotype(numbers, 2, missing, 2, phased, 2, 4, 4, out, 8, 4, values, 2) == BRUNCADORZA_SHORT && none(values));
-    CHECK(bruncadorza_write_genotype(numbers, 0, missing, 0, phased, 0, 4, 4, out, 8, 1, values, 2) == BRUNCADORZA_GENOTYPE_EMPTY && none(values));
+    CHECK(bruncadorza_write_genotype(numbers, 2, missing, 2, phased, 2, 4, 3, out, 8, 1, values) == BRUNCADORZA_BAD_PHASING && none(values));
+    CHECK(bruncadorza_write_genotype(numbers, 2, both, 2, phased, 2, 4, 4, out, 8, 1, values) == BRUNCADORZA_BAD_NUMBER && one(values, 1));
+    CHECK(bruncadorza_write_genotype(numbers, 2, missing, 1, phased, 2, 4, 4, out, 8, 1, values) == BRUNCADORZA_BAD_LENGTHS && none(values));
+    CHECK(bruncadorza_write_genotype(numbers, 2, missing, 2, phased, 2, 4, 4, out, 8, 9, values) == BRUNCADORZA_BEYOND && none(values));
+    CHECK(bruncadorza_write_genotype(numbers, 2, missing, 2, phased, 2, 4, 4, out, 8, 4, values) == BRUNCADORZA_SHORT && none(values));
+    CHECK(bruncadorza_write_genotype(numbers, 0, missing, 0, phased, 0, 4, 4, out, 8, 1, values) == BRUNCADORZA_GENOTYPE_EMPTY && none(values));
     CHECK(memcmp(out, "eeeeeee", 8) == 0);
-    CHECK(bruncadorza_write_genotype(numbers, 2, missing, 2, phased, 2, 4, 4, out, 8, 1, values, 2) == BRUNCADORZA_DONE && one(values, 5));
+    CHECK(bruncadorza_write_genotype(numbers, 2, missing, 2, phased, 2, 4, 4, out, 8, 1, values) == BRUNCADORZA_DONE && one(values, 5));
     CHECK(memcmp(out, "e|./12e", 8) == 0);
 }
 
@@ -199,7 +190,7 @@ static void written_lists(void) {
     const size_t ends[2] = {2, 4};
     const size_t fallen[2] = {2, 1};
     uint8_t out[8] = "eeeeeee";
-    uint64_t values[BRUNCADORZA_WRITE_FILTERS_VALUES];
+    uint64_t values[BRUNCADORZA_VALUES];
 
     CHECK(bruncadorza_judge_filter(BYTES("q1")) == BRUNCADORZA_DONE);
     CHECK(bruncadorza_judge_filter(BYTES("0")) == BRUNCADORZA_BAD_FILTER);
@@ -207,37 +198,116 @@ static void written_lists(void) {
     CHECK(bruncadorza_judge_alt(BYTES("<>")) == BRUNCADORZA_BAD_ALT);
     CHECK(bruncadorza_judge_alt(BYTES("\xFF")) == BRUNCADORZA_NOT_UTF8);
     CHECK(bruncadorza_alt_count(BYTES("C,G")) == 2);
-    CHECK(bruncadorza_write_filters(BYTES("q1q2"), fallen, 2, out, 8, 1, values, 2) == BRUNCADORZA_BAD_LENGTHS && none(values));
-    CHECK(bruncadorza_write_filters(BYTES("q1; "), ends, 2, out, 8, 1, values, 2) == BRUNCADORZA_BAD_FILTER && one(values, 1));
-    CHECK(bruncadorza_write_filters(BYTES("q1q2"), ends, 2, out, 8, 4, values, 2) == BRUNCADORZA_SHORT && none(values));
-    CHECK(bruncadorza_write_filters(BYTES("q1q2"), ends, 2, out, 8, 9, values, 2) == BRUNCADORZA_BEYOND && none(values));
+    CHECK(bruncadorza_write_filters(BYTES("q1q2"), fallen, 2, out, 8, 1, values) == BRUNCADORZA_BAD_LENGTHS && none(values));
+    CHECK(bruncadorza_write_filters(BYTES("q1; "), ends, 2, out, 8, 1, values) == BRUNCADORZA_BAD_FILTER && one(values, 1));
+    CHECK(bruncadorza_write_filters(BYTES("q1q2"), ends, 2, out, 8, 4, values) == BRUNCADORZA_SHORT && none(values));
+    CHECK(bruncadorza_write_filters(BYTES("q1q2"), ends, 2, out, 8, 9, values) == BRUNCADORZA_BEYOND && none(values));
     CHECK(memcmp(out, "eeeeeee", 8) == 0);
-    CHECK(bruncadorza_write_filters(BYTES("q1q2"), ends, 2, out, 8, 1, values, 2) == BRUNCADORZA_DONE && one(values, 5));
+    CHECK(bruncadorza_write_filters(BYTES("q1q2"), ends, 2, out, 8, 1, values) == BRUNCADORZA_DONE && one(values, 5));
     CHECK(memcmp(out, "eq1;q2e", 8) == 0);
-    CHECK(bruncadorza_write_alts(BYTES("CC,G"), ends, 2, out, 8, 0, values, 2) == BRUNCADORZA_BAD_ALT && one(values, 1));
-    CHECK(bruncadorza_write_alts(BYTES("CCGG"), ends, 2, out, 8, 0, values, 2) == BRUNCADORZA_DONE && one(values, 5));
+    CHECK(bruncadorza_write_alts(BYTES("CC,G"), ends, 2, out, 8, 0, values) == BRUNCADORZA_BAD_ALT && one(values, 1));
+    CHECK(bruncadorza_write_alts(BYTES("CCGG"), ends, 2, out, 8, 0, values) == BRUNCADORZA_DONE && one(values, 5));
     CHECK(memcmp(out, "CC,GG2e", 8) == 0);
-    CHECK(bruncadorza_write_alts(BYTES(""), ends, 0, out, 8, 6, values, 2) == BRUNCADORZA_DONE && one(values, 1));
+    CHECK(bruncadorza_write_alts(BYTES(""), ends, 0, out, 8, 6, values) == BRUNCADORZA_DONE && one(values, 1));
     CHECK(memcmp(out, "CC,GG2.", 8) == 0);
 }
 
 static void joined_columns(void) {
     const size_t ends[8] = {1, 2, 3, 4, 5, 6, 7, 8};
     uint8_t out[17] = "eeeeeeeeeeeeeeee";
-    uint64_t values[BRUNCADORZA_JOIN_VALUES];
+    uint64_t values[BRUNCADORZA_VALUES];
 
-    CHECK(bruncadorza_join(BYTES("17.AC..x"), ends, 7, out, 17, 0, values, 2) == BRUNCADORZA_FEW_COLUMNS && none(values));
-    CHECK(bruncadorza_join(BYTES("17\tAC..x"), ends, 8, out, 17, 0, values, 2) == BRUNCADORZA_BAD_COLUMN && one(values, 2));
-    CHECK(bruncadorza_join(BYTES("17.AC..\xFF"), ends, 8, out, 17, 0, values, 2) == BRUNCADORZA_NOT_UTF8 && one(values, 7));
-    CHECK(bruncadorza_join(BYTES("17.AC..x"), ends, 8, out, 17, 2, values, 2) == BRUNCADORZA_SHORT && none(values));
+    CHECK(bruncadorza_join(BYTES("17.AC..x"), ends, 7, out, 17, 0, values) == BRUNCADORZA_FEW_COLUMNS && none(values));
+    CHECK(bruncadorza_join(BYTES("17\tAC..x"), ends, 8, out, 17, 0, values) == BRUNCADORZA_BAD_COLUMN && one(values, 2));
+    CHECK(bruncadorza_join(BYTES("17.AC..\xFF"), ends, 8, out, 17, 0, values) == BRUNCADORZA_NOT_UTF8 && one(values, 7));
+    CHECK(bruncadorza_join(BYTES("17.AC..x"), ends, 8, out, 17, 2, values) == BRUNCADORZA_SHORT && none(values));
     CHECK(memcmp(out, "eeeeeeeeeeeeeeee", 17) == 0);
-    CHECK(bruncadorza_join(BYTES("17.AC..x"), ends, 8, out, 17, 0, values, 2) == BRUNCADORZA_DONE && one(values, 16));
+    CHECK(bruncadorza_join(BYTES("17.AC..x"), ends, 8, out, 17, 0, values) == BRUNCADORZA_DONE && one(values, 16));
     CHECK(memcmp(out, "1\t7\t.\tA\tC\t.\t.\tx\n", 17) == 0);
+}
+
+/* Behind the values nothing is changed. */
+static void behind_values(void) {
+    uint64_t values[BRUNCADORZA_VALUES] = {77, 77, 77, 77, 77, 77, 77, 77};
+
+    CHECK(bruncadorza_read_decimal(BYTES("12"), values) == BRUNCADORZA_DONE && one(values, 12));
+    CHECK(values[2] == 77 && values[7] == 77);
+    CHECK(bruncadorza_read_decimal(BYTES("x"), values) == BRUNCADORZA_BAD_NUMBER && none(values));
+    CHECK(values[1] == 12 && values[2] == 77);
+}
+
+/* A place beyond the output is refused first and missing room last, whatever else is wrong. */
+static void order_of_writers(void) {
+    const size_t ends[8] = {1, 2, 3, 4, 5, 6, 7, 8};
+    const size_t fallen[2] = {2, 1};
+    const uint64_t numbers[2] = {0, 12};
+    const uint8_t none_missing[2] = {0, 0};
+    const uint8_t both_missing[2] = {1, 1};
+    const uint8_t phased[2] = {1, 0};
+    uint8_t out[1] = {0xEE};
+    uint64_t values[BRUNCADORZA_VALUES];
+
+    CHECK(bruncadorza_write_filters(BYTES("q;"), fallen, 2, out, 1, 2, values) == BRUNCADORZA_BEYOND && none(values));
+    CHECK(bruncadorza_write_filters(BYTES("q;"), fallen, 2, out, 1, 1, values) == BRUNCADORZA_BAD_LENGTHS && none(values));
+    CHECK(bruncadorza_write_filters(BYTES("q;"), ends, 2, out, 1, 1, values) == BRUNCADORZA_BAD_FILTER && one(values, 1));
+    CHECK(bruncadorza_write_filters(BYTES("qr"), ends, 2, out, 1, 1, values) == BRUNCADORZA_SHORT && none(values));
+
+    CHECK(bruncadorza_write_alts(BYTES("C,"), fallen, 2, out, 1, 2, values) == BRUNCADORZA_BEYOND && none(values));
+    CHECK(bruncadorza_write_alts(BYTES("C,"), fallen, 2, out, 1, 1, values) == BRUNCADORZA_BAD_LENGTHS && none(values));
+    CHECK(bruncadorza_write_alts(BYTES("C,"), ends, 2, out, 1, 1, values) == BRUNCADORZA_BAD_ALT && one(values, 1));
+    CHECK(bruncadorza_write_alts(BYTES("CG"), ends, 2, out, 1, 1, values) == BRUNCADORZA_SHORT && none(values));
+
+    CHECK(bruncadorza_join(BYTES("17\tAC..x"), fallen, 2, out, 1, 2, values) == BRUNCADORZA_BEYOND && none(values));
+    CHECK(bruncadorza_join(BYTES("17\tAC..x"), fallen, 2, out, 1, 1, values) == BRUNCADORZA_BAD_LENGTHS && none(values));
+    CHECK(bruncadorza_join(BYTES("17\tAC..x"), ends, 7, out, 1, 1, values) == BRUNCADORZA_FEW_COLUMNS && none(values));
+    CHECK(bruncadorza_join(BYTES("17\tAC..x"), ends, 8, out, 1, 1, values) == BRUNCADORZA_BAD_COLUMN && one(values, 2));
+    CHECK(bruncadorza_join(BYTES("17.AC..x"), ends, 8, out, 1, 1, values) == BRUNCADORZA_SHORT && none(values));
+
+    CHECK(bruncadorza_write_genotype(numbers, 2, both_missing, 1, phased, 2, 4, 3, out, 1, 2, values) == BRUNCADORZA_BEYOND && none(values));
+    CHECK(bruncadorza_write_genotype(numbers, 2, both_missing, 1, phased, 2, 4, 3, out, 1, 1, values) == BRUNCADORZA_BAD_LENGTHS && none(values));
+    CHECK(bruncadorza_write_genotype(numbers, 2, both_missing, 2, phased, 2, 4, 3, out, 1, 1, values) == BRUNCADORZA_BAD_NUMBER && one(values, 1));
+    CHECK(bruncadorza_write_genotype(numbers, 2, none_missing, 2, phased, 2, 4, 3, out, 1, 1, values) == BRUNCADORZA_BAD_PHASING && none(values));
+    CHECK(bruncadorza_write_genotype(numbers, 2, none_missing, 2, phased, 2, 4, 4, out, 1, 1, values) == BRUNCADORZA_SHORT && none(values));
+    CHECK(out[0] == 0xEE);
+}
+
+/* Where the count of a slice is 0, its pointer may be null. */
+static void empty_slices(void) {
+    uint64_t values[BRUNCADORZA_LINE_VALUES];
+
+    CHECK(bruncadorza_check_utf8(NULL, 0) == BRUNCADORZA_DONE);
+    CHECK(bruncadorza_find_space(NULL, 0, values) == BRUNCADORZA_DONE && one(values, 0));
+    CHECK(bruncadorza_read_decimal(NULL, 0, values) == BRUNCADORZA_BAD_NUMBER && none(values));
+    CHECK(bruncadorza_print_decimal(0, NULL, 0, values) == BRUNCADORZA_SHORT && none(values));
+    CHECK(bruncadorza_read_line(NULL, 0, 0, values) == BRUNCADORZA_END && one(values, 0));
+    CHECK(bruncadorza_field_text(NULL, 0, BRUNCADORZA_CHROM, 0, 0, values) == BRUNCADORZA_DONE && two(values, 0, 0));
+    CHECK(bruncadorza_place_in(NULL, 0, 0, 0, values) == BRUNCADORZA_DONE && two(values, 0, 0));
+    CHECK(bruncadorza_read_pos(NULL, 0, values) == BRUNCADORZA_BAD_POS && none(values));
+    CHECK(bruncadorza_info_step(NULL, 0, 0, values) == BRUNCADORZA_NOTHING && one(values, 0));
+    CHECK(bruncadorza_info_find(NULL, 0, NULL, 0, values) == BRUNCADORZA_NOTHING && one(values, 0));
+    CHECK(bruncadorza_info_value(NULL, 0, NULL, 0, values) == BRUNCADORZA_DONE && two(values, 0, 0));
+    CHECK(bruncadorza_info_count(NULL, 0) == 0);
+    CHECK(bruncadorza_samples_count(NULL, 0) == 0);
+    CHECK(bruncadorza_sample_at(NULL, 0, 0, values) == BRUNCADORZA_NOTHING && none(values));
+    CHECK(bruncadorza_sample(NULL, 0, 0, values) == BRUNCADORZA_NOTHING && none(values));
+    CHECK(bruncadorza_subfield(NULL, 0, 0, values) == BRUNCADORZA_NOTHING && none(values));
+    CHECK(bruncadorza_key_index(NULL, 0, NULL, 0, values) == BRUNCADORZA_NOTHING && none(values));
+    CHECK(bruncadorza_genotype_step(NULL, 0, 0, values) == BRUNCADORZA_GENOTYPE_EMPTY && none(values));
+    CHECK(bruncadorza_genotype_judge(NULL, 0, 0, values) == BRUNCADORZA_GENOTYPE_EMPTY && none(values));
+    CHECK(bruncadorza_genotype_judge_checked(NULL, 0, NULL, 0, 0, values) == BRUNCADORZA_GENOTYPE_EMPTY && none(values));
+    CHECK(bruncadorza_read_genotype(BYTES("0"), NULL, 0, NULL, 0, NULL, 0, values) == BRUNCADORZA_SHORT && none(values));
+    CHECK(bruncadorza_read_genotype_checked(BYTES("2"), NULL, 0, NULL, 0, NULL, 0, NULL, 0, values) == BRUNCADORZA_ABOVE_ALT && one(values, 0));
+    CHECK(bruncadorza_write_genotype(NULL, 0, NULL, 0, NULL, 0, 4, 4, NULL, 0, 0, values) == BRUNCADORZA_GENOTYPE_EMPTY && none(values));
+    CHECK(bruncadorza_judge_filter(NULL, 0) == BRUNCADORZA_BAD_FILTER);
+    CHECK(bruncadorza_judge_alt(NULL, 0) == BRUNCADORZA_BAD_ALT);
+    CHECK(bruncadorza_alt_count(NULL, 0) == 1);
+    CHECK(bruncadorza_write_filters(NULL, 0, NULL, 0, NULL, 0, 0, values) == BRUNCADORZA_SHORT && none(values));
+    CHECK(bruncadorza_write_alts(NULL, 0, NULL, 0, NULL, 0, 0, values) == BRUNCADORZA_SHORT && none(values));
+    CHECK(bruncadorza_join(NULL, 0, NULL, 0, NULL, 0, 0, values) == BRUNCADORZA_FEW_COLUMNS && none(values));
 }
 
 int main(void) {
     leaves();
-    short_values();
     lines();
     infos();
     samples();
@@ -246,6 +316,9 @@ int main(void) {
     written_genotypes();
     written_lists();
     joined_columns();
+    behind_values();
+    order_of_writers();
+    empty_slices();
     printf("%d of %d checks hold\n", checks - wrong, checks);
     return wrong == 0 ? 0 : 1;
 }

@@ -1,70 +1,74 @@
 //! The calls into the static library: the only unsafe code of this crate. include/bruncadorza.h says what crosses.
 //!
 //! Why each call is sound. A slice crosses as its pointer and its count of elements, both taken from one Rust slice, so that the
-//! pointer is not null and is aligned, also where the slice is empty, and so many elements are there. What is written comes from
-//! `&mut` slices, which overlap nothing else of the call. `values` is an array of this module, as long as the entry asks for. The
-//! library keeps no pointer, and writes only within the slices lent, which is proved of it.
+//! pointer is aligned and so many elements are there. What is written comes from `&mut` slices, which overlap nothing else of the
+//! call. `values` crosses as one pointer, to an array of this module whose type has the length that the entry asks for. The library
+//! keeps no pointer, and writes only within the slices and the array lent, which is proved of it.
 
 #[cfg(not(all(target_pointer_width = "64", target_endian = "little")))]
 compile_error!("the library is for processors with 64-bit little-endian numbers");
 
 use crate::text::Range;
 
+/// How long `values` is: for the line reader, and for every other entry.
+const LINE_VALUES: usize = 24;
+const VALUES: usize = 8;
+
 #[rustfmt::skip]
 extern "C" {
     fn bruncadorza_check_utf8(text: *const u8, text_n: usize) -> u64;
-    fn bruncadorza_find_space(text: *const u8, text_n: usize, values: *mut u64, values_n: usize) -> u64;
-    fn bruncadorza_read_decimal(text: *const u8, text_n: usize, values: *mut u64, values_n: usize) -> u64;
-    fn bruncadorza_print_decimal(n: u64, out: *mut u8, out_n: usize, values: *mut u64, values_n: usize) -> u64;
+    fn bruncadorza_find_space(text: *const u8, text_n: usize, values: &mut [u64; VALUES]) -> u64;
+    fn bruncadorza_read_decimal(text: *const u8, text_n: usize, values: &mut [u64; VALUES]) -> u64;
+    fn bruncadorza_print_decimal(n: u64, out: *mut u8, out_n: usize, values: &mut [u64; VALUES]) -> u64;
 
-    fn bruncadorza_read_line(s: *const u8, s_n: usize, at: usize, values: *mut u64, values_n: usize) -> u64;
+    fn bruncadorza_read_line(s: *const u8, s_n: usize, at: usize, values: &mut [u64; LINE_VALUES]) -> u64;
     fn bruncadorza_field_text(
         s: *const u8, s_n: usize, name: u64, start: usize, len: usize,
-        values: *mut u64, values_n: usize,
+        values: &mut [u64; VALUES],
     ) -> u64;
-    fn bruncadorza_place_in(s: *const u8, s_n: usize, start: usize, len: usize, values: *mut u64, values_n: usize) -> u64;
-    fn bruncadorza_read_pos(text: *const u8, text_n: usize, values: *mut u64, values_n: usize) -> u64;
+    fn bruncadorza_place_in(s: *const u8, s_n: usize, start: usize, len: usize, values: &mut [u64; VALUES]) -> u64;
+    fn bruncadorza_read_pos(text: *const u8, text_n: usize, values: &mut [u64; VALUES]) -> u64;
 
-    fn bruncadorza_info_step(column: *const u8, column_n: usize, at: usize, values: *mut u64, values_n: usize) -> u64;
+    fn bruncadorza_info_step(column: *const u8, column_n: usize, at: usize, values: &mut [u64; VALUES]) -> u64;
     fn bruncadorza_info_find(
         column: *const u8, column_n: usize, key: *const u8, key_n: usize,
-        values: *mut u64, values_n: usize,
+        values: &mut [u64; VALUES],
     ) -> u64;
     fn bruncadorza_info_value(
         column: *const u8, column_n: usize, key: *const u8, key_n: usize,
-        values: *mut u64, values_n: usize,
+        values: &mut [u64; VALUES],
     ) -> u64;
     fn bruncadorza_info_count(column: *const u8, column_n: usize) -> u64;
 
     fn bruncadorza_samples_count(samples: *const u8, samples_n: usize) -> u64;
-    fn bruncadorza_sample_at(samples: *const u8, samples_n: usize, at: usize, values: *mut u64, values_n: usize) -> u64;
-    fn bruncadorza_sample(samples: *const u8, samples_n: usize, n: usize, values: *mut u64, values_n: usize) -> u64;
-    fn bruncadorza_subfield(sample: *const u8, sample_n: usize, n: usize, values: *mut u64, values_n: usize) -> u64;
+    fn bruncadorza_sample_at(samples: *const u8, samples_n: usize, at: usize, values: &mut [u64; VALUES]) -> u64;
+    fn bruncadorza_sample(samples: *const u8, samples_n: usize, n: usize, values: &mut [u64; VALUES]) -> u64;
+    fn bruncadorza_subfield(sample: *const u8, sample_n: usize, n: usize, values: &mut [u64; VALUES]) -> u64;
     fn bruncadorza_key_index(
         format: *const u8, format_n: usize, key: *const u8, key_n: usize,
-        values: *mut u64, values_n: usize,
+        values: &mut [u64; VALUES],
     ) -> u64;
 
-    fn bruncadorza_genotype_step(text: *const u8, text_n: usize, at: usize, values: *mut u64, values_n: usize) -> u64;
-    fn bruncadorza_genotype_judge(text: *const u8, text_n: usize, room: usize, values: *mut u64, values_n: usize) -> u64;
+    fn bruncadorza_genotype_step(text: *const u8, text_n: usize, at: usize, values: &mut [u64; VALUES]) -> u64;
+    fn bruncadorza_genotype_judge(text: *const u8, text_n: usize, room: usize, values: &mut [u64; VALUES]) -> u64;
     fn bruncadorza_genotype_judge_checked(
         text: *const u8, text_n: usize, alt: *const u8, alt_n: usize, room: usize,
-        values: *mut u64, values_n: usize,
+        values: &mut [u64; VALUES],
     ) -> u64;
     fn bruncadorza_read_genotype(
         text: *const u8, text_n: usize,
         numbers: *mut u64, numbers_n: usize, missing: *mut u8, missing_n: usize, phased: *mut u8, phased_n: usize,
-        values: *mut u64, values_n: usize,
+        values: &mut [u64; VALUES],
     ) -> u64;
     fn bruncadorza_read_genotype_checked(
         text: *const u8, text_n: usize, alt: *const u8, alt_n: usize,
         numbers: *mut u64, numbers_n: usize, missing: *mut u8, missing_n: usize, phased: *mut u8, phased_n: usize,
-        values: *mut u64, values_n: usize,
+        values: &mut [u64; VALUES],
     ) -> u64;
     fn bruncadorza_write_genotype(
         numbers: *const u64, numbers_n: usize, missing: *const u8, missing_n: usize, phased: *const u8, phased_n: usize,
         major: u32, minor: u32, out: *mut u8, out_n: usize, at: usize,
-        values: *mut u64, values_n: usize,
+        values: &mut [u64; VALUES],
     ) -> u64;
 
     fn bruncadorza_judge_filter(filter: *const u8, filter_n: usize) -> u64;
@@ -72,29 +76,29 @@ extern "C" {
     fn bruncadorza_alt_count(column: *const u8, column_n: usize) -> u64;
     fn bruncadorza_write_filters(
         text: *const u8, text_n: usize, ends: *const usize, ends_n: usize, out: *mut u8, out_n: usize, at: usize,
-        values: *mut u64, values_n: usize,
+        values: &mut [u64; VALUES],
     ) -> u64;
     fn bruncadorza_write_alts(
         text: *const u8, text_n: usize, ends: *const usize, ends_n: usize, out: *mut u8, out_n: usize, at: usize,
-        values: *mut u64, values_n: usize,
+        values: &mut [u64; VALUES],
     ) -> u64;
     fn bruncadorza_join(
         text: *const u8, text_n: usize, ends: *const usize, ends_n: usize, out: *mut u8, out_n: usize, at: usize,
-        values: *mut u64, values_n: usize,
+        values: &mut [u64; VALUES],
     ) -> u64;
 }
 
-/// What an entry told: its number, and `values` as it left them. N is one more than the most values that it has.
-pub(crate) struct Told<const N: usize> {
+/// What an entry told: its number, and `values` as it left them.
+pub(crate) struct Told<const N: usize = VALUES> {
     pub(crate) number: u64,
     values: [u64; N],
 }
 
 impl<const N: usize> Told<N> {
     /// Lends `values` to a call.
-    fn by(call: impl FnOnce(*mut u64, usize) -> u64) -> Self {
+    fn by(call: impl FnOnce(&mut [u64; N]) -> u64) -> Self {
         let mut values = [0; N];
-        let number = call(values.as_mut_ptr(), N);
+        let number = call(&mut values);
         Told { number, values }
     }
 
@@ -135,68 +139,64 @@ pub(crate) fn check_utf8(text: &[u8]) -> u64 {
     unsafe { bruncadorza_check_utf8(text.as_ptr(), text.len()) }
 }
 
-pub(crate) fn find_space(text: &[u8]) -> Told<2> {
-    Told::by(|values, n| unsafe { bruncadorza_find_space(text.as_ptr(), text.len(), values, n) })
+pub(crate) fn find_space(text: &[u8]) -> Told {
+    Told::by(|values| unsafe { bruncadorza_find_space(text.as_ptr(), text.len(), values) })
 }
 
-pub(crate) fn read_decimal(text: &[u8]) -> Told<2> {
-    Told::by(|values, n| unsafe { bruncadorza_read_decimal(text.as_ptr(), text.len(), values, n) })
+pub(crate) fn read_decimal(text: &[u8]) -> Told {
+    Told::by(|values| unsafe { bruncadorza_read_decimal(text.as_ptr(), text.len(), values) })
 }
 
-pub(crate) fn print_decimal(number: u64, out: &mut [u8]) -> Told<2> {
-    Told::by(|values, n| unsafe {
-        bruncadorza_print_decimal(number, out.as_mut_ptr(), out.len(), values, n)
+pub(crate) fn print_decimal(number: u64, out: &mut [u8]) -> Told {
+    Told::by(|values| unsafe {
+        bruncadorza_print_decimal(number, out.as_mut_ptr(), out.len(), values)
     })
 }
 
-pub(crate) fn read_line(s: &[u8], at: usize) -> Told<22> {
-    Told::by(|values, n| unsafe { bruncadorza_read_line(s.as_ptr(), s.len(), at, values, n) })
+pub(crate) fn read_line(s: &[u8], at: usize) -> Told<LINE_VALUES> {
+    Told::by(|values| unsafe { bruncadorza_read_line(s.as_ptr(), s.len(), at, values) })
 }
 
-pub(crate) fn field_text(s: &[u8], name: u64, place: Range) -> Told<3> {
-    Told::by(|values, n| unsafe {
-        bruncadorza_field_text(s.as_ptr(), s.len(), name, place.start, place.len, values, n)
+pub(crate) fn field_text(s: &[u8], name: u64, place: Range) -> Told {
+    Told::by(|values| unsafe {
+        bruncadorza_field_text(s.as_ptr(), s.len(), name, place.start, place.len, values)
     })
 }
 
-pub(crate) fn place_in(s: &[u8], place: Range) -> Told<3> {
-    Told::by(|values, n| unsafe {
-        bruncadorza_place_in(s.as_ptr(), s.len(), place.start, place.len, values, n)
+pub(crate) fn place_in(s: &[u8], place: Range) -> Told {
+    Told::by(|values| unsafe {
+        bruncadorza_place_in(s.as_ptr(), s.len(), place.start, place.len, values)
     })
 }
 
-pub(crate) fn read_pos(text: &[u8]) -> Told<2> {
-    Told::by(|values, n| unsafe { bruncadorza_read_pos(text.as_ptr(), text.len(), values, n) })
+pub(crate) fn read_pos(text: &[u8]) -> Told {
+    Told::by(|values| unsafe { bruncadorza_read_pos(text.as_ptr(), text.len(), values) })
 }
 
-pub(crate) fn info_step(column: &[u8], at: usize) -> Told<6> {
-    Told::by(|values, n| unsafe {
-        bruncadorza_info_step(column.as_ptr(), column.len(), at, values, n)
-    })
+pub(crate) fn info_step(column: &[u8], at: usize) -> Told {
+    Told::by(|values| unsafe { bruncadorza_info_step(column.as_ptr(), column.len(), at, values) })
 }
 
-pub(crate) fn info_find(column: &[u8], key: &[u8]) -> Told<6> {
-    Told::by(|values, n| unsafe {
+pub(crate) fn info_find(column: &[u8], key: &[u8]) -> Told {
+    Told::by(|values| unsafe {
         bruncadorza_info_find(
             column.as_ptr(),
             column.len(),
             key.as_ptr(),
             key.len(),
             values,
-            n,
         )
     })
 }
 
-pub(crate) fn info_value(column: &[u8], key: &[u8]) -> Told<3> {
-    Told::by(|values, n| unsafe {
+pub(crate) fn info_value(column: &[u8], key: &[u8]) -> Told {
+    Told::by(|values| unsafe {
         bruncadorza_info_value(
             column.as_ptr(),
             column.len(),
             key.as_ptr(),
             key.len(),
             values,
-            n,
         )
     })
 }
@@ -209,51 +209,42 @@ pub(crate) fn samples_count(samples: &[u8]) -> usize {
     size(unsafe { bruncadorza_samples_count(samples.as_ptr(), samples.len()) })
 }
 
-pub(crate) fn sample_at(samples: &[u8], at: usize) -> Told<4> {
-    Told::by(|values, n| unsafe {
-        bruncadorza_sample_at(samples.as_ptr(), samples.len(), at, values, n)
-    })
+pub(crate) fn sample_at(samples: &[u8], at: usize) -> Told {
+    Told::by(|values| unsafe { bruncadorza_sample_at(samples.as_ptr(), samples.len(), at, values) })
 }
 
-pub(crate) fn sample(samples: &[u8], index: usize) -> Told<3> {
-    Told::by(|values, n| unsafe {
-        bruncadorza_sample(samples.as_ptr(), samples.len(), index, values, n)
-    })
+pub(crate) fn sample(samples: &[u8], index: usize) -> Told {
+    Told::by(|values| unsafe { bruncadorza_sample(samples.as_ptr(), samples.len(), index, values) })
 }
 
-pub(crate) fn subfield(sample: &[u8], index: usize) -> Told<3> {
-    Told::by(|values, n| unsafe {
-        bruncadorza_subfield(sample.as_ptr(), sample.len(), index, values, n)
-    })
+pub(crate) fn subfield(sample: &[u8], index: usize) -> Told {
+    Told::by(|values| unsafe { bruncadorza_subfield(sample.as_ptr(), sample.len(), index, values) })
 }
 
-pub(crate) fn key_index(format: &[u8], key: &[u8]) -> Told<2> {
-    Told::by(|values, n| unsafe {
+pub(crate) fn key_index(format: &[u8], key: &[u8]) -> Told {
+    Told::by(|values| unsafe {
         bruncadorza_key_index(
             format.as_ptr(),
             format.len(),
             key.as_ptr(),
             key.len(),
             values,
-            n,
         )
     })
 }
 
-pub(crate) fn genotype_step(text: &[u8], at: usize) -> Told<5> {
-    Told::by(|values, n| unsafe {
-        bruncadorza_genotype_step(text.as_ptr(), text.len(), at, values, n)
+pub(crate) fn genotype_step(text: &[u8], at: usize) -> Told {
+    Told::by(|values| unsafe { bruncadorza_genotype_step(text.as_ptr(), text.len(), at, values) })
+}
+
+pub(crate) fn genotype_judge(text: &[u8], room: usize) -> Told {
+    Told::by(|values| unsafe {
+        bruncadorza_genotype_judge(text.as_ptr(), text.len(), room, values)
     })
 }
 
-pub(crate) fn genotype_judge(text: &[u8], room: usize) -> Told<2> {
-    Told::by(|values, n| unsafe {
-        bruncadorza_genotype_judge(text.as_ptr(), text.len(), room, values, n)
-    })
-}
-
-pub(crate) fn genotype_judge_checked(text: &[u8], alt: &[u8], room: usize) -> Told<2> {
-    Told::by(|values, n| unsafe {
+pub(crate) fn genotype_judge_checked(text: &[u8], alt: &[u8], room: usize) -> Told {
+    Told::by(|values| unsafe {
         bruncadorza_genotype_judge_checked(
             text.as_ptr(),
             text.len(),
@@ -261,7 +252,6 @@ pub(crate) fn genotype_judge_checked(text: &[u8], alt: &[u8], room: usize) -> To
             alt.len(),
             room,
             values,
-            n,
         )
     })
 }
@@ -271,8 +261,8 @@ pub(crate) fn read_genotype(
     numbers: &mut [u64],
     missing: &mut [u8],
     phased: &mut [u8],
-) -> Told<2> {
-    Told::by(|values, n| unsafe {
+) -> Told {
+    Told::by(|values| unsafe {
         bruncadorza_read_genotype(
             text.as_ptr(),
             text.len(),
@@ -283,7 +273,6 @@ pub(crate) fn read_genotype(
             phased.as_mut_ptr(),
             phased.len(),
             values,
-            n,
         )
     })
 }
@@ -294,8 +283,8 @@ pub(crate) fn read_genotype_checked(
     numbers: &mut [u64],
     missing: &mut [u8],
     phased: &mut [u8],
-) -> Told<2> {
-    Told::by(|values, n| unsafe {
+) -> Told {
+    Told::by(|values| unsafe {
         bruncadorza_read_genotype_checked(
             text.as_ptr(),
             text.len(),
@@ -308,7 +297,6 @@ pub(crate) fn read_genotype_checked(
             phased.as_mut_ptr(),
             phased.len(),
             values,
-            n,
         )
     })
 }
@@ -320,8 +308,8 @@ pub(crate) fn write_genotype(
     (major, minor): (u32, u32),
     out: &mut [u8],
     at: usize,
-) -> Told<2> {
-    Told::by(|values, n| unsafe {
+) -> Told {
+    Told::by(|values| unsafe {
         bruncadorza_write_genotype(
             numbers.as_ptr(),
             numbers.len(),
@@ -335,7 +323,6 @@ pub(crate) fn write_genotype(
             out.len(),
             at,
             values,
-            n,
         )
     })
 }
@@ -352,8 +339,8 @@ pub(crate) fn alt_count(column: &[u8]) -> usize {
     size(unsafe { bruncadorza_alt_count(column.as_ptr(), column.len()) })
 }
 
-pub(crate) fn write_filters(text: &[u8], ends: &[usize], out: &mut [u8], at: usize) -> Told<2> {
-    Told::by(|values, n| unsafe {
+pub(crate) fn write_filters(text: &[u8], ends: &[usize], out: &mut [u8], at: usize) -> Told {
+    Told::by(|values| unsafe {
         bruncadorza_write_filters(
             text.as_ptr(),
             text.len(),
@@ -363,13 +350,12 @@ pub(crate) fn write_filters(text: &[u8], ends: &[usize], out: &mut [u8], at: usi
             out.len(),
             at,
             values,
-            n,
         )
     })
 }
 
-pub(crate) fn write_alts(text: &[u8], ends: &[usize], out: &mut [u8], at: usize) -> Told<2> {
-    Told::by(|values, n| unsafe {
+pub(crate) fn write_alts(text: &[u8], ends: &[usize], out: &mut [u8], at: usize) -> Told {
+    Told::by(|values| unsafe {
         bruncadorza_write_alts(
             text.as_ptr(),
             text.len(),
@@ -379,13 +365,12 @@ pub(crate) fn write_alts(text: &[u8], ends: &[usize], out: &mut [u8], at: usize)
             out.len(),
             at,
             values,
-            n,
         )
     })
 }
 
-pub(crate) fn join(text: &[u8], ends: &[usize], out: &mut [u8], at: usize) -> Told<2> {
-    Told::by(|values, n| unsafe {
+pub(crate) fn join(text: &[u8], ends: &[usize], out: &mut [u8], at: usize) -> Told {
+    Told::by(|values| unsafe {
         bruncadorza_join(
             text.as_ptr(),
             text.len(),
@@ -395,7 +380,6 @@ pub(crate) fn join(text: &[u8], ends: &[usize], out: &mut [u8], at: usize) -> To
             out.len(),
             at,
             values,
-            n,
         )
     })
 }

@@ -94,7 +94,7 @@ impl Read {
     }
 }
 
-fn read_of(told: ffi::Told<2>) -> Read {
+fn read_of(told: ffi::Told) -> Read {
     match (told.number, told.values()) {
         (0, &[count]) => Read::Done(size(count)),
         (11, []) => Read::Empty,

@@ -64,7 +64,7 @@ impl Step {
     }
 }
 
-fn step_of(told: ffi::Told<6>) -> Step {
+fn step_of(told: ffi::Told) -> Step {
     match (told.number, told.values()) {
         (0, &[next, start, len]) => {
             let key = range(start, len);

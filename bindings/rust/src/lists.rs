@@ -99,7 +99,7 @@ impl Write {
     }
 }
 
-fn write_of(kind: Kind, told: ffi::Told<2>) -> Write {
+fn write_of(kind: Kind, told: ffi::Told) -> Write {
     match (told.number, told.values()) {
         (0, &[count]) => Write::Done(size(count)),
         (5, &[index]) => Write::NotUtf8(size(index)),

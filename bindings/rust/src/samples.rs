@@ -93,7 +93,7 @@ impl Nth {
     }
 }
 
-fn nth_of(told: ffi::Told<3>) -> Nth {
+fn nth_of(told: ffi::Told) -> Nth {
     match (told.number, told.values()) {
         (0, &[start, len]) => Nth::At(range(start, len)),
         (10, []) => Nth::Nothing,

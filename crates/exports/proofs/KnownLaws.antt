@@ -37,9 +37,9 @@ allele-known e = rw e
 
 -- ---- the values of a line, and of an allele
 
-module _ {k r : ℕ} {l l′ : List ℕ} where
+module _ {r : ℕ} {l l′ : List ℕ} where
   pub line-told : (line : Record) (next : ℕ) {chrom pos id reference alt qual filter info format samples : Range}
-      → Tells k (says 0 (next ∷ chrom .start ∷ chrom .len ∷ pos .start ∷ pos .len ∷ id .start ∷ id .len ∷ reference .start ∷ reference .len ∷ alt .start ∷ alt .len ∷ qual .start ∷ qual .len ∷ filter .start ∷ filter .len ∷ info .start ∷ info .len ∷ format .start ∷ format .len ∷ samples .start ∷ samples .len ∷ [])) l r l′
+      → Tells (says 0 (next ∷ chrom .start ∷ chrom .len ∷ pos .start ∷ pos .len ∷ id .start ∷ id .len ∷ reference .start ∷ reference .len ∷ alt .start ∷ alt .len ∷ qual .start ∷ qual .len ∷ filter .start ∷ filter .len ∷ info .start ∷ info .len ∷ format .start ∷ format .len ∷ samples .start ∷ samples .len ∷ [])) l r l′
       → chrom ≡ rangeOf line N.Chrom
       → pos ≡ rangeOf line N.Pos
       → id ≡ rangeOf line N.Id
@@ -50,9 +50,9 @@ module _ {k r : ℕ} {l l′ : List ℕ} where
       → info ≡ rangeOf line N.Info
       → format ≡ rangeOf line N.Format
       → samples ≡ rangeOf line N.Samples
-      → Tells k (readPaper (R.Line line next)) l r l′
+      → Tells (readPaper (R.Line line next)) l r l′
   line-told line next t a b c d e f g h i j = told-case (L.read-line refl ∙ rw (a, b, c, d, e, f, g, h, i, j)) t
 
   pub allele-told : (a : Allele) (next : ℕ) {n m p : ℕ} → n ≡ a .number → m ≡ oneIf (a .missing) → p ≡ oneIf (a .phased)
-      → Tells k (says 0 (next ∷ n ∷ m ∷ p ∷ [])) l r l′ → Tells k (GP.stepPaper (G.Found a next)) l r l′
+      → Tells (says 0 (next ∷ n ∷ m ∷ p ∷ [])) l r l′ → Tells (GP.stepPaper (G.Found a next)) l r l′
   allele-told a next e f g t = told-case (A.step-found refl ∙ rw (e, f, g)) t

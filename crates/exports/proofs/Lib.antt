@@ -2,8 +2,5 @@ pub mod TellLaws
 pub mod ToldLaws
 pub mod KnownLaws
 pub mod NameLaws
-pub mod ShownLaws
 pub mod NumberLaws
-pub mod WritingLaws
-pub mod ReadingLaws
 pub mod Determined

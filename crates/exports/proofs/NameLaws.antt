@@ -28,12 +28,12 @@ pub name-last : (n : ℕ) → (n ≡ 0 → ⊥) → (n ≡ 1 → ⊥) → (n ≡
 unfolding nameOf
 name-last n a b c d e f g h i = sym (List·getD-eq-default names N.Samples (past-eight n (past-four n a b c d e) f g h i))
 
-module _ (s : List ℕ) (n : ℕ) (r : Range) {k q : ℕ} {l l′ : List ℕ} where
-  pub named-none : 9 < n → Tells k (says 10 []) l q l′ → Tells k (namedAnswer s n r) l q l′
+module _ (s : List ℕ) (n : ℕ) (r : Range) {q : ℕ} {l l′ : List ℕ} where
+  pub named-none : 9 < n → Tells (says 10 []) l q l′ → Tells (namedAnswer s n r) l q l′
   unfolding namedAnswer
   named-none h t = rw (lt-leb _ _ h) t
 
-  pub named-text : {m : Name} {p : Answer} → n ≤ 9 → m ≡ nameOf n → p ≡ textAnswer s m r → Tells k p l q l′ → Tells k (namedAnswer s n r) l q l′
+  pub named-text : {m : Name} {p : Answer} → n ≤ 9 → m ≡ nameOf n → p ≡ textAnswer s m r → Tells p l q l′ → Tells (namedAnswer s n r) l q l′
   unfolding namedAnswer
   named-text h e f t = rw (le-leb _ _ h, ← e, ← f) t
 

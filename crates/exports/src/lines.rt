@@ -1,4 +1,6 @@
 // Lines, the texts of their fields, and POS.
+use crate::told::LINE_VALUES;
+use crate::told::VALUES;
 use crate::told::size;
 use crate::told::tell;
 use crate::told::tell_none;
@@ -16,19 +18,16 @@ use line::read::Record;
 use line::read::read_line;
 use text::range::Range;
 ghost use mathlib.Core.Path.{_≡_};
-ghost use Rattle.text.specs.Range.{rangeAt};
-ghost use Rattle.line.specs.Line.{readAnswer};
 ghost use Rattle.line.specs.Paper.{readPaper};
 ghost use Rattle.line.specs.declared.read.Read.the-variants as R;
-ghost use Rattle.fields.specs.Fields.{placeAnswer};
-ghost use Rattle.fields.specs.Pos.{posAnswer};
 ghost use Rattle.fields.specs.Paper.{fieldPaper, positionPaper};
 ghost use Rattle.exports.specs.Told.{Tells};
-ghost use Rattle.exports.specs.Places.{nameOf, namedAnswer};
+ghost use Rattle.exports.specs.Places.{nameOf};
+ghost use Rattle.exports.specs.Promises.{ReadsLine, FindsText, FindsPlace, ReadsPos};
 
 // The next place, and the ten places of a record.
-fn tell_line(line: Record, next: usize, values: &mut [u64]) -> u64
-    ensures { λ r. ⌜ Tells 21 (readPaper (R.Line line next)) (now (values .entry)) r (now (values .exit)) ⌝ }
+fn tell_line(line: Record, next: usize, values: &mut [u64; LINE_VALUES]) -> u64
+    ensures { λ r. ⌜ Tells (readPaper (R.Line line next)) (now (values .entry)) r (now (values .exit)) ⌝ }
 {
     let chrom = place_of(line, Name::Chrom);
     let pos = place_of(line, Name::Pos);
@@ -63,39 +62,39 @@ fn tell_line(line: Record, next: usize, values: &mut [u64]) -> u64
         samples.start,
         samples.len,
     ];
-    tell(21, 0, &vs, values)
+    tell(0, &vs, values)
 }
 
-fn tell_read(read: Read, values: &mut [u64]) -> u64
-    ensures { λ r. ⌜ Tells 21 (readPaper read) (now (values .entry)) r (now (values .exit)) ⌝ }
+fn tell_read(read: Read, values: &mut [u64; LINE_VALUES]) -> u64
+    ensures { λ r. ⌜ Tells (readPaper read) (now (values .entry)) r (now (values .exit)) ⌝ }
 {
     match read {
         Read::Line(line, next) => tell_line(line, next, values),
-        Read::End(next) => tell_one(21, 1, next, values),
-        Read::Empty(next) => tell_one(21, 2, next, values),
-        Read::Fed(next) => tell_one(21, 3, next, values),
-        Read::Cut(next) => tell_one(21, 4, next, values),
-        Read::NotUtf8(next) => tell_one(21, 5, next, values),
-        Read::Beyond(next) => tell_one(21, 6, next, values),
+        Read::End(next) => tell_one(1, next, values),
+        Read::Empty(next) => tell_one(2, next, values),
+        Read::Fed(next) => tell_one(3, next, values),
+        Read::Cut(next) => tell_one(4, next, values),
+        Read::NotUtf8(next) => tell_one(5, next, values),
+        Read::Beyond(next) => tell_one(6, next, values),
     }
 }
 
 // Reads the line at the place `at`: 0 to 6. 21 values at most: the next place, and of a line the start and the length of each of
 // its ten fields, CHROM, POS, ID, REF, ALT, QUAL, FILTER, INFO, FORMAT and the samples.
 #[no_mangle]
-pub extern "C" fn bruncadorza_read_line(s: &[u8], at: usize, values: &mut [u64]) -> u64
-    ensures { λ r. ⌜ Tells 21 (readAnswer (now (s .entry)) at) (now (values .entry)) r (now (values .exit)) ⌝ }
+pub extern "C" fn bruncadorza_read_line(s: &[u8], at: usize, values: &mut [u64; LINE_VALUES]) -> u64
+    ensures { λ r. ⌜ ReadsLine (now (s .entry)) at (now (values .entry)) r (now (values .exit)) ⌝ }
 {
     tell_read(read_line(s, at), values)
 }
 
-fn tell_text(text: Text, values: &mut [u64]) -> u64
-    ensures { λ r. ⌜ Tells 2 (fieldPaper text) (now (values .entry)) r (now (values .exit)) ⌝ }
+fn tell_text(text: Text, values: &mut [u64; VALUES]) -> u64
+    ensures { λ r. ⌜ Tells (fieldPaper text) (now (values .entry)) r (now (values .exit)) ⌝ }
 {
     match text {
-        Text::At(place) => tell_place(2, 0, place, values),
-        Text::Absent => tell_none(2, 0, values),
-        Text::Beyond => tell_none(2, 6, values),
+        Text::At(place) => tell_place(0, place, values),
+        Text::Absent => tell_none(0, values),
+        Text::Beyond => tell_none(6, values),
     }
 }
 
@@ -126,12 +125,12 @@ pub extern "C" fn bruncadorza_field_text(
     name: u64,
     start: usize,
     len: usize,
-    values: &mut [u64],
+    values: &mut [u64; VALUES],
 ) -> u64
-    ensures { λ r. ⌜ Tells 2 (namedAnswer (now (s .entry)) name (rangeAt start len)) (now (values .entry)) r (now (values .exit)) ⌝ }
+    ensures { λ r. ⌜ FindsText (now (s .entry)) name start len (now (values .entry)) r (now (values .exit)) ⌝ }
 {
     if name > 9 {
-        return tell_none(2, 10, values);
+        return tell_none(10, values);
     }
     tell_text(text_in(s, name_of(name), Range { start, len }), values)
 }
@@ -142,27 +141,27 @@ pub extern "C" fn bruncadorza_place_in(
     s: &[u8],
     start: usize,
     len: usize,
-    values: &mut [u64],
+    values: &mut [u64; VALUES],
 ) -> u64
-    ensures { λ r. ⌜ Tells 2 (placeAnswer (now (s .entry)) (rangeAt start len)) (now (values .entry)) r (now (values .exit)) ⌝ }
+    ensures { λ r. ⌜ FindsPlace (now (s .entry)) start len (now (values .entry)) r (now (values .exit)) ⌝ }
 {
     tell_text(place_in(s, Range { start, len }), values)
 }
 
-fn tell_position(position: Position, values: &mut [u64]) -> u64
-    ensures { λ r. ⌜ Tells 1 (positionPaper position) (now (values .entry)) r (now (values .exit)) ⌝ }
+fn tell_position(position: Position, values: &mut [u64; VALUES]) -> u64
+    ensures { λ r. ⌜ Tells (positionPaper position) (now (values .entry)) r (now (values .exit)) ⌝ }
 {
     match position {
-        Position::At(n) => tell_one(1, 0, size(n), values),
-        Position::Nowhere => tell_none(1, 0, values),
-        Position::Bad => tell_none(1, 21, values),
+        Position::At(n) => tell_one(0, size(n), values),
+        Position::Nowhere => tell_none(0, values),
+        Position::Bad => tell_none(21, values),
     }
 }
 
 // What a POS text says: 0, or 21. One value at most: the position, none where the text is `0`.
 #[no_mangle]
-pub extern "C" fn bruncadorza_read_pos(text: &[u8], values: &mut [u64]) -> u64
-    ensures { λ r. ⌜ Tells 1 (posAnswer (now (text .entry))) (now (values .entry)) r (now (values .exit)) ⌝ }
+pub extern "C" fn bruncadorza_read_pos(text: &[u8], values: &mut [u64; VALUES]) -> u64
+    ensures { λ r. ⌜ ReadsPos (now (text .entry)) (now (values .entry)) r (now (values .exit)) ⌝ }
 {
     tell_position(read_pos(text), values)
 }

@@ -1,4 +1,5 @@
 // Samples, their subfields, and the keys of FORMAT.
+use crate::told::VALUES;
 use crate::told::tell;
 use crate::told::tell_none;
 use crate::told::tell_one;
@@ -12,83 +13,88 @@ use samples::columns::sample_at;
 use samples::columns::subfield;
 use samples::keys::Key;
 use samples::keys::key_index;
-ghost use lib.ListN.{length};
 ghost use Rattle.pieces.specs.Paper.{stepPaper, nthPaper};
-ghost use Rattle.samples.specs.Samples.{samplesOf, sampleStep, sampleAnswer, subfieldAnswer};
-ghost use Rattle.samples.specs.Keys.{keyAnswer};
 ghost use Rattle.samples.specs.Paper.{keyPaper};
 ghost use Rattle.exports.specs.Told.{Tells};
-ghost use Rattle.exports.specs.Promises.{Counts};
+ghost use Rattle.exports.specs.Promises.{CountsSamples, VisitsSample, GivesSample, GivesSubfield, FindsKey};
 
 // How many samples there are: the count itself.
 #[no_mangle]
 pub extern "C" fn bruncadorza_samples_count(samples: &[u8]) -> u64
-    ensures { λ r. ⌜ Counts (length (samplesOf (now (samples .entry)))) r ⌝ }
+    ensures { λ r. ⌜ CountsSamples (now (samples .entry)) r ⌝ }
 {
     wide(count(samples))
 }
 
-fn tell_step(step: Step, values: &mut [u64]) -> u64
-    ensures { λ r. ⌜ Tells 3 (stepPaper step) (now (values .entry)) r (now (values .exit)) ⌝ }
+fn tell_step(step: Step, values: &mut [u64; VALUES]) -> u64
+    ensures { λ r. ⌜ Tells (stepPaper step) (now (values .entry)) r (now (values .exit)) ⌝ }
 {
     match step {
         Step::More(place, next) => {
             let vs = [place.start, place.len, next];
-            tell(3, 0, &vs, values)
+            tell(0, &vs, values)
         }
-        Step::Last(place) => tell_place(3, 0, place, values),
-        Step::Nothing => tell_none(3, 10, values),
-        Step::Beyond => tell_none(3, 6, values),
+        Step::Last(place) => tell_place(0, place, values),
+        Step::Nothing => tell_none(10, values),
+        Step::Beyond => tell_none(6, values),
     }
 }
 
 // The sample at the place `at`: 0, or 10 where there is none, or 6. Three values at most: its start and length, and the next place
 // where it is not the last.
 #[no_mangle]
-pub extern "C" fn bruncadorza_sample_at(samples: &[u8], at: usize, values: &mut [u64]) -> u64
-    ensures { λ r. ⌜ Tells 3 (sampleStep (now (samples .entry)) at) (now (values .entry)) r (now (values .exit)) ⌝ }
+pub extern "C" fn bruncadorza_sample_at(
+    samples: &[u8],
+    at: usize,
+    values: &mut [u64; VALUES],
+) -> u64
+    ensures { λ r. ⌜ VisitsSample (now (samples .entry)) at (now (values .entry)) r (now (values .exit)) ⌝ }
 {
     tell_step(sample_at(samples, at), values)
 }
 
-fn tell_nth(nth: Nth, values: &mut [u64]) -> u64
-    ensures { λ r. ⌜ Tells 2 (nthPaper nth) (now (values .entry)) r (now (values .exit)) ⌝ }
+fn tell_nth(nth: Nth, values: &mut [u64; VALUES]) -> u64
+    ensures { λ r. ⌜ Tells (nthPaper nth) (now (values .entry)) r (now (values .exit)) ⌝ }
 {
     match nth {
-        Nth::At(place) => tell_place(2, 0, place, values),
-        Nth::Nothing => tell_none(2, 10, values),
+        Nth::At(place) => tell_place(0, place, values),
+        Nth::Nothing => tell_none(10, values),
     }
 }
 
 // Sample n, counted from 0: 0, or 10. Two values at most: its start and length.
 #[no_mangle]
-pub extern "C" fn bruncadorza_sample(samples: &[u8], n: usize, values: &mut [u64]) -> u64
-    ensures { λ r. ⌜ Tells 2 (sampleAnswer (now (samples .entry)) n) (now (values .entry)) r (now (values .exit)) ⌝ }
+pub extern "C" fn bruncadorza_sample(samples: &[u8], n: usize, values: &mut [u64; VALUES]) -> u64
+    ensures { λ r. ⌜ GivesSample (now (samples .entry)) n (now (values .entry)) r (now (values .exit)) ⌝ }
 {
     tell_nth(sample(samples, n), values)
 }
 
 // Subfield n of a sample's text, counted from 0: 0, or 10. Two values at most: its start and length.
 #[no_mangle]
-pub extern "C" fn bruncadorza_subfield(sample: &[u8], n: usize, values: &mut [u64]) -> u64
-    ensures { λ r. ⌜ Tells 2 (subfieldAnswer (now (sample .entry)) n) (now (values .entry)) r (now (values .exit)) ⌝ }
+pub extern "C" fn bruncadorza_subfield(sample: &[u8], n: usize, values: &mut [u64; VALUES]) -> u64
+    ensures { λ r. ⌜ GivesSubfield (now (sample .entry)) n (now (values .entry)) r (now (values .exit)) ⌝ }
 {
     tell_nth(subfield(sample, n), values)
 }
 
-fn tell_key(key: Key, values: &mut [u64]) -> u64
-    ensures { λ r. ⌜ Tells 1 (keyPaper key) (now (values .entry)) r (now (values .exit)) ⌝ }
+fn tell_key(key: Key, values: &mut [u64; VALUES]) -> u64
+    ensures { λ r. ⌜ Tells (keyPaper key) (now (values .entry)) r (now (values .exit)) ⌝ }
 {
     match key {
-        Key::Index(i) => tell_one(1, 0, i, values),
-        Key::Nothing => tell_none(1, 10, values),
+        Key::Index(i) => tell_one(0, i, values),
+        Key::Nothing => tell_none(10, values),
     }
 }
 
 // The first key of FORMAT that is equal: 0, or 10. One value at most: its index, from 0.
 #[no_mangle]
-pub extern "C" fn bruncadorza_key_index(format: &[u8], key: &[u8], values: &mut [u64]) -> u64
-    ensures { λ r. ⌜ Tells 1 (keyAnswer (now (format .entry)) (now (key .entry))) (now (values .entry)) r (now (values .exit)) ⌝ }
+pub extern "C" fn bruncadorza_key_index(
+    format: &[u8],
+    key: &[u8],
+    values: &mut [u64; VALUES],
+) -> u64
+    ensures { λ r. ⌜ FindsKey (now (format .entry)) (now (key .entry)) (now (values .entry)) r (now (values .exit)) ⌝ }
 {
     tell_key(key_index(format, key), values)
 }

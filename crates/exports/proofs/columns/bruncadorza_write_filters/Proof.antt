@@ -1,11 +1,8 @@
--- 17 before anything is written, or what the writer that it calls leaves, told. Assumes nothing.
+-- What the writer that it calls leaves, told. Assumes nothing.
 use borrow.Author.Needs.{needs}
-use Rattle.exports.proofs.WritingLaws.{laws}
+use Rattle.exports.proofs.ToldLaws.{laws}
 use Rattle.exports.proofs.columns.bruncadorza_write_filters.Statement.{statement}
 use Rattle.exports.proofs.columns.bruncadorza_write_filters.Tie as tie
-
-returns : tie.Need-returns
-returns c = search (needs, laws)
 
 write-filters-requires : tie.Need-write-filters-requires
 write-filters-requires c κs = search needs
@@ -16,11 +13,9 @@ tell-write-requires c κs = search needs
 same-length : tie.Need-same-length
 same-length c = search needs
 
-same-length-2 : tie.Need-same-length-2
-same-length-2 c = search needs
-
-returns-2 : tie.Need-returns-2
-returns-2 c = search (needs, laws)
+returns : tie.Need-returns
+returns c = search (needs, laws)
 
 pub bruncadorza-write-filters-spec : {M : Type 1} → statement M
-bruncadorza-write-filters-spec = tie.close (tie.spec returns write-filters-requires tell-write-requires same-length same-length-2 returns-2)
+bruncadorza-write-filters-spec =
+    tie.close (tie.spec write-filters-requires tell-write-requires same-length returns)

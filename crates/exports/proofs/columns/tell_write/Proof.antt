@@ -44,41 +44,23 @@ enum-told-3 c = search needs
 tell-none-requires-3 : tie.Need-tell-none-requires-3
 tell-none-requires-3 c κs = search needs
 
-same-length : tie.Need-same-length
-same-length c = search needs
-
 returns : tie.Need-returns
 returns c = search (needs, arms, cases)
-
-same-length-2 : tie.Need-same-length-2
-same-length-2 c = search needs
 
 returns-2 : tie.Need-returns-2
 returns-2 c = search (needs, arms, cases)
 
-same-length-3 : tie.Need-same-length-3
-same-length-3 c = search needs
-
 returns-3 : tie.Need-returns-3
 returns-3 c = search (needs, arms, cases)
-
-same-length-4 : tie.Need-same-length-4
-same-length-4 c = search needs
 
 returns-4 : tie.Need-returns-4
 returns-4 c = search (needs, arms, cases)
 
-same-length-5 : tie.Need-same-length-5
-same-length-5 c = search needs
-
 returns-5 : tie.Need-returns-5
 returns-5 c = search (needs, arms, cases)
-
-same-length-6 : tie.Need-same-length-6
-same-length-6 c = search needs
 
 returns-6 : tie.Need-returns-6
 returns-6 c = search (needs, arms, cases)
 
 pub tell-write-spec : {M : Type 1} → statement M
-tell-write-spec = tie.close (tie.spec enum-known-write tell-one-requires enum-known-write-2 tell-one-requires-2 enum-told tell-none-requires enum-known-write-3 invalid-requires tell-one-requires-3 enum-told-2 tell-none-requires-2 enum-told-3 tell-none-requires-3 same-length returns same-length-2 returns-2 same-length-3 returns-3 same-length-4 returns-4 same-length-5 returns-5 same-length-6 returns-6)
+tell-write-spec = tie.close (tie.spec enum-known-write tell-one-requires enum-known-write-2 tell-one-requires-2 enum-told tell-none-requires enum-known-write-3 invalid-requires tell-one-requires-3 enum-told-2 tell-none-requires-2 enum-told-3 tell-none-requires-3 returns returns-2 returns-3 returns-4 returns-5 returns-6)

@@ -10,11 +10,8 @@ judge-checked-requires c κs = search needs
 tell-read-requires : tie.Need-tell-read-requires
 tell-read-requires c κs = search needs
 
-same-length : tie.Need-same-length
-same-length c = search needs
-
 returns : tie.Need-returns
 returns c = search (needs, laws)
 
 pub bruncadorza-genotype-judge-checked-spec : {M : Type 1} → statement M
-bruncadorza-genotype-judge-checked-spec = tie.close (tie.spec judge-checked-requires tell-read-requires same-length returns)
+bruncadorza-genotype-judge-checked-spec = tie.close (tie.spec judge-checked-requires tell-read-requires returns)

@@ -19,11 +19,8 @@ slice-aggregate-tell c = search needs
 tell-requires : tie.Need-tell-requires
 tell-requires c κs = search needs
 
-same-length : tie.Need-same-length
-same-length c = search needs
-
 returns : tie.Need-returns
 returns c = search (needs, allele-told)
 
 pub tell-allele-spec : {M : Type 1} → statement M
-tell-allele-spec = tie.close (tie.spec size-requires mark-of-requires mark-of-requires-2 slice-aggregate-tell tell-requires same-length returns)
+tell-allele-spec = tie.close (tie.spec size-requires mark-of-requires mark-of-requires-2 slice-aggregate-tell tell-requires returns)

@@ -36,35 +36,20 @@ enum-told-4 c = search needs
 tell-none-requires-4 : tie.Need-tell-none-requires-4
 tell-none-requires-4 c κs = search needs
 
-same-length : tie.Need-same-length
-same-length c = search needs
-
 returns : tie.Need-returns
 returns c = search (needs, arms, cases, allele-known)
-
-same-length-2 : tie.Need-same-length-2
-same-length-2 c = search needs
 
 returns-2 : tie.Need-returns-2
 returns-2 c = search (needs, arms, cases)
 
-same-length-3 : tie.Need-same-length-3
-same-length-3 c = search needs
-
 returns-3 : tie.Need-returns-3
 returns-3 c = search (needs, arms, cases)
 
-same-length-4 : tie.Need-same-length-4
-same-length-4 c = search needs
-
 returns-4 : tie.Need-returns-4
 returns-4 c = search (needs, arms, cases)
-
-same-length-5 : tie.Need-same-length-5
-same-length-5 c = search needs
 
 returns-5 : tie.Need-returns-5
 returns-5 c = search (needs, arms, cases)
 
 pub tell-step-spec : {M : Type 1} → statement M
-tell-step-spec = tie.close (tie.spec enum-known-step tell-allele-requires enum-told tell-none-requires enum-told-2 tell-none-requires-2 enum-told-3 tell-none-requires-3 enum-told-4 tell-none-requires-4 same-length returns same-length-2 returns-2 same-length-3 returns-3 same-length-4 returns-4 same-length-5 returns-5)
+tell-step-spec = tie.close (tie.spec enum-known-step tell-allele-requires enum-told tell-none-requires enum-told-2 tell-none-requires-2 enum-told-3 tell-none-requires-3 enum-told-4 tell-none-requires-4 returns returns-2 returns-3 returns-4 returns-5)

@@ -10,11 +10,8 @@ step-at-requires c κs = search needs
 tell-step-requires : tie.Need-tell-step-requires
 tell-step-requires c κs = search needs
 
-same-length : tie.Need-same-length
-same-length c = search needs
-
 returns : tie.Need-returns
 returns c = search (needs, laws)
 
 pub bruncadorza-info-step-spec : {M : Type 1} → statement M
-bruncadorza-info-step-spec = tie.close (tie.spec step-at-requires tell-step-requires same-length returns)
+bruncadorza-info-step-spec = tie.close (tie.spec step-at-requires tell-step-requires returns)

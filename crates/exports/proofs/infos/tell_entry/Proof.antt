@@ -23,17 +23,11 @@ slice-aggregate-tell-2 c = search needs
 tell-requires-2 : tie.Need-tell-requires-2
 tell-requires-2 c κs = search needs
 
-same-length : tie.Need-same-length
-same-length c = search needs
-
 returns : tie.Need-returns
 returns c = search (needs, arms, cases)
-
-same-length-2 : tie.Need-same-length-2
-same-length-2 c = search needs
 
 returns-2 : tie.Need-returns-2
 returns-2 c = search (needs, arms, cases)
 
 pub tell-entry-spec : {M : Type 1} → statement M
-tell-entry-spec = tie.close (tie.spec enum-told slice-aggregate-tell tell-requires enum-known-value slice-aggregate-tell-2 tell-requires-2 same-length returns same-length-2 returns-2)
+tell-entry-spec = tie.close (tie.spec enum-told slice-aggregate-tell tell-requires enum-known-value slice-aggregate-tell-2 tell-requires-2 returns returns-2)

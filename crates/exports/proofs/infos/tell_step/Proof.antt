@@ -42,41 +42,23 @@ enum-known-step-6 c = search needs
 tell-one-requires-5 : tie.Need-tell-one-requires-5
 tell-one-requires-5 c κs = search needs
 
-same-length : tie.Need-same-length
-same-length c = search needs
-
 returns : tie.Need-returns
 returns c = search (needs, arms, cases, entry-known)
-
-same-length-2 : tie.Need-same-length-2
-same-length-2 c = search needs
 
 returns-2 : tie.Need-returns-2
 returns-2 c = search (needs, arms, cases)
 
-same-length-3 : tie.Need-same-length-3
-same-length-3 c = search needs
-
 returns-3 : tie.Need-returns-3
 returns-3 c = search (needs, arms, cases)
-
-same-length-4 : tie.Need-same-length-4
-same-length-4 c = search needs
 
 returns-4 : tie.Need-returns-4
 returns-4 c = search (needs, arms, cases)
 
-same-length-5 : tie.Need-same-length-5
-same-length-5 c = search needs
-
 returns-5 : tie.Need-returns-5
 returns-5 c = search (needs, arms, cases)
-
-same-length-6 : tie.Need-same-length-6
-same-length-6 c = search needs
 
 returns-6 : tie.Need-returns-6
 returns-6 c = search (needs, arms, cases)
 
 pub tell-step-spec : {M : Type 1} → statement M
-tell-step-spec = tie.close (tie.spec enum-known-step tell-entry-requires enum-known-step-2 tell-one-requires enum-known-step-3 tell-one-requires-2 enum-known-step-4 tell-one-requires-3 enum-known-step-5 tell-one-requires-4 enum-known-step-6 tell-one-requires-5 same-length returns same-length-2 returns-2 same-length-3 returns-3 same-length-4 returns-4 same-length-5 returns-5 same-length-6 returns-6)
+tell-step-spec = tie.close (tie.spec enum-known-step tell-entry-requires enum-known-step-2 tell-one-requires enum-known-step-3 tell-one-requires-2 enum-known-step-4 tell-one-requires-3 enum-known-step-5 tell-one-requires-4 enum-known-step-6 tell-one-requires-5 returns returns-2 returns-3 returns-4 returns-5 returns-6)

@@ -10,12 +10,9 @@ find-space-requires c κs = search needs
 tell-space-requires : tie.Need-tell-space-requires
 tell-space-requires c κs = search needs
 
-same-length : tie.Need-same-length
-same-length c = search needs
-
 returns : tie.Need-returns
 returns c = search (needs, laws)
 
 pub bruncadorza-find-space-spec : {M : Type 1} → statement M
 bruncadorza-find-space-spec =
-    tie.close (tie.spec find-space-requires tell-space-requires same-length returns)
+    tie.close (tie.spec find-space-requires tell-space-requires returns)

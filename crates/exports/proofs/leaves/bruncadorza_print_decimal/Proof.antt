@@ -1,11 +1,8 @@
--- 17 before anything is written, or what the writer that it calls leaves, told. Assumes nothing.
+-- What the writer that it calls leaves, told. Assumes nothing.
 use borrow.Author.Needs.{needs}
-use Rattle.exports.proofs.WritingLaws.{laws}
+use Rattle.exports.proofs.ToldLaws.{laws}
 use Rattle.exports.proofs.leaves.bruncadorza_print_decimal.Statement.{statement}
 use Rattle.exports.proofs.leaves.bruncadorza_print_decimal.Tie as tie
-
-returns : tie.Need-returns
-returns c = search (needs, laws)
 
 print-decimal-requires : tie.Need-print-decimal-requires
 print-decimal-requires c κs = search needs
@@ -16,19 +13,9 @@ tell-written-requires c κs = search needs
 same-length : tie.Need-same-length
 same-length c = search needs
 
-same-length-2 : tie.Need-same-length-2
-same-length-2 c = search needs
-
-returns-2 : tie.Need-returns-2
-returns-2 c = search (needs, laws)
+returns : tie.Need-returns
+returns c = search (needs, laws)
 
 pub bruncadorza-print-decimal-spec : {M : Type 1} → statement M
 bruncadorza-print-decimal-spec =
-    tie.close
-    (tie.spec
-    returns
-    print-decimal-requires
-    tell-written-requires
-    same-length
-    same-length-2
-    returns-2)
+    tie.close (tie.spec print-decimal-requires tell-written-requires same-length returns)

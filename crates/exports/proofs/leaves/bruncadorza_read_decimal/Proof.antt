@@ -10,12 +10,9 @@ read-decimal-requires c κs = search needs
 tell-number-requires : tie.Need-tell-number-requires
 tell-number-requires c κs = search needs
 
-same-length : tie.Need-same-length
-same-length c = search needs
-
 returns : tie.Need-returns
 returns c = search (needs, laws)
 
 pub bruncadorza-read-decimal-spec : {M : Type 1} → statement M
 bruncadorza-read-decimal-spec =
-    tie.close (tie.spec read-decimal-requires tell-number-requires same-length returns)
+    tie.close (tie.spec read-decimal-requires tell-number-requires returns)

@@ -20,14 +20,8 @@ enum-told c = search needs
 tell-none-requires : tie.Need-tell-none-requires
 tell-none-requires c κs = search needs
 
-same-length : tie.Need-same-length
-same-length c = search needs
-
 returns : tie.Need-returns
 returns c = search (needs, arms, cases)
-
-same-length-2 : tie.Need-same-length-2
-same-length-2 c = search needs
 
 returns-2 : tie.Need-returns-2
 returns-2 c = search (needs, arms, cases)
@@ -41,7 +35,5 @@ tell-number-spec =
     tell-one-requires
     enum-told
     tell-none-requires
-    same-length
     returns
-    same-length-2
     returns-2)

@@ -23,20 +23,11 @@ enum-told-3 c = search needs
 tell-one-requires-2 : tie.Need-tell-one-requires-2
 tell-one-requires-2 c κs = search needs
 
-same-length : tie.Need-same-length
-same-length c = search needs
-
 returns : tie.Need-returns
 returns c = search (needs, arms, cases)
 
-same-length-2 : tie.Need-same-length-2
-same-length-2 c = search needs
-
 returns-2 : tie.Need-returns-2
 returns-2 c = search (needs, arms, cases)
-
-same-length-3 : tie.Need-same-length-3
-same-length-3 c = search needs
 
 returns-3 : tie.Need-returns-3
 returns-3 c = search (needs, arms, cases)
@@ -51,9 +42,6 @@ tell-space-spec =
     tell-one-requires
     enum-told-3
     tell-one-requires-2
-    same-length
     returns
-    same-length-2
     returns-2
-    same-length-3
     returns-3)

@@ -7,9 +7,6 @@ use Rattle.exports.proofs.lines.bruncadorza_field_text.Tie as tie
 tell-none-requires : tie.Need-tell-none-requires
 tell-none-requires c κs = search needs
 
-same-length : tie.Need-same-length
-same-length c = search needs
-
 returns : tie.Need-returns
 returns c = search (needs, laws)
 
@@ -22,11 +19,8 @@ text-in-requires c κs = search needs
 tell-text-requires : tie.Need-tell-text-requires
 tell-text-requires c κs = search needs
 
-same-length-2 : tie.Need-same-length-2
-same-length-2 c = search needs
-
 returns-2 : tie.Need-returns-2
 returns-2 c = search (needs, laws)
 
 pub bruncadorza-field-text-spec : {M : Type 1} → statement M
-bruncadorza-field-text-spec = tie.close (tie.spec tell-none-requires same-length returns name-of-requires text-in-requires tell-text-requires same-length-2 returns-2)
+bruncadorza-field-text-spec = tie.close (tie.spec tell-none-requires returns name-of-requires text-in-requires tell-text-requires returns-2)

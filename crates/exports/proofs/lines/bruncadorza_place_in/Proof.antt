@@ -10,11 +10,8 @@ place-in-requires c κs = search needs
 tell-text-requires : tie.Need-tell-text-requires
 tell-text-requires c κs = search needs
 
-same-length : tie.Need-same-length
-same-length c = search needs
-
 returns : tie.Need-returns
 returns c = search (needs, laws)
 
 pub bruncadorza-place-in-spec : {M : Type 1} → statement M
-bruncadorza-place-in-spec = tie.close (tie.spec place-in-requires tell-text-requires same-length returns)
+bruncadorza-place-in-spec = tie.close (tie.spec place-in-requires tell-text-requires returns)

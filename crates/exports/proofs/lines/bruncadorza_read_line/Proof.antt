@@ -10,11 +10,8 @@ read-line-requires c κs = search needs
 tell-read-requires : tie.Need-tell-read-requires
 tell-read-requires c κs = search needs
 
-same-length : tie.Need-same-length
-same-length c = search needs
-
 returns : tie.Need-returns
 returns c = search (needs, laws)
 
 pub bruncadorza-read-line-spec : {M : Type 1} → statement M
-bruncadorza-read-line-spec = tie.close (tie.spec read-line-requires tell-read-requires same-length returns)
+bruncadorza-read-line-spec = tie.close (tie.spec read-line-requires tell-read-requires returns)

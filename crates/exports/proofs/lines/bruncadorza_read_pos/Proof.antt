@@ -10,11 +10,8 @@ read-pos-requires c κs = search needs
 tell-position-requires : tie.Need-tell-position-requires
 tell-position-requires c κs = search needs
 
-same-length : tie.Need-same-length
-same-length c = search needs
-
 returns : tie.Need-returns
 returns c = search (needs, laws)
 
 pub bruncadorza-read-pos-spec : {M : Type 1} → statement M
-bruncadorza-read-pos-spec = tie.close (tie.spec read-pos-requires tell-position-requires same-length returns)
+bruncadorza-read-pos-spec = tie.close (tie.spec read-pos-requires tell-position-requires returns)

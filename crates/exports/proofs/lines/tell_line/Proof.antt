@@ -40,22 +40,19 @@ slice-aggregate-tell c = search needs
 tell-requires : tie.Need-tell-requires
 tell-requires c κs = search needs
 
-same-length : tie.Need-same-length
-same-length c = search needs
-
 returns : tie.Need-returns
 returns c =
-    line-told _ _ (c .before .before .tell .ensures)
-    (c .before .before .before .before .before .before .before .before .before .before .before .before .before .before .place-of .ensures)
-    (c .before .before .before .before .before .before .before .before .before .before .before .before .before .place-of2 .ensures)
-    (c .before .before .before .before .before .before .before .before .before .before .before .before .place-of3 .ensures)
-    (c .before .before .before .before .before .before .before .before .before .before .before .place-of4 .ensures)
-    (c .before .before .before .before .before .before .before .before .before .before .place-of5 .ensures)
-    (c .before .before .before .before .before .before .before .before .before .place-of6 .ensures)
-    (c .before .before .before .before .before .before .before .before .place-of7 .ensures)
-    (c .before .before .before .before .before .before .before .place-of8 .ensures)
-    (c .before .before .before .before .before .before .place-of9 .ensures)
-    (c .before .before .before .before .before .place-of10 .ensures)
+    line-told _ _ (c .tell .ensures)
+    (c .before .before .before .before .before .before .before .before .before .before .before .before .place-of .ensures)
+    (c .before .before .before .before .before .before .before .before .before .before .before .place-of2 .ensures)
+    (c .before .before .before .before .before .before .before .before .before .before .place-of3 .ensures)
+    (c .before .before .before .before .before .before .before .before .before .place-of4 .ensures)
+    (c .before .before .before .before .before .before .before .before .place-of5 .ensures)
+    (c .before .before .before .before .before .before .before .place-of6 .ensures)
+    (c .before .before .before .before .before .before .place-of7 .ensures)
+    (c .before .before .before .before .before .place-of8 .ensures)
+    (c .before .before .before .before .place-of9 .ensures)
+    (c .before .before .before .place-of10 .ensures)
 
 pub tell-line-spec : {M : Type 1} → statement M
-tell-line-spec = tie.close (tie.spec place-of-requires place-of-requires-2 place-of-requires-3 place-of-requires-4 place-of-requires-5 place-of-requires-6 place-of-requires-7 place-of-requires-8 place-of-requires-9 place-of-requires-10 slice-aggregate-tell tell-requires same-length returns)
+tell-line-spec = tie.close (tie.spec place-of-requires place-of-requires-2 place-of-requires-3 place-of-requires-4 place-of-requires-5 place-of-requires-6 place-of-requires-7 place-of-requires-8 place-of-requires-9 place-of-requires-10 slice-aggregate-tell tell-requires returns)

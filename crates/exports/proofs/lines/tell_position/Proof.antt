@@ -26,23 +26,14 @@ enum-told-2 c = search needs
 tell-none-requires-2 : tie.Need-tell-none-requires-2
 tell-none-requires-2 c κs = search needs
 
-same-length : tie.Need-same-length
-same-length c = search needs
-
 returns : tie.Need-returns
 returns c = search (needs, arms, cases)
 
-same-length-2 : tie.Need-same-length-2
-same-length-2 c = search needs
-
 returns-2 : tie.Need-returns-2
 returns-2 c = search (needs, arms, cases)
-
-same-length-3 : tie.Need-same-length-3
-same-length-3 c = search needs
 
 returns-3 : tie.Need-returns-3
 returns-3 c = search (needs, arms, cases)
 
 pub tell-position-spec : {M : Type 1} → statement M
-tell-position-spec = tie.close (tie.spec enum-known-position size-requires tell-one-requires enum-told tell-none-requires enum-told-2 tell-none-requires-2 same-length returns same-length-2 returns-2 same-length-3 returns-3)
+tell-position-spec = tie.close (tie.spec enum-known-position size-requires tell-one-requires enum-told tell-none-requires enum-told-2 tell-none-requires-2 returns returns-2 returns-3)

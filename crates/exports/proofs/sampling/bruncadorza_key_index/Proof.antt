@@ -10,11 +10,8 @@ key-index-requires c κs = search needs
 tell-key-requires : tie.Need-tell-key-requires
 tell-key-requires c κs = search needs
 
-same-length : tie.Need-same-length
-same-length c = search needs
-
 returns : tie.Need-returns
 returns c = search (needs, laws)
 
 pub bruncadorza-key-index-spec : {M : Type 1} → statement M
-bruncadorza-key-index-spec = tie.close (tie.spec key-index-requires tell-key-requires same-length returns)
+bruncadorza-key-index-spec = tie.close (tie.spec key-index-requires tell-key-requires returns)

@@ -10,11 +10,8 @@ sample-requires c κs = search needs
 tell-nth-requires : tie.Need-tell-nth-requires
 tell-nth-requires c κs = search needs
 
-same-length : tie.Need-same-length
-same-length c = search needs
-
 returns : tie.Need-returns
 returns c = search (needs, laws)
 
 pub bruncadorza-sample-spec : {M : Type 1} → statement M
-bruncadorza-sample-spec = tie.close (tie.spec sample-requires tell-nth-requires same-length returns)
+bruncadorza-sample-spec = tie.close (tie.spec sample-requires tell-nth-requires returns)

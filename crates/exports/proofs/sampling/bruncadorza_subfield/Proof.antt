@@ -10,11 +10,8 @@ subfield-requires c κs = search needs
 tell-nth-requires : tie.Need-tell-nth-requires
 tell-nth-requires c κs = search needs
 
-same-length : tie.Need-same-length
-same-length c = search needs
-
 returns : tie.Need-returns
 returns c = search (needs, laws)
 
 pub bruncadorza-subfield-spec : {M : Type 1} → statement M
-bruncadorza-subfield-spec = tie.close (tie.spec subfield-requires tell-nth-requires same-length returns)
+bruncadorza-subfield-spec = tie.close (tie.spec subfield-requires tell-nth-requires returns)

@@ -17,17 +17,11 @@ enum-told c = search needs
 tell-none-requires : tie.Need-tell-none-requires
 tell-none-requires c κs = search needs
 
-same-length : tie.Need-same-length
-same-length c = search needs
-
 returns : tie.Need-returns
 returns c = search (needs, arms, cases)
-
-same-length-2 : tie.Need-same-length-2
-same-length-2 c = search needs
 
 returns-2 : tie.Need-returns-2
 returns-2 c = search (needs, arms, cases)
 
 pub tell-nth-spec : {M : Type 1} → statement M
-tell-nth-spec = tie.close (tie.spec enum-known-nth tell-place-requires enum-told tell-none-requires same-length returns same-length-2 returns-2)
+tell-nth-spec = tie.close (tie.spec enum-known-nth tell-place-requires enum-told tell-none-requires returns returns-2)

@@ -32,26 +32,14 @@ enum-told-2 c = search needs
 tell-none-requires-2 : tie.Need-tell-none-requires-2
 tell-none-requires-2 c κs = search needs
 
-same-length : tie.Need-same-length
-same-length c = search needs
-
 returns : tie.Need-returns
 returns c = search (needs, arms, cases)
-
-same-length-2 : tie.Need-same-length-2
-same-length-2 c = search needs
 
 returns-2 : tie.Need-returns-2
 returns-2 c = search (needs, arms, cases)
 
-same-length-3 : tie.Need-same-length-3
-same-length-3 c = search needs
-
 returns-3 : tie.Need-returns-3
 returns-3 c = search (needs, arms, cases)
-
-same-length-4 : tie.Need-same-length-4
-same-length-4 c = search needs
 
 returns-4 : tie.Need-returns-4
 returns-4 c = search (needs, arms, cases)
@@ -69,11 +57,7 @@ tell-step-spec =
     tell-none-requires
     enum-told-2
     tell-none-requires-2
-    same-length
     returns
-    same-length-2
     returns-2
-    same-length-3
     returns-3
-    same-length-4
     returns-4)

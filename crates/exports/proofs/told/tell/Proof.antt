@@ -8,13 +8,10 @@ use Rattle.exports.proofs.told.tell.Statement.{statement}
 use Rattle.exports.proofs.told.tell.Tie as tie
 
 abbrev Inv-loop : tie.InvT-loop
-Inv-loop k number vs values₀ i₀ values i = Putting vs values₀ values i
+Inv-loop number vs values₀ i₀ values i = Putting vs values₀ values i
 
 abbrev μ-loop : tie.MeasureT-loop
-μ-loop k number vs values₀ i₀ values i = length vs - i
-
-returns : tie.Need-returns Inv-loop μ-loop
-returns c = search (needs, laws)
+μ-loop number vs values₀ i₀ values i = length vs - i
 
 wide-requires : tie.Need-wide-requires Inv-loop μ-loop
 wide-requires c κs = search (needs, laws)
@@ -55,8 +52,8 @@ loop-again c = search (needs, laws)
 same-length : tie.Need-same-length Inv-loop μ-loop
 same-length c = c .before .loop .inv .len ∙ simp length-set
 
-returns-2 : tie.Need-returns-2 Inv-loop μ-loop
-returns-2 c = search (needs, laws)
+returns : tie.Need-returns Inv-loop μ-loop
+returns c = search (needs, laws)
 
 pub tell-spec : {M : Type 1} → statement M
 tell-spec =
@@ -64,7 +61,6 @@ tell-spec =
     (tie.spec
     Inv-loop
     μ-loop
-    returns
     wide-requires
     slice-write-values
     loop-holds
@@ -78,4 +74,4 @@ tell-spec =
     loop-less
     loop-again
     same-length
-    returns-2)
+    returns)
