@@ -1,10 +1,10 @@
 -- Laws of a number's shortest decimal: its equations, how many digits it has, and what it is worth. Assumes nothing.
-use Prim.Native.Nat.{ℕ, zero, suc, _+_, _/_, _%_, _^_, _≤_, _<_}
+use Prim.Native.Nat.{ℕ, zero, suc, _+_, _*_, _/_, _%_, _^_, _≤_, _<_}
 use mathlib.Core.Path.{_≡_, refl, sym, ap, _∙_}
 use mathlib.Core.Bool.{true}
 use mathlib.Core.List.{List, [], _∷_, _++_}
 use native.Mathlib.Omega.{arith}
-use native.Mathlib.Nat.{le-refl, le-of-eq, lt-trans, pow-suc, div-lt-iff-lt-mul}
+use native.Mathlib.Nat.{le-refl, le-of-eq, lt-trans, pow-suc, mul-assoc, div-lt-iff-lt-mul}
 use native.Mathlib.Decide.{decLt}
 use native.Mathlib.Numerals.{add-one}
 use lib.ListN.{length, length-append}
@@ -80,6 +80,13 @@ length-bound (suc k) n h =
           omega arith
     ]
 
+-- and a number is below ten to as many as it has digits
+pub below-power : (n : ℕ) → n < 10 ^ length (shortest n)
+below-power =
+    by-tenths (λ (n : ℕ). n < 10 ^ length (shortest n))
+    (λ n h. rw (length-one n h) h)
+    (λ n h ih. rw (length-more n h, add-one, pow-suc) (omega arith))
+
 pub length-20 : (n : ℕ) → n < 2 ^ 64 → length (shortest n) ≤ 20
 length-20 n h = length-bound 19 n (lt-trans h (lit< tt))
 
@@ -117,3 +124,15 @@ shortest-last =
     by-tenths (λ (n : ℕ). shortest n ≡ lastDigits (length (shortest n)) n)
     (λ n h. rw (length-one n h, shortest-one n h) (ap (λ (d : ℕ). (48 + d) ∷ []) (omega arith)))
     (λ n h ih. rw (length-more n h, add-one) (shortest-more n h ∙ ap (λ (l : List ℕ). l ++ (48 + n % 10) ∷ []) ih))
+
+-- the first of the last k + 1 digits, and the others
+pub first-digit : (k d r : ℕ) → d < 10 → r < 10 ^ k → lastDigits (suc k) (d * 10 ^ k + r) ≡ (48 + d) ∷ lastDigits k r
+unfolding lastDigits
+first-digit zero d r h l = ap (λ (x : ℕ). (48 + x) ∷ []) (omega arith)
+first-digit (suc k) d r h l =
+    let e : d * 10 ^ suc k ≡ d * 10 ^ k * 10 = rw pow-suc (sym (mul-assoc d (10 ^ k) 10)) in
+    let m : ℕ = d * 10 ^ suc k + r in
+    let q : m / 10 ≡ d * 10 ^ k + r / 10 = omega arith in
+    let z : m % 10 ≡ r % 10 = omega arith in
+    let i = first-digit k d (r / 10) h (div-lt-iff-lt-mul (lit< tt) .1 (rw pow-suc at l)) in
+    ap (λ (s : List ℕ). s ++ (48 + m % 10) ∷ []) (ap (lastDigits (suc k)) q ∙ i) ∙ ap (λ (x : ℕ). ((48 + d) ∷ lastDigits k (r / 10)) ++ (48 + x) ∷ []) z
