@@ -1,4 +1,4 @@
--- A part of a text that is given back as a slice (docs/RULES.md, "Places"). Assumes nothing.
+-- A part of a text that is given back as a slice (docs/RULES.md, "Entry lists", "INFO"). Assumes nothing.
 use Prim.Native.Nat.{ℕ, _+_}
 use mathlib.Core.Path.{_≡_}
 use mathlib.Core.List.{List}
