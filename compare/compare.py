@@ -58,6 +58,24 @@ def listed(line, rust, ours):
     return next((number for number, is_it in LISTED.items() if is_it(line, rust, ours)), None)
 
 
+# ---- what the Rust does not answer
+
+# By verb: the refusal that has an offset, and which of the answer's values that is. The Rust's has none.
+OFFSETS = {b"decimal": ("12", 1), b"pos": ("21", 1), b"read": ("12", 2), b"alleles": ("12", 2), b"gtstep": ("12", 1)}
+
+
+def without_offset(line, ours):
+    """The model's answer as the Rust can give it; an error where the model left the offset out."""
+    verb = line.split(b" ", 1)[0]
+    if verb not in OFFSETS:
+        return ours
+    number, index = OFFSETS[verb]
+    values = ours.split(" ")
+    if values[0] == number:
+        del values[index]
+    return " ".join(values)
+
+
 # ---- asking
 
 
@@ -89,14 +107,15 @@ def the_rust(oracle, cases):
 
 
 def expected(case, rust, ours):
-    """What is to be answered: the Rust's answer, or the model's where the Rust has none or the difference is listed.
+    """What is to be answered: the Rust's answer, with the model's offset where one belongs there; or the model's where
+    the Rust has none or the difference is listed.
 
     None where the Rust and the model differ otherwise, or where the model's `?` is not what the line was built as.
     """
     line, good = case
     if good is not None and good != (ours != "?"):
         return None
-    if rust is None or rust == ours:
+    if rust is None or rust == without_offset(line, ours):
         return ours
     return ours if listed(line, rust, ours) else None
 
@@ -125,7 +144,7 @@ def hold(cases, oracle, program):
     for case, (rust, ours, theirs) in zip(cases, all_answers):
         if theirs != expected(case, rust, ours):
             raise Failed(difference(case, rust, ours, theirs))
-        counts[kind(case), "model" if rust is None else "rust" if rust == ours else "listed"] += 1
+        counts[kind(case), "model" if rust is None else "listed" if listed(case[0], rust, ours) else "rust"] += 1
     return counts
 
 

@@ -1360,6 +1360,108 @@ def entry_lists(large, dice):
     yield from random_entries(large, dice)
 
 
+# ---- the offsets of 12 and 21
+
+OFFSET_BYTES = b"+09a.|/"
+# The largest number, the next, and others of 20 digits and of 21.
+ABOUT_LARGEST = (
+    LARGEST, LARGEST + 1, 10 * (TENTH + 1), 10**19, 2 * 10**19, 10**20 - 1, 10**20, 10 * LARGEST, 10**21 - 1,
+)
+# Texts of no allele: wrong at once, after a sign, a digit or more, and at the end; led by a dot; past the limit.
+BAD_ALLELES = (
+    b"", b"a", b"-1", b"\xff", b"+", b"++", b"+a1", b"+.", b"1a", b"+1+", b"007x9", "12\u00e9".encode(), b"1.", b"..",
+    b".5", b".+1", b"%d" % (LARGEST + 1), b"+00%da" % (LARGEST + 1), b"%da6" % TENTH, b"0%d0" % LARGEST,
+)
+# What may stand before them, but for the first mark: none, one and two alleles of several lengths.
+BEFORE_ALLELES = (
+    b"", b"0|", b"./", b"+12|", b"00345/", b"%d|" % LARGEST, b"0|1/", b".|.|", b"007/+1/", b"./%d|" % LARGEST,
+)
+
+
+def about_largest(every_zeros, wrong):
+    """Numbers about the largest with signs and zeros before them: whole, and with a wrong byte put in or in place of
+    another, from before the twentieth digit to the end."""
+    for value, sign, zeros in itertools.product(ABOUT_LARGEST, (b"", b"+"), every_zeros):
+        text = sign + b"0" * zeros + b"%d" % value
+        yield text
+        for at, byte in itertools.product(range(len(sign) + zeros + 18, len(text) + 1), wrong):
+            yield text[:at] + bytes([byte]) + text[at:]
+            yield text[:at] + bytes([byte]) + text[at + 1 :]
+
+
+def all_readers(row, text, alt=b"A"):
+    yield from both_readers(row, text)
+    yield from both_checked(row, text, alt)
+    yield ask("unequal", row, row, row, text)
+
+
+def steps_about(text, place):
+    """From the start, from a place and from about it."""
+    for at in sorted({0, max(0, place - 1), place, place + 1, place + 2}):
+        yield ask("gtstep", text, at)
+
+
+def faults_at_limits():
+    """Numbers about the largest as a decimal, a POS and an allele; fewer of them by all readers and among others."""
+    for text in about_largest(range(4), b"+/:a"):
+        yield ask("decimal", text)
+        yield ask("pos", text)
+        yield ask("read", 3, text)
+    for body in about_largest((0, 2), b"a"):
+        yield from all_readers(1, body)
+        # from past some of its bytes, so that another digit passes the limit, or none does
+        for at in (0, 1, 2, 3, 4, len(body) // 2, len(body) - 1):
+            yield ask("gtstep", body, at)
+        for before in (b"|", b"0/", b".|+12/"):
+            yield from both_readers(3, before + body)
+            yield from steps_about(before + body, len(before))
+        yield from all_readers(3, b"/0|" + body + b"/1")
+
+
+def faults_in_alleles():
+    """Bad alleles first, second and third, with a first mark and without, at the end and before others; far ones."""
+    for body, before, mark in itertools.product(BAD_ALLELES, BEFORE_ALLELES, (b"", b"|", b"/")):
+        text = mark + before + body
+        yield from both_readers(3, text)
+        yield ask("read", 0, text + b"/x")
+        yield from steps_about(text, len(mark + before))
+        if not mark:
+            yield from both_checked(3, text, b"," * 12)
+            yield ask("unequal", 3, 3, 3, text + b"|1")
+    for count in (9, 10, 63, 64, 65):
+        text = b"|".join(b"%d" % number for number in range(count)) + b"/1a"
+        yield from all_readers(64, text, b"," * 64)
+        yield from steps_about(text, len(text) - 2)
+
+
+def random_faults(large, dice):
+    """Short numbers and those about the largest, whole and damaged: by themselves and after good alleles."""
+    for _ in range(5_000 if large else 100):
+        away = dice.roll(40)
+        value = dice.pick((dice.roll(10**4), LARGEST - away, LARGEST + away, 10 * LARGEST + away))
+        good = dice.pick((b"", b"+")) + b"0" * dice.roll(4) + b"%d" % value
+        for body in (good, damaged(dice, good), damaged(dice, good, OFFSET_BYTES)):
+            yield ask("decimal", body)
+            yield ask("pos", body)
+            before, later = random_genotype(dice)
+            text = before + dice.pick((b"|", b"/")) + body + dice.pick((b"", b"|0", b"/x"))
+            yield from all_readers(later + 1 + dice.roll(3), text, b"," * dice.roll(12))
+            yield ask("gtstep", text, len(before) + dice.roll(len(body) + 2))
+
+
+def offsets(large, dice):
+    for text in short_texts(OFFSET_BYTES, 4):
+        yield ask("decimal", text)
+        yield ask("pos", text)
+        yield ask("read", 3, text)
+    for text in short_texts(OFFSET_BYTES, 3):
+        yield from all_readers(3, text)
+        yield from steps_over(text)
+    yield from faults_at_limits()
+    yield from faults_in_alleles()
+    yield from random_faults(large, dice)
+
+
 # ---- the form of a case
 
 NO_CASES = (
@@ -1718,7 +1820,7 @@ def areas(large):
         texts(large, Dice(1)), decimals(large, Dice(2)), prints(large, Dice(3)), lines(large, Dice(4)),
         fields(large, Dice(5)), places(large), positions(large, Dice(6)), joins(large, Dice(7)),
         infos(large, Dice(8)), samples(large, Dice(9)), genotypes(large, Dice(10)), written_genotypes(large, Dice(11)),
-        entry_lists(large, Dice(12)), genotype_steps(large, Dice(13)),
+        entry_lists(large, Dice(12)), genotype_steps(large, Dice(13)), offsets(large, Dice(14)),
     )
 
 

@@ -124,6 +124,15 @@ def decimal_value(text):
     return None if value is None or value > LARGEST else value
 
 
+def decimal_fault(text):
+    """The offset at which a text goes wrong: the length of its longest front that some decimal begins with.
+
+    Such a front is empty, a `+` or a decimal itself. It is the whole text where only a digit is missing.
+    """
+    fronts = (text[:length] for length in range(len(text), -1, -1))
+    return next(len(front) for front in fronts if front in (b"", b"+") or decimal_value(front) is not None)
+
+
 # Each row: the first byte from .. to, the second byte from .. to, the bytes in all. Bytes after the second are 80-BF.
 CHARACTERS = (
     (0x00, 0x7F, None, None, 1),
@@ -324,12 +333,22 @@ def piece_meanings(pieces):
     return [None if value is None else (value, int(body == b"."), int(mark == b"|")) for value, body, mark in found]
 
 
+def piece_fault(piece):
+    """The offset at which a piece that means nothing goes wrong: where its decimal does, past its mark."""
+    marked = piece[:1] in MARKS
+    return marked + decimal_fault(piece[marked:])
+
+
 def read_genotype(text):
     """The list that a text means; or the numbers of a refusal."""
     if not text:
         return (NO_ALLELES,)
-    made = piece_meanings(genotype_pieces(text))
-    return (BAD_NUMBER, made.index(None)) if None in made else made
+    pieces = genotype_pieces(text)
+    made = piece_meanings(pieces)
+    if None in made:
+        bad = made.index(None)
+        return BAD_NUMBER, bad, sum(map(len, pieces[:bad])) + piece_fault(pieces[bad])
+    return made
 
 
 def checked_genotype(text, alt):
@@ -421,7 +440,7 @@ def space(text):
 
 def decimal(text):
     value = decimal_value(text)
-    return words(BAD_NUMBER) if value is None else words(DONE, value)
+    return words(BAD_NUMBER, decimal_fault(text)) if value is None else words(DONE, value)
 
 
 def print_number(length, value):
@@ -457,7 +476,8 @@ def pos(text):
     if text == b"0":
         return words(DONE, "none")
     value = decimal_value(text)
-    return words(DONE, value) if value else words(BAD_POS)
+    # of a text worth 0 the longest front is all of it
+    return words(DONE, value) if value else words(BAD_POS, decimal_fault(text))
 
 
 def join(length, at, text, ends):
@@ -571,7 +591,9 @@ def gtstep(text, at):
         return words(NONE_SUCH)
     pieces = genotype_pieces(text[at:])
     first = piece_meanings(pieces)[0]
-    return words(BAD_NUMBER) if first is None else words(DONE, at + len(pieces[0]), allele_shown(first))
+    if first is None:
+        return words(BAD_NUMBER, at + piece_fault(pieces[0]))
+    return words(DONE, at + len(pieces[0]), allele_shown(first))
 
 
 def alleles(length, text):

@@ -157,6 +157,15 @@ def short_genotype_steps():
         yield from generate.steps_over(text)
 
 
+def short_faults():
+    """One byte longer than those stored, for the offsets."""
+    for text in of_length(generate.OFFSET_BYTES, 5):
+        yield ask("decimal", text)
+        yield ask("pos", text)
+        yield from generate.all_readers(3, text)
+        yield from generate.steps_over(text)
+
+
 def short_checked():
     for text, alt in itertools.product(short_texts(b"012|/.", 5), (b"A", b"A,C")):
         yield from generate.both_checked(5, text, alt)
@@ -224,6 +233,25 @@ def near_numbers(dice):
             alleles = [(value, 0, dice.roll(2)), (near(dice, 10), 0, dice.roll(2))]
             room = generate.most_needed(alleles) + dice.roll(4) - 3
             yield from generate.both_writers((4, 3 + dice.roll(2)), room, 0, alleles)
+
+
+def near_faults(dice):
+    """Numbers about the largest and ten times it, with a wrong byte in every place, put in or in place of another: as a
+    decimal, a POS and an allele after others, with steps from about its start and from anywhere."""
+    for _ in range(500):
+        value = near(dice, dice.pick((LARGEST, LARGEST, 10 * LARGEST, 10**19, 10**20)), 30)
+        number = dice.pick((b"", b"+")) + b"0" * dice.roll(4) + b"%d" % value
+        for at in range(len(number) + 1):
+            wrong = bytes([dice.pick(dice.pick((generate.OFFSET_BYTES, range(256))))])
+            body = number[:at] + wrong + number[at + dice.roll(2) :]
+            yield ask("decimal", body)
+            yield ask("pos", body)
+            before, later = generate.random_genotype(dice)
+            before = dice.pick((b"", b"|", b"/", before + b"|", before + b"/"))
+            text = before + body + dice.pick((b"", b"", b"|0", b"/x"))
+            yield from generate.all_readers(later + 1 + dice.roll(3), text, b"," * dice.roll(12))
+            yield ask("gtstep", text, near(dice, len(before), 2))
+            yield ask("gtstep", text, dice.roll(len(text) + 1))
 
 
 def near_place(dice, text):
@@ -373,7 +401,8 @@ GOOD_CASES = (
     b"read 3 307c31", b"readalt 3 307c31 412c43", b"unequal 2 2 2 302f31", b"gtstep 307c31 1",
     b"alleles 3 2f307c31", b"allelesalt 3 307c31 41", b"write 4 4 9 0 0:0:0 1:0:1", b"write 4 3 9 0 0:1:0",
     b"writeunequal 1 1 1 9", b"writealleles 4 4 9 1 10:0:1 0:256:0", b"filters 9 0 71313073 3,4",
-    b"alts 9 1 413c433e 1,4", b"alts 2 0 - -",
+    b"alts 9 1 413c433e 1,4", b"alts 2 0 - -", b"decimal 3132613334", b"pos 303030", b"read 3 302f31612f32",
+    b"gtstep 307c312b32 1", b"allelesalt 3 2e7c2e35 41", b"unequal 1 1 1 31302f",
 )
 
 
@@ -393,9 +422,9 @@ AGAIN = (more_texts, more_lines, more_fields, more_columns, more_samples, more_g
 EXHAUSTIVE = (
     short_characters, short_numbers, short_line_ends, short_line_tails, columns_of_every_kind, dots_of_every_kind,
     short_info_steps, short_info_keys, short_samples, short_genotypes, short_phasings, short_genotype_steps,
-    short_checked, short_slices, short_lists_of_alleles, short_entries, short_joins,
+    short_checked, short_slices, short_lists_of_alleles, short_entries, short_joins, short_faults,
 )
-NEAR = (near_numbers, near_places, near_line_ends, near_rooms, near_alt_counts)
+NEAR = (near_numbers, near_places, near_line_ends, near_rooms, near_alt_counts, near_faults)
 HARMED = (harmed_lines, harmed_columns, harmed_samples, harmed_genotypes, harmed_entries, harmed_cases)
 ROUNDS = 3
 

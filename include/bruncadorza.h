@@ -16,6 +16,10 @@
  * What comes back. Each function returns a number: BRUNCADORZA_DONE, or a refusal below. The three that end in `_count` return
  * the count itself. A place is two values, a start and a length in bytes, counted from the start of the text that was given.
  *
+ * The offset says which byte makes a text no number, counted from the start of the text that was given: the first that is not
+ * allowed, or the digit at which the value passes 18446744073709551615, whichever comes first. Where a digit is missing it is the
+ * end of the text, or of the piece of a genotype. So it can be the text's length, where there is no byte.
+ *
  * How values cross. A function that answers more than its number is lent an array `values`, always of the same length:
  * BRUNCADORZA_VALUES numbers, and BRUNCADORZA_LINE_VALUES for bruncadorza_read_line. In C such a parameter is a plain pointer,
  * so a caller must keep that so many numbers are there, aligned, and in no slice of the same call. The function sets
@@ -89,7 +93,7 @@ uint64_t bruncadorza_check_utf8(const uint8_t *text, size_t text_n);
 uint64_t bruncadorza_find_space(const uint8_t *text, size_t text_n,
                                 uint64_t values[BRUNCADORZA_VALUES]);
 
-/* What a decimal text is worth. 0: the number. Or 12. */
+/* What a decimal text is worth. 0: the number. 12: the offset. */
 uint64_t bruncadorza_read_decimal(const uint8_t *text, size_t text_n,
                                   uint64_t values[BRUNCADORZA_VALUES]);
 
@@ -113,7 +117,8 @@ uint64_t bruncadorza_field_text(const uint8_t *s, size_t s_n, uint64_t name, siz
 uint64_t bruncadorza_place_in(const uint8_t *s, size_t s_n, size_t start, size_t len,
                               uint64_t values[BRUNCADORZA_VALUES]);
 
-/* What the text of POS says. 0: the position, or no value for `0`, which means none. Or 21. */
+/* What the text of POS says. 0: the position, or no value for `0`, which means none. 21: the offset, which is text_n where the
+   number is 0 in another spelling. */
 uint64_t bruncadorza_read_pos(const uint8_t *text, size_t text_n,
                               uint64_t values[BRUNCADORZA_VALUES]);
 
@@ -159,15 +164,16 @@ uint64_t bruncadorza_key_index(const uint8_t *format, size_t format_n, const uin
                                uint64_t values[BRUNCADORZA_VALUES]);
 
 /* Genotypes. A list of alleles is three slices of one length: the numbers, the missing marks and the phasings. Readers write 0 or
-   1 for a mark or a phasing; the writer takes any other value than 0 as 1. An allele that is missing has the number 0. */
+   1 for a mark or a phasing; the writer takes any other value than 0 as 1. An allele that is missing has the number 0. Only `.`
+   alone is missing: `.5` is read as a number, so its `.` is the byte that is not allowed. */
 
 /* The allele at the place `at`, as the first of the text from there on. 0: the next place, the number, the missing mark, the
-   phasing. Or 6, 10 at the text's end, 11 where it is empty, 12. */
+   phasing. 12: the offset, from the start of `text` and not from `at`. Or 6, 10 at the text's end, 11 where it is empty. */
 uint64_t bruncadorza_genotype_step(const uint8_t *text, size_t text_n, size_t at,
                                    uint64_t values[BRUNCADORZA_VALUES]);
 
 /* What reading the text into slices of the length `room` answers. 0: how many alleles. 12: the index of the first piece that is
-   no allele. Or 11, 17. */
+   no allele, then the offset, from the start of `text`. Or 11, 17. */
 uint64_t bruncadorza_genotype_judge(const uint8_t *text, size_t text_n, size_t room,
                                     uint64_t values[BRUNCADORZA_VALUES]);
 
@@ -175,8 +181,8 @@ uint64_t bruncadorza_genotype_judge(const uint8_t *text, size_t text_n, size_t r
 uint64_t bruncadorza_genotype_judge_checked(const uint8_t *text, size_t text_n, const uint8_t *alt, size_t alt_n, size_t room,
                                             uint64_t values[BRUNCADORZA_VALUES]);
 
-/* Reads a genotype. 0: how many alleles. 12: the index of the first piece that is no allele. Or 11; 16 where the lengths of the
-   three slices differ; 17. Only 0 changes the slices, and only their first entries. */
+/* Reads a genotype. 0: how many alleles. 12: the index of the first piece that is no allele, then the offset, from the start of
+   `text`. Or 11; 16 where the lengths of the three slices differ; 17. Only 0 changes the slices, and only their first entries. */
 uint64_t bruncadorza_read_genotype(const uint8_t *text, size_t text_n,
                                    uint64_t *numbers, size_t numbers_n, uint8_t *missing, size_t missing_n,
                                    uint8_t *phased, size_t phased_n,

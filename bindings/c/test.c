@@ -57,7 +57,13 @@ static void leaves(void) {
     CHECK(bruncadorza_find_space(BYTES("ab"), values) == BRUNCADORZA_DONE && one(values, 0));
     CHECK(bruncadorza_find_space(BYTES("\xFF"), values) == BRUNCADORZA_NOT_UTF8 && none(values));
     CHECK(bruncadorza_read_decimal(BYTES("18446744073709551615"), values) == BRUNCADORZA_DONE && one(values, UINT64_MAX));
-    CHECK(bruncadorza_read_decimal(BYTES("18446744073709551616"), values) == BRUNCADORZA_BAD_NUMBER && none(values));
+    CHECK(bruncadorza_read_decimal(BYTES("18446744073709551616"), values) == BRUNCADORZA_BAD_NUMBER && one(values, 19));
+    CHECK(bruncadorza_read_decimal(BYTES("18446744073709551616a"), values) == BRUNCADORZA_BAD_NUMBER && one(values, 19));
+    CHECK(bruncadorza_read_decimal(BYTES("+0018446744073709551616"), values) == BRUNCADORZA_BAD_NUMBER && one(values, 22));
+    CHECK(bruncadorza_read_decimal(BYTES("184467440737095516150"), values) == BRUNCADORZA_BAD_NUMBER && one(values, 20));
+    CHECK(bruncadorza_read_decimal(BYTES("+"), values) == BRUNCADORZA_BAD_NUMBER && one(values, 1));
+    CHECK(bruncadorza_read_decimal(BYTES("+-"), values) == BRUNCADORZA_BAD_NUMBER && one(values, 1));
+    CHECK(bruncadorza_read_decimal(BYTES("1a"), values) == BRUNCADORZA_BAD_NUMBER && one(values, 1));
     CHECK(bruncadorza_print_decimal(12345, out, 4, values) == BRUNCADORZA_SHORT && none(values));
     CHECK(memcmp(out, "\xEE\xEE\xEE\xEE", 4) == 0);
     CHECK(bruncadorza_print_decimal(123, out, 4, values) == BRUNCADORZA_DONE && one(values, 3));
@@ -87,7 +93,11 @@ static void lines(void) {
     CHECK(bruncadorza_place_in(s, n, 1, SIZE_MAX, place) == BRUNCADORZA_BEYOND && none(place));
     CHECK(bruncadorza_read_pos(BYTES("7"), values) == BRUNCADORZA_DONE && one(values, 7));
     CHECK(bruncadorza_read_pos(BYTES("0"), values) == BRUNCADORZA_DONE && none(values));
-    CHECK(bruncadorza_read_pos(BYTES("00"), values) == BRUNCADORZA_BAD_POS && none(values));
+    CHECK(bruncadorza_read_pos(BYTES("00"), values) == BRUNCADORZA_BAD_POS && one(values, 2));
+    CHECK(bruncadorza_read_pos(BYTES("+0"), values) == BRUNCADORZA_BAD_POS && one(values, 2));
+    CHECK(bruncadorza_read_pos(BYTES("0a"), values) == BRUNCADORZA_BAD_POS && one(values, 1));
+    CHECK(bruncadorza_read_pos(BYTES("+"), values) == BRUNCADORZA_BAD_POS && one(values, 1));
+    CHECK(bruncadorza_read_pos(BYTES("18446744073709551616"), values) == BRUNCADORZA_BAD_POS && one(values, 19));
 }
 
 static void infos(void) {
@@ -137,11 +147,25 @@ static void judged_genotypes(void) {
     CHECK(bruncadorza_genotype_step(BYTES("./12"), 4, values) == BRUNCADORZA_NOTHING && none(values));
     CHECK(bruncadorza_genotype_step(BYTES("./12"), 5, values) == BRUNCADORZA_BEYOND && none(values));
     CHECK(bruncadorza_genotype_step(BYTES(""), 0, values) == BRUNCADORZA_GENOTYPE_EMPTY && none(values));
-    CHECK(bruncadorza_genotype_step(BYTES("x"), 0, values) == BRUNCADORZA_BAD_NUMBER && none(values));
+    CHECK(bruncadorza_genotype_step(BYTES("x"), 0, values) == BRUNCADORZA_BAD_NUMBER && one(values, 0));
+    CHECK(bruncadorza_genotype_step(BYTES(".5"), 0, values) == BRUNCADORZA_BAD_NUMBER && one(values, 0));
+    CHECK(bruncadorza_genotype_step(BYTES("0|1a"), 1, values) == BRUNCADORZA_BAD_NUMBER && one(values, 3));
+    CHECK(bruncadorza_genotype_step(BYTES("0|"), 1, values) == BRUNCADORZA_BAD_NUMBER && one(values, 2));
+    CHECK(bruncadorza_genotype_step(BYTES("0//1"), 1, values) == BRUNCADORZA_BAD_NUMBER && one(values, 2));
+    CHECK(bruncadorza_genotype_step(BYTES("0|18446744073709551616"), 1, values) == BRUNCADORZA_BAD_NUMBER && one(values, 21));
     CHECK(bruncadorza_genotype_judge(BYTES("./12"), 2, values) == BRUNCADORZA_DONE && one(values, 2));
     CHECK(bruncadorza_genotype_judge(BYTES("./12"), 1, values) == BRUNCADORZA_SHORT && none(values));
+    CHECK(bruncadorza_genotype_judge(BYTES("/"), 2, values) == BRUNCADORZA_BAD_NUMBER && two(values, 0, 1));
+    CHECK(bruncadorza_genotype_judge(BYTES(".5"), 2, values) == BRUNCADORZA_BAD_NUMBER && two(values, 0, 0));
+    CHECK(bruncadorza_genotype_judge(BYTES("0|"), 2, values) == BRUNCADORZA_BAD_NUMBER && two(values, 1, 2));
+    CHECK(bruncadorza_genotype_judge(BYTES("0//1"), 0, values) == BRUNCADORZA_BAD_NUMBER && two(values, 1, 2));
+    CHECK(bruncadorza_genotype_judge(BYTES("0|1a|b"), 2, values) == BRUNCADORZA_BAD_NUMBER && two(values, 1, 3));
+    CHECK(bruncadorza_genotype_judge(BYTES("0|18446744073709551616"), 2, values) == BRUNCADORZA_BAD_NUMBER && two(values, 1, 21));
     CHECK(bruncadorza_genotype_judge_checked(BYTES("0/2"), BYTES("C,G"), 2, values) == BRUNCADORZA_DONE && one(values, 2));
     CHECK(bruncadorza_genotype_judge_checked(BYTES("0/3"), BYTES("C,G"), 2, values) == BRUNCADORZA_ABOVE_ALT && one(values, 1));
+    CHECK(bruncadorza_genotype_judge_checked(BYTES("3|1|"), BYTES("C,G"), 2, values) == BRUNCADORZA_BAD_NUMBER && two(values, 2, 4));
+    CHECK(bruncadorza_genotype_judge_checked(BYTES("3|1a"), BYTES("C,G"), 2, values) == BRUNCADORZA_BAD_NUMBER && two(values, 1, 3));
+    CHECK(bruncadorza_genotype_judge_checked(BYTES("3|18446744073709551616"), BYTES("C,G"), 2, values) == BRUNCADORZA_BAD_NUMBER && two(values, 1, 21));
 }
 
 static void read_genotypes(void) {
@@ -151,17 +175,22 @@ static void read_genotypes(void) {
     uint64_t values[BRUNCADORZA_VALUES];
 
     CHECK(bruncadorza_read_genotype(BYTES(""), numbers, 3, missing, 3, phased, 3, values) == BRUNCADORZA_GENOTYPE_EMPTY && none(values));
-    CHECK(bruncadorza_read_genotype(BYTES("0|x"), numbers, 3, missing, 3, phased, 3, values) == BRUNCADORZA_BAD_NUMBER && one(values, 1));
+    CHECK(bruncadorza_read_genotype(BYTES("0|x"), numbers, 3, missing, 3, phased, 3, values) == BRUNCADORZA_BAD_NUMBER && two(values, 1, 2));
+    CHECK(bruncadorza_read_genotype(BYTES("0|1|"), numbers, 3, missing, 3, phased, 3, values) == BRUNCADORZA_BAD_NUMBER && two(values, 2, 4));
+    CHECK(bruncadorza_read_genotype(BYTES("0|18446744073709551616"), numbers, 3, missing, 3, phased, 3, values) == BRUNCADORZA_BAD_NUMBER && two(values, 1, 21));
     CHECK(bruncadorza_read_genotype(BYTES("0|1"), numbers, 3, missing, 2, phased, 3, values) == BRUNCADORZA_BAD_LENGTHS && none(values));
     CHECK(bruncadorza_read_genotype(BYTES("0|1"), numbers, 1, missing, 1, phased, 1, values) == BRUNCADORZA_SHORT && none(values));
     CHECK(bruncadorza_read_genotype(BYTES("x"), numbers, 0, missing, 1, phased, 0, values) == BRUNCADORZA_BAD_LENGTHS && none(values));
-    CHECK(bruncadorza_read_genotype(BYTES("x"), numbers, 0, missing, 0, phased, 0, values) == BRUNCADORZA_BAD_NUMBER && one(values, 0));
+    CHECK(bruncadorza_read_genotype(BYTES("x"), numbers, 0, missing, 0, phased, 0, values) == BRUNCADORZA_BAD_NUMBER && two(values, 0, 0));
     CHECK(numbers[0] == 7 && missing[0] == 7 && phased[0] == 7);
     CHECK(bruncadorza_read_genotype(BYTES(".|5"), numbers, 3, missing, 3, phased, 3, values) == BRUNCADORZA_DONE && one(values, 2));
     CHECK(numbers[0] == 0 && numbers[1] == 5 && numbers[2] == 7);
     CHECK(missing[0] == 1 && missing[1] == 0 && missing[2] == 7);
     CHECK(phased[0] == 1 && phased[1] == 1 && phased[2] == 7);
     CHECK(bruncadorza_read_genotype_checked(BYTES("3|0"), BYTES("C,G"), numbers, 3, missing, 3, phased, 3, values) == BRUNCADORZA_ABOVE_ALT && one(values, 0));
+    CHECK(bruncadorza_read_genotype_checked(BYTES("3|1a"), BYTES("C,G"), numbers, 3, missing, 3, phased, 3, values) == BRUNCADORZA_BAD_NUMBER && two(values, 1, 3));
+    CHECK(bruncadorza_read_genotype_checked(BYTES("3|1|"), BYTES("C,G"), numbers, 3, missing, 3, phased, 3, values) == BRUNCADORZA_BAD_NUMBER && two(values, 2, 4));
+    CHECK(bruncadorza_read_genotype_checked(BYTES("3|18446744073709551616"), BYTES("C,G"), numbers, 3, missing, 3, phased, 3, values) == BRUNCADORZA_BAD_NUMBER && two(values, 1, 21));
     CHECK(numbers[0] == 0 && missing[0] == 1);
     CHECK(bruncadorza_read_genotype_checked(BYTES("2|0"), BYTES("C,G"), numbers, 3, missing, 3, phased, 3, values) == BRUNCADORZA_DONE && one(values, 2));
     CHECK(numbers[0] == 2 && missing[0] == 0 && numbers[2] == 7);
@@ -228,12 +257,21 @@ static void joined_columns(void) {
 
 /* Behind the values nothing is changed. */
 static void behind_values(void) {
+    const uint64_t number = 5;
+    const uint8_t mark = 1;
     uint64_t values[BRUNCADORZA_VALUES] = {77, 77, 77, 77, 77, 77, 77, 77};
 
     CHECK(bruncadorza_read_decimal(BYTES("12"), values) == BRUNCADORZA_DONE && one(values, 12));
     CHECK(values[2] == 77 && values[7] == 77);
-    CHECK(bruncadorza_read_decimal(BYTES("x"), values) == BRUNCADORZA_BAD_NUMBER && none(values));
+    CHECK(bruncadorza_read_pos(BYTES("0"), values) == BRUNCADORZA_DONE && none(values));
     CHECK(values[1] == 12 && values[2] == 77);
+    CHECK(bruncadorza_read_decimal(BYTES("x"), values) == BRUNCADORZA_BAD_NUMBER && one(values, 0));
+    CHECK(values[2] == 77 && values[7] == 77);
+    /* The writer's 12 has no offset. */
+    CHECK(bruncadorza_write_genotype(&number, 1, &mark, 1, &mark, 1, 4, 4, NULL, 0, 0, values) == BRUNCADORZA_BAD_NUMBER && one(values, 0));
+    CHECK(values[2] == 77 && values[7] == 77);
+    CHECK(bruncadorza_genotype_judge(BYTES("0|x"), 2, values) == BRUNCADORZA_BAD_NUMBER && two(values, 1, 2));
+    CHECK(values[3] == 77 && values[7] == 77);
 }
 
 /* A place beyond the output is refused first and missing room last, whatever else is wrong. */
@@ -277,12 +315,12 @@ static void empty_slices(void) {
 
     CHECK(bruncadorza_check_utf8(NULL, 0) == BRUNCADORZA_DONE);
     CHECK(bruncadorza_find_space(NULL, 0, values) == BRUNCADORZA_DONE && one(values, 0));
-    CHECK(bruncadorza_read_decimal(NULL, 0, values) == BRUNCADORZA_BAD_NUMBER && none(values));
+    CHECK(bruncadorza_read_decimal(NULL, 0, values) == BRUNCADORZA_BAD_NUMBER && one(values, 0));
     CHECK(bruncadorza_print_decimal(0, NULL, 0, values) == BRUNCADORZA_SHORT && none(values));
     CHECK(bruncadorza_read_line(NULL, 0, 0, values) == BRUNCADORZA_END && one(values, 0));
     CHECK(bruncadorza_field_text(NULL, 0, BRUNCADORZA_CHROM, 0, 0, values) == BRUNCADORZA_DONE && two(values, 0, 0));
     CHECK(bruncadorza_place_in(NULL, 0, 0, 0, values) == BRUNCADORZA_DONE && two(values, 0, 0));
-    CHECK(bruncadorza_read_pos(NULL, 0, values) == BRUNCADORZA_BAD_POS && none(values));
+    CHECK(bruncadorza_read_pos(NULL, 0, values) == BRUNCADORZA_BAD_POS && one(values, 0));
     CHECK(bruncadorza_info_step(NULL, 0, 0, values) == BRUNCADORZA_NOTHING && one(values, 0));
     CHECK(bruncadorza_info_find(NULL, 0, NULL, 0, values) == BRUNCADORZA_NOTHING && one(values, 0));
     CHECK(bruncadorza_info_value(NULL, 0, NULL, 0, values) == BRUNCADORZA_DONE && two(values, 0, 0));

@@ -1,6 +1,6 @@
 //! The texts of a line's fields, and POS.
 
-use crate::ffi::{self, range};
+use crate::ffi::{self, range, size};
 use crate::line::Name;
 use crate::text::Range;
 
@@ -53,8 +53,9 @@ pub enum Position {
     At(u64),
     /// 0: none, `0`.
     Nowhere,
-    /// 21: it is bad.
-    Bad,
+    /// 21: it is bad. The offset as of [`Number::Bad`](crate::decimal::Number::Bad); the text's length where the number is 0 in
+    /// another spelling than `0`.
+    Bad(usize),
 }
 
 impl Position {
@@ -62,7 +63,7 @@ impl Position {
     pub fn number(self) -> u64 {
         match self {
             Position::At(_) | Position::Nowhere => 0,
-            Position::Bad => 21,
+            Position::Bad(_) => 21,
         }
     }
 }
@@ -73,7 +74,7 @@ pub fn read_pos(text: &[u8]) -> Position {
     match (told.number, told.values()) {
         (0, &[n]) => Position::At(n),
         (0, []) => Position::Nowhere,
-        (21, []) => Position::Bad,
-        _ => told.excluded("0 with a position or none, or 21"),
+        (21, &[offset]) => Position::Bad(size(offset)),
+        _ => told.excluded("0 with a position or none, or 21 with the offset"),
     }
 }

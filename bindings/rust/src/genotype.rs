@@ -26,8 +26,9 @@ pub enum Step {
     Nothing,
     /// 11: the text is empty.
     Empty,
-    /// 12: what stands there is no allele.
-    Bad,
+    /// 12: what stands there is no allele. The offset as of [`Number::Bad`](crate::decimal::Number::Bad), from the start of the
+    /// text and not from the place; where a digit is missing, the end of the piece.
+    Bad(usize),
 }
 
 impl Step {
@@ -38,7 +39,7 @@ impl Step {
             Step::Beyond => 6,
             Step::Nothing => 10,
             Step::Empty => 11,
-            Step::Bad => 12,
+            Step::Bad(_) => 12,
         }
     }
 }
@@ -58,8 +59,10 @@ pub fn step_at(text: &[u8], at: usize) -> Step {
         (6, []) => Step::Beyond,
         (10, []) => Step::Nothing,
         (11, []) => Step::Empty,
-        (12, []) => Step::Bad,
-        _ => told.excluded("0 with the next place, a number and two marks, or 6, 10, 11 or 12"),
+        (12, &[offset]) => Step::Bad(size(offset)),
+        _ => told.excluded(
+            "0 with the next place, a number and two marks, 12 with the offset, or 6, 10 or 11",
+        ),
     }
 }
 
@@ -70,8 +73,8 @@ pub enum Read {
     Done(usize),
     /// 11: the text is empty.
     Empty,
-    /// 12: the piece with this index is no allele.
-    Bad(usize),
+    /// 12: the piece with this index is no allele. Then the offset, as of [`Step::Bad`].
+    Bad(usize, usize),
     /// 16: the slices' lengths differ.
     Lengths,
     /// 17: the row is too short.
@@ -86,7 +89,7 @@ impl Read {
         match self {
             Read::Done(_) => 0,
             Read::Empty => 11,
-            Read::Bad(_) => 12,
+            Read::Bad(..) => 12,
             Read::Lengths => 16,
             Read::Short => 17,
             Read::Above(_) => 20,
@@ -98,11 +101,13 @@ fn read_of(told: ffi::Told) -> Read {
     match (told.number, told.values()) {
         (0, &[count]) => Read::Done(size(count)),
         (11, []) => Read::Empty,
-        (12, &[index]) => Read::Bad(size(index)),
+        (12, &[index, offset]) => Read::Bad(size(index), size(offset)),
         (16, []) => Read::Lengths,
         (17, []) => Read::Short,
         (20, &[index]) => Read::Above(size(index)),
-        _ => told.excluded("0 with the count, 12 or 20 with an index, or 11, 16 or 17"),
+        _ => told.excluded(
+            "0 with the count, 12 with an index and the offset, 20 with an index, or 11, 16 or 17",
+        ),
     }
 }
 

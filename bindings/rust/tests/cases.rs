@@ -72,18 +72,20 @@ fn the_wrapper_answers_every_stored_case() {
     }
 }
 
-/// One case of each verb with an answer that is wrong.
+/// Cases of each verb with an answer that is wrong.
 #[test]
 fn a_wrong_answer_is_seen() {
     for (case, answer) in [
         ("utf8 ff", "0"),
         ("space 61", "0 1"),
         ("decimal 3432", "0 43"),
+        ("decimal 3161", "12 2"),
         ("print 2 42", "0 2 3433"),
         ("line - 0", "1 1"),
         ("field chrom - 0", "2"),
         ("place 61 0 1", "6"),
         ("pos 30", "0 0"),
+        ("pos 3030", "21 1"),
         ("info 61 0", "0 1 0 1 1 0"),
         ("find 61 62", "10 0"),
         ("value 613d62 61", "-"),
@@ -95,12 +97,19 @@ fn a_wrong_answer_is_seen() {
         ("key 61 61", "0 1"),
         ("subfield 61 1", "0 0 1"),
         ("read 1 31", "0 1 1:0:0"),
+        ("read 1 302f2f31", "12 1 1 7:7:7"),
         ("readalt 1 32 41", "0 1 2:0:1"),
+        ("readalt 1 307c3161 41", "12 1 2 7:7:7"),
         ("unequal 1 2 1 31", "16 7 7 7"),
+        ("unequal 1 1 1 307c", "12 1 1 7 7 7"),
         ("gtstep - 0", "10"),
+        ("gtstep 307c3161 1", "12 2"),
         ("alleles 1 -", "11 7:7:7"),
+        ("alleles 1 2e35", "12 0 1 7:1:1"),
         ("allelesalt 1 32 41", "20 1 7:1:1"),
+        ("allelesalt 1 2f 41", "12 0 0 7:1:1"),
         ("write 4 4 1 0 1:0:1", "0 1 30"),
+        ("write 4 4 1 0 1:1:1", "12 0 0 ee"),
         ("writeunequal 1 1 0 1", "16 ef"),
         ("writealleles 4 4 1 0 1:0:1", "17 ee"),
         ("filters 1 0 - -", "0 1 2f"),
@@ -300,7 +309,7 @@ fn read_decimal(s: &[u8]) -> String {
     let read = decimal::read_decimal(s);
     match read {
         decimal::Number::Value(n) => format!("{} {n}", read.number()),
-        decimal::Number::Bad => said(read.number(), None),
+        decimal::Number::Bad(offset) => said(read.number(), Some(offset)),
     }
 }
 
@@ -370,7 +379,7 @@ fn pos(s: &[u8]) -> String {
     match read {
         fields::Position::At(n) => format!("{} {n}", read.number()),
         fields::Position::Nowhere => format!("{} none", read.number()),
-        fields::Position::Bad => said(read.number(), None),
+        fields::Position::Bad(offset) => said(read.number(), Some(offset)),
     }
 }
 
@@ -447,11 +456,14 @@ fn key_index(format: &[u8], key: &[u8]) -> String {
 // Genotypes read
 
 fn said_read(read: genotype::Read) -> String {
-    let value = match read {
-        genotype::Read::Done(n) | genotype::Read::Bad(n) | genotype::Read::Above(n) => Some(n),
-        genotype::Read::Empty | genotype::Read::Lengths | genotype::Read::Short => None,
-    };
-    said(read.number(), value)
+    let number = read.number();
+    match read {
+        genotype::Read::Done(n) | genotype::Read::Above(n) => said(number, Some(n)),
+        genotype::Read::Bad(index, offset) => format!("{number} {index} {offset}"),
+        genotype::Read::Empty | genotype::Read::Lengths | genotype::Read::Short => {
+            said(number, None)
+        }
+    }
 }
 
 fn read(room: usize, s: &[u8], alt: Option<&[u8]>) -> String {
@@ -500,7 +512,7 @@ fn held_by_steps(
             ended && above.is_none() && steps.len() == n && rows.take(n).eq(steps.iter().map(of))
         }
         genotype::Read::Empty => last == genotype::Step::Empty && steps.is_empty(),
-        genotype::Read::Bad(k) => last == genotype::Step::Bad && steps.len() == k,
+        genotype::Read::Bad(k, offset) => last == genotype::Step::Bad(offset) && steps.len() == k,
         genotype::Read::Lengths => false,
         genotype::Read::Short => ended && above.is_none() && steps.len() > room,
         genotype::Read::Above(k) => ended && above == Some(k),
@@ -514,6 +526,7 @@ fn genotype_step(s: &[u8], at: usize) -> String {
             let row = rows_of([(a.number, a.missing, a.phased)].into_iter());
             format!("{} {row}", said(step.number(), Some(next)))
         }
+        genotype::Step::Bad(offset) => said(step.number(), Some(offset)),
         _ => said(step.number(), None),
     }
 }

@@ -12,7 +12,7 @@ module _ {x : Number} where
   unfolding numberPaper
   number-value e = rw e
 
-  pub number-bad : x ≡ N.Bad → numberPaper x ≡ says 12 []
+  pub number-bad : {k : ℕ} → x ≡ N.Bad k → numberPaper x ≡ says 12 (k ∷ [])
   unfolding numberPaper
   number-bad e = rw e
 

@@ -10,9 +10,9 @@ use Rattle.decimal.specs.declared.read.Number.the-variants.{Value, Bad}
 pub number-paper-injective : (r r′ : Number) → numberPaper r ≡ numberPaper r′ → r ≡ r′
 unfolding numberPaper
 number-paper-injective (Value n) (Value m) e = cc
-number-paper-injective (Value n) Bad e = cc
-number-paper-injective Bad (Value m) e = cc
-number-paper-injective Bad Bad e = cc
+number-paper-injective (Value n) (Bad k) e = cc
+number-paper-injective (Bad k) (Value m) e = cc
+number-paper-injective (Bad k) (Bad j) e = cc
 
 pub determined : Determined
 determined =

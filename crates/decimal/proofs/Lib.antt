@@ -1,4 +1,5 @@
 pub mod Digits
+pub mod FaultLaws
 pub mod ReadLaws
 pub mod Shortest
 pub mod PrintLaws
@@ -7,3 +8,5 @@ pub mod Demands
 pub mod Determined
 pub mod Lead
 pub mod CaseLaws
+pub mod Blame
+pub mod FirstFault

@@ -9,7 +9,7 @@ use lib.Dec.{leb, eqb}
 use borrow.Author.Tests.{le-leb, leb-true, eqb-true, ne-eqb}
 use Rattle.text.specs.Pick.{pick}
 use Rattle.decimal.specs.Demands.{Digits, Decimal, bare, signed}
-use Rattle.decimal.specs.Decimal.{allDigits, worth, digitsValue, valueOf, valueAnswer, decimalAnswer}
+use Rattle.decimal.specs.Decimal.{allDigits, worth, digitsValue, valueOf, faultOf, valueAnswer, decimalAnswer}
 use Rattle.decimal.specs.Paper.{numberPaper}
 use Rattle.decimal.specs.declared.read.Number.the-variants.{Value, Bad}
 use Rattle.decimal.proofs.Digits.{digit-range, digits-cons}
@@ -66,18 +66,27 @@ value-bound t n e = by (value-decimal t n e)
 
 -- ---- the answer, read back
 
-pub told-value : (n : ℕ) (t : List ℕ) → numberPaper (Value n) ≡ decimalAnswer t → valueOf t ≡ some n
-unfolding numberPaper decimalAnswer valueAnswer
-told-value n t e = by (valueOf t) e
-  where
-    by : (o : Option ℕ) → numberPaper (Value n) ≡ valueAnswer o → o ≡ some n
-    by (some m) e = cc
-    by none e = cc
+module _ (o : Option ℕ) (f : ℕ) where
+  pub answer-value : {n : ℕ} → numberPaper (Value n) ≡ valueAnswer o f → o ≡ some n
+  unfolding numberPaper valueAnswer
+  answer-value {n} e = by o e
+    where
+      by : (o : Option ℕ) → numberPaper (Value n) ≡ valueAnswer o f → o ≡ some n
+      by (some m) e = cc
+      by none e = cc
 
-pub told-bad : (t : List ℕ) → numberPaper Bad ≡ decimalAnswer t → valueOf t ≡ none
-unfolding numberPaper decimalAnswer valueAnswer
-told-bad t e = by (valueOf t) e
-  where
-    by : (o : Option ℕ) → numberPaper Bad ≡ valueAnswer o → o ≡ none
-    by (some m) e = cc
-    by none e = refl
+  pub answer-bad : {k : ℕ} → numberPaper (Bad k) ≡ valueAnswer o f → (o ≡ none) × (k ≡ f)
+  unfolding numberPaper valueAnswer
+  answer-bad {k} e = by o e
+    where
+      by : (o : Option ℕ) → numberPaper (Bad k) ≡ valueAnswer o f → (o ≡ none) × (k ≡ f)
+      by (some m) e = (cc, cc)
+      by none e = (refl, cc)
+
+pub told-value : (n : ℕ) (t : List ℕ) → numberPaper (Value n) ≡ decimalAnswer t → valueOf t ≡ some n
+unfolding decimalAnswer
+told-value n t e = answer-value (valueOf t) (faultOf t) e
+
+pub told-bad : (k : ℕ) (t : List ℕ) → numberPaper (Bad k) ≡ decimalAnswer t → (valueOf t ≡ none) × (k ≡ faultOf t)
+unfolding decimalAnswer
+told-bad k t e = answer-bad (valueOf t) (faultOf t) e

@@ -1,11 +1,12 @@
 -- What is asked of any reader and any printer of decimals, as functions on lists (docs/STATEMENTS.md). Assumes nothing.
-use Prim.Native.Nat.{ℕ, _<_, _≤_}
+use Prim.Native.Nat.{ℕ, _+_, _<_, _≤_}
 use mathlib.Core.Path.{_≡_}
 use mathlib.Core.Bool.{true}
 use mathlib.Core.Logic.{_↔_}
-use mathlib.Core.List.{List, _∷_}
+use mathlib.Core.List.{List, [], _∷_, _++_}
 use mathlib.Core.Option.{Option, some}
-use lib.ListN.{length, getD}
+use lib.ListN.{length, getD, take}
+use Rattle.text.specs.Answer.{Answer, says}
 use Rattle.decimal.specs.Decimal.{allDigits, worth}
 
 -- one digit or more, worth n
@@ -13,6 +14,10 @@ pub record Digits (s : List ℕ) (n : ℕ) : Type 0 where
   pub one : 0 < length s
   pub digits : allDigits s ≡ true
   pub value : worth s ≡ n
+
+-- such digits, worth not too much
+abbrev pub Alone : List ℕ → ℕ → Type 0
+Alone s n = Digits s n × (n ≤ 18446744073709551615)
 
 -- such digits, or '+' and such digits, worth not too much
 pub data Decimal : List ℕ → ℕ → Type 0 where
@@ -30,7 +35,7 @@ ReadsDecimals read = (t : List ℕ) (n : ℕ) → (read t ≡ some n) ↔ Decima
 
 -- the same of digits alone
 abbrev pub ReadsAlone : (List ℕ → Option ℕ) → Type 0
-ReadsAlone read = (t : List ℕ) (n : ℕ) → (read t ≡ some n) ↔ (Digits t n × (n ≤ 18446744073709551615))
+ReadsAlone read = (t : List ℕ) (n : ℕ) → (read t ≡ some n) ↔ Alone t n
 
 -- a leading zero changes nothing, neither at the start nor behind '+', so no number of them does
 pub record PassesZeros (read : List ℕ → Option ℕ) : Type 0 where
@@ -44,3 +49,36 @@ ReadsBack print read = (n : ℕ) → n ≤ 18446744073709551615 → read (print 
 -- every other text that reads as the number is longer than what is printed
 abbrev pub NoneShorter : (ℕ → List ℕ) → (List ℕ → Option ℕ) → Type 0
 NoneShorter print read = (n : ℕ) (t : List ℕ) → read t ≡ some n → (t ≡ print n → ⊥) → length (print n) < length t
+
+-- ---- which byte is at fault
+
+-- the text reads as some number
+pub record Readable (reads : List ℕ → ℕ → Type 0) (t : List ℕ) : Type 0 where
+  pub value : ℕ
+  pub is : reads t value
+
+-- these bytes begin some text that can be read
+pub record Begun (can : List ℕ → Type 0) (t : List ℕ) : Type 0 where
+  pub rest : List ℕ
+  pub read : can (t ++ rest)
+
+-- the bytes before place k begin some text that can be read, and with the byte at k they begin none; where k is the length, the
+-- whole text begins one
+pub record FaultAt (can : List ℕ → Type 0) (t : List ℕ) (k : ℕ) : Type 0 where
+  pub within : k ≤ length t
+  pub before : Begun can (take k t)
+  pub there : k < length t → Begun can (take (k + 1) t) → ⊥
+
+-- the reader answers a number with the place k exactly for the texts that can't be read and have their first fault there: nothing
+-- before k is to blame, and nothing that follows could have mended it
+unfoldable pub FirstFault : (List ℕ → Type 0) → ℕ → (List ℕ → Answer) → Type 0
+FirstFault can number read = (t : List ℕ) (k : ℕ) → (read t ≡ says number (k ∷ [])) ↔ ((can t → ⊥) × FaultAt can t k)
+
+-- 0 and n exactly for the texts that read as n; 12 and the place of the first fault for all others
+pub record Meets (reads : List ℕ → ℕ → Type 0) (read : List ℕ → Answer) : Type 0 where
+  pub values : (t : List ℕ) (n : ℕ) → (read t ≡ says 0 (n ∷ [])) ↔ reads t n
+  pub faults : FirstFault (Readable reads) 12 read
+
+-- two readers that do so give one answer for every text
+unfoldable pub OneReader : (List ℕ → ℕ → Type 0) → Type 0
+OneReader reads = (read other : List ℕ → Answer) → Meets reads read → Meets reads other → (t : List ℕ) → read t ≡ other t

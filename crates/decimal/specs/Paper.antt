@@ -6,4 +6,4 @@ use Rattle.decimal.specs.declared.read.Number.the-variants.{Value, Bad}
 
 unfoldable pub numberPaper : Number → Answer
 numberPaper (Value n) = says 0 (n ∷ [])
-numberPaper Bad = says 12 []
+numberPaper (Bad k) = says 12 (k ∷ [])

@@ -1,9 +1,12 @@
--- What is asked of any function that gives the fields of a line that was read (docs/RULES.md, "A line"; docs/STATEMENTS.md). Assumes nothing.
-use Prim.Native.Nat.{ℕ, _+_}
+-- What is asked of any function that gives the fields of a line that was read, and of any reader of POS (docs/RULES.md, "A line";
+-- docs/STATEMENTS.md). Assumes nothing.
+use Prim.Native.Nat.{ℕ, _+_, _<_}
 use mathlib.Core.Path.{_≡_}
+use mathlib.Core.Logic.{_↔_}
 use mathlib.Core.List.{List, [], _∷_}
 use lib.ListN.{length, drop}
 use Rattle.text.specs.Answer.{Answer, says}
+use Rattle.decimal.specs.Demands.{Decimal, FirstFault}
 use Rattle.line.specs.Line.{Ending}
 use Rattle.line.specs.Place.{columnOf, columnStart}
 use Rattle.line.specs.Promises.{ReadsLine}
@@ -50,3 +53,21 @@ FieldFinds = (s : List ℕ) (at : ℕ) (r : Record) (cs : List (List ℕ)) → M
 unfoldable pub OneFinder : Type 0
 OneFinder = (find other : Finder) → Finds find → Finds other → (s : List ℕ) (at next : ℕ) (r : Record) → ReadsLine s at (R.Line r next)
     → (n : Name) → find s r n ≡ other s r n
+
+-- ---- POS
+
+-- a text that POS can be: `0`, or a decimal worth 1 or more
+pub data Positioned : List ℕ → Type 0 where
+  nowhere : Positioned (48 ∷ [])
+  somewhere : {t : List ℕ} {n : ℕ} → Decimal t n → 0 < n → Positioned t
+
+-- 0 alone exactly for `0`; 0 and n exactly for the decimals worth n, where that is 1 or more; 21 and the place of the first fault
+-- for all others, so that one worth 0 is at fault at its end
+pub record MeetsPos (read : List ℕ → Answer) : Type 0 where
+  pub none : (t : List ℕ) → (read t ≡ says 0 []) ↔ (t ≡ 48 ∷ [])
+  pub values : (t : List ℕ) (n : ℕ) → (read t ≡ says 0 (n ∷ [])) ↔ (Decimal t n × (0 < n))
+  pub faults : FirstFault Positioned 21 read
+
+-- two readers that do so give one answer for every text
+unfoldable pub OnePos : Type 0
+OnePos = (read other : List ℕ → Answer) → MeetsPos read → MeetsPos other → (t : List ℕ) → read t ≡ other t

@@ -16,4 +16,4 @@ fieldPaper F.Beyond = says 6 []
 unfoldable pub positionPaper : Position → Answer
 positionPaper (P.At n) = says 0 (n ∷ [])
 positionPaper P.Nowhere = says 0 []
-positionPaper P.Bad = says 21 []
+positionPaper (P.Bad k) = says 21 (k ∷ [])

@@ -9,23 +9,24 @@ pub enum Position {
     At(u64),
     // 0: none, `0`.
     Nowhere,
-    // 21: it is bad.
-    Bad,
+    // 21: it is bad. The place of the decimal's fault, or the text's length where it is worth 0.
+    Bad(usize),
 }
 
 // Reads a POS text.
 pub fn read_pos(s: &[u8]) -> Position
     ensures { λ r. ⌜ ReadsPos (now (s .entry)) r ⌝ }
 {
-    let read = read_decimal(s);
-    let Number::Value(n) = read else {
-        return Position::Bad;
-    };
-    if n > 0 {
-        return Position::At(n);
+    match read_decimal(s) {
+        Number::Value(n) => {
+            if n > 0 {
+                return Position::At(n);
+            }
+            if s.len() == 1 {
+                return Position::Nowhere;
+            }
+            Position::Bad(s.len())
+        }
+        Number::Bad(fault) => Position::Bad(fault),
     }
-    if s.len() == 1 {
-        return Position::Nowhere;
-    }
-    Position::Bad
 }
