@@ -158,8 +158,8 @@ def short_genotype_steps():
 
 
 def short_faults():
-    """One byte longer than those stored, for the offsets."""
-    for text in of_length(generate.OFFSET_BYTES, 5):
+    """Up to one byte longer than those stored, for the offsets."""
+    for text in short_texts(generate.OFFSET_BYTES, 5):
         yield ask("decimal", text)
         yield ask("pos", text)
         yield from generate.all_readers(3, text)

@@ -12,7 +12,7 @@ use lib.Seq.{take-take}
 use Rattle.text.specs.Answer.{Answer, says}
 use Rattle.decimal.specs.Decimal.{valueAnswer}
 use Rattle.decimal.specs.Paper.{numberPaper}
-use Rattle.decimal.specs.Demands.{Readable, Begun, FaultAt, FirstFault, Meets}
+use Rattle.decimal.specs.Demands.{Readable, Begun, FaultAt, Meets}
 use Rattle.decimal.proofs.Value.{answer-value, answer-bad}
 
 -- ---- one place
@@ -45,7 +45,7 @@ module _ {reads : List ℕ → ℕ → Type 0} (value : List ℕ → Option ℕ)
   none-not t e g = let z : _≡_ {A = ℕ} 0 1 = cc (v t (g .value) .1 (g .is)) in omega arith
 
   pub value-meets : Meets reads (λ (t : List ℕ). valueAnswer (value t) (fault t))
-  unfolding FirstFault numberPaper valueAnswer
+  unfolding numberPaper valueAnswer
   value-meets =
       record {
         values = λ t n. (λ e. v t n .0 (answer-value (value t) (fault t) (sym e)), λ g. rw (v t n .1 g));
@@ -61,7 +61,6 @@ module _ {reads : List ℕ → ℕ → Type 0} (value : List ℕ → Option ℕ)
       to-blame t k n g none e = rw (e, fault-one (f t) g)
 
   pub meets-one : (read other : List ℕ → Answer) → Meets reads read → Meets reads other → (t : List ℕ) → read t ≡ other t
-  unfolding FirstFault
   meets-one read other p q t = by (value t) refl
     where
       by : (o : Option ℕ) → value t ≡ o → read t ≡ other t

@@ -71,7 +71,7 @@ pub record FaultAt (can : List ℕ → Type 0) (t : List ℕ) (k : ℕ) : Type 0
 
 -- the reader answers a number with the place k exactly for the texts that can't be read and have their first fault there: nothing
 -- before k is to blame, and nothing that follows could have mended it
-unfoldable pub FirstFault : (List ℕ → Type 0) → ℕ → (List ℕ → Answer) → Type 0
+abbrev pub FirstFault : (List ℕ → Type 0) → ℕ → (List ℕ → Answer) → Type 0
 FirstFault can number read = (t : List ℕ) (k : ℕ) → (read t ≡ says number (k ∷ [])) ↔ ((can t → ⊥) × FaultAt can t k)
 
 -- 0 and n exactly for the texts that read as n; 12 and the place of the first fault for all others

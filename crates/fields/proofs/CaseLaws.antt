@@ -32,7 +32,7 @@ module _ {x : Position} where
   unfolding positionPaper
   position-nowhere e = rw e
 
-  pub position-bad : x ≡ P.Bad → positionPaper x ≡ says 21 []
+  pub position-bad : {k : ℕ} → x ≡ P.Bad k → positionPaper x ≡ says 21 (k ∷ [])
   unfolding positionPaper
   position-bad e = rw e
 

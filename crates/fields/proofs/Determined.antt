@@ -31,14 +31,14 @@ field-paper-injective = LeftInverse·injective textOf fieldPaper text-back
 -- ---- POS
 
 positionOf : Answer → Position
-positionOf (says n []) = pick (eqb n 0) P.Nowhere P.Bad
-positionOf (says n (a ∷ l)) = P.At a
+positionOf (says n []) = P.Nowhere
+positionOf (says n (a ∷ l)) = pick (eqb n 0) (P.At a) (P.Bad a)
 
 position-back : (x : Position) → positionOf (positionPaper x) ≡ x
 unfolding positionOf positionPaper
 position-back (P.At n) = refl
 position-back P.Nowhere = refl
-position-back P.Bad = refl
+position-back (P.Bad k) = refl
 
 pub position-paper-injective : (x y : Position) → positionPaper x ≡ positionPaper y → x ≡ y
 position-paper-injective = LeftInverse·injective positionOf positionPaper position-back

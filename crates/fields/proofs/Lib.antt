@@ -4,3 +4,4 @@ pub mod Determined
 pub mod RecordLaws
 pub mod CaseLaws
 pub mod Demands
+pub mod PosDemands

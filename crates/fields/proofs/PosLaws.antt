@@ -1,5 +1,5 @@
--- POS goes by the decimal's value; the one text of one byte that is worth 0 is `0`, since no other is as short. Assumes nothing.
-use Prim.Native.Nat.{ℕ, zero, suc, _<_, _≤_}
+-- POS goes by the value and the fault of the decimal; the one text of one byte that is worth 0 is `0`, since no other is as short. Assumes nothing.
+use Prim.Native.Nat.{ℕ, zero, suc, _+_, _<_, _≤_}
 use mathlib.Core.Path.{_≡_, sym, ap, _∙_}
 use mathlib.Core.List.{List, [], _∷_}
 use mathlib.Core.Option.{some, none}
@@ -8,7 +8,7 @@ use native.Mathlib.Decide.{ℕ-discrete}
 use lib.ListN.{length}
 use Rattle.text.specs.Answer.{says}
 use Rattle.text.proofs.SameLaws.{same-self, same-not}
-use Rattle.decimal.specs.Decimal.{valueOf, decimalAnswer}
+use Rattle.decimal.specs.Decimal.{valueOf, faultOf, decimalAnswer}
 use Rattle.decimal.specs.Shortest.{shortest}
 use Rattle.decimal.specs.Paper.{numberPaper}
 use Rattle.decimal.specs.declared.read.Number.{Number}
@@ -20,10 +20,13 @@ use Rattle.fields.specs.Pos.{positive, posAnswer}
 use Rattle.fields.specs.Paper.{positionPaper}
 use Rattle.fields.specs.declared.pos.Position.the-variants as P
 
--- ---- the texts worth 0
+-- ---- one digit, and the texts worth 0
 
-zero-value : valueOf (48 ∷ []) ≡ some 0
-zero-value = rw (shortest-one 0 (omega arith)) at (reads-back 0 (omega arith))
+pub digit-value : (n : ℕ) → n < 10 → valueOf ((48 + n) ∷ []) ≡ some n
+digit-value n h = rw (shortest-one n h) at (reads-back n (omega arith))
+
+pub zero-value : valueOf (48 ∷ []) ≡ some 0
+zero-value = digit-value 0 (omega arith)
 
 zero-text : (t : List ℕ) → valueOf t ≡ some 0 → length t ≡ 1 → t ≡ 48 ∷ []
 zero-text [] e l = absurd (omega arith)
@@ -44,7 +47,7 @@ unfolding posAnswer
 pos-zero = rw (same-self (48 ∷ []))
 
 module _ (t : List ℕ) where
-  pos-value : (t ≡ 48 ∷ [] → ⊥) → posAnswer t ≡ positive (valueOf t)
+  pos-value : (t ≡ 48 ∷ [] → ⊥) → posAnswer t ≡ positive t (valueOf t)
   unfolding posAnswer
   pos-value h = rw (same-not t (48 ∷ []) h)
 
@@ -56,20 +59,20 @@ module _ (t : List ℕ) where
   pos-some zero e h = absurd (omega arith)
   pos-some (suc n) e h = pos-value (λ z. let q : 0 ≡ suc n = cc (zero-worth z) in omega arith) ∙ rw e
 
-  pub pos-bad : valueOf t ≡ none → posAnswer t ≡ says 21 []
+  pub pos-bad : valueOf t ≡ none → posAnswer t ≡ says 21 (faultOf t ∷ [])
   unfolding positive
   pos-bad e = pos-value (λ z. let q : _≡_ {A = ℕ} 0 1 = cc (zero-worth z) in omega arith) ∙ rw e
 
-  pub pos-naught : valueOf t ≡ some 0 → (t ≡ 48 ∷ [] → ⊥) → posAnswer t ≡ says 21 []
+  pub pos-naught : valueOf t ≡ some 0 → (t ≡ 48 ∷ [] → ⊥) → posAnswer t ≡ says 21 (length t ∷ [])
   unfolding positive
   pos-naught e h = pos-value h ∙ rw e
 
 -- ---- the ways of the reader
 
 module _ (t : List ℕ) {x : Number} (p : numberPaper x ≡ decimalAnswer t) where
-  pub read-bad : x ≡ D.Bad → positionPaper P.Bad ≡ posAnswer t
+  pub read-bad : {k : ℕ} → x ≡ D.Bad k → positionPaper (P.Bad k) ≡ posAnswer t
   unfolding positionPaper
-  read-bad e = sym (pos-bad t (told-bad t (rw e at p)))
+  read-bad {k} e = let g = told-bad k t (rw e at p) in rw (g .1) (sym (pos-bad t (g .0)))
 
   module _ {n : ℕ} (e : x ≡ D.Value n) where
     value : valueOf t ≡ some n
@@ -86,7 +89,7 @@ module _ (t : List ℕ) {x : Number} (p : numberPaper x ≡ decimalAnswer t) whe
     unfolding positionPaper
     read-zero h l = let w = zero-text t (value-none h) l in rw w (sym pos-zero)
 
-    pub read-naught : n ≤ 0 → (length t ≡ 1 → ⊥) → positionPaper P.Bad ≡ posAnswer t
+    pub read-naught : n ≤ 0 → (length t ≡ 1 → ⊥) → positionPaper (P.Bad (length t)) ≡ posAnswer t
     unfolding positionPaper
     read-naught h l = sym (pos-naught t (value-none h) (λ w. l (ap length w)))
 

@@ -56,24 +56,24 @@ module _ (t : List ℕ) (count at k : ℕ) (x : Step) (g : Finding t count at k)
 -- ---- the answer
 
 -- where the whole is no list, no allele is above
-other-above : (count : ℕ) (r : Reading) → (numberOf (wholeAnswer r) ≡ 0 → ⊥) → firstAbove count 0 (listOf r) ≡ none
+other-above : (count : ℕ) (t : List ℕ) (r : Reading) → (numberOf (wholeAnswer t r) ≡ 0 → ⊥) → firstAbove count 0 (listOf r) ≡ none
 unfolding wholeAnswer firstAbove listOf
-other-above count (list as′) n = absurd (n refl)
-other-above count (bad k) n = where-none _ 0
-other-above count empty n = where-none _ 0
+other-above count t (list as′) n = absurd (n refl)
+other-above count t (bad k) n = where-none _ 0
+other-above count t empty n = where-none _ 0
 
 -- a done answer is a list's
-whole-list : (r : Reading) (n : ℕ) → readPaper (R.Done n) ≡ wholeAnswer r → r ≡ list (listOf r)
+whole-list : (t : List ℕ) (r : Reading) (n : ℕ) → readPaper (R.Done n) ≡ wholeAnswer t r → r ≡ list (listOf r)
 unfolding readPaper wholeAnswer listOf
-whole-list (list as′) n e = refl
-whole-list (bad k) n e = cc
-whole-list empty n e = cc
+whole-list t (list as′) n e = refl
+whole-list t (bad k) n e = cc
+whole-list t empty n e = cc
 
-module _ (t alt : List ℕ) (room : ℕ) (x : Read) (e : readPaper x ≡ wholeAnswer (readingOf t)) where
+module _ (t alt : List ℕ) (room : ℕ) (x : Read) (e : readPaper x ≡ wholeAnswer t (readingOf t)) where
   pub check-other : OneOf (1 ∷ 2 ∷ 3 ∷ 4 ∷ 5 ∷ []) (tagOf D.the-type x) → readPaper x ≡ checkedText t alt room
   unfolding checkedAnswer aboveAnswer
   check-other h =
-      rw (other-above (altCount alt) (readingOf t) (λ z. other-number x h (rw e z)))
+      rw (other-above (altCount alt) t (readingOf t) (λ z. other-number x h (rw e z)))
       (judge-fits t room x x e (fit-other x room h))
 
   module _ (count : ℕ) (y : Above) (c : count ≡ altCount alt) (f : abovePaper y ≡ firstAbove count 0 (listOf (readingOf t))) where
@@ -85,7 +85,7 @@ module _ (t alt : List ℕ) (room : ℕ) (x : Read) (e : readPaper x ≡ wholeAn
     unfolding checkedAnswer aboveAnswer abovePaper
     check-fits z q h = rw (← c, ← f, q) (judge-fits t room x z e h)
 
-pub check-meant : (t : List ℕ) (x : Read) {n : ℕ} → readPaper x ≡ wholeAnswer (readingOf t) → x ≡ R.Done n → ListMeant t
-check-meant t x {n} e q = record { is = whole-list (readingOf t) n (rw q at e) }
+pub check-meant : (t : List ℕ) (x : Read) {n : ℕ} → readPaper x ≡ wholeAnswer t (readingOf t) → x ≡ R.Done n → ListMeant t
+check-meant t x {n} e q = record { is = whole-list t (readingOf t) n (rw q at e) }
 
 pub ruleset laws = (find-first, find-at, find-turn, found-less, find-none, check-other, check-above, check-fits, check-meant)

@@ -70,7 +70,7 @@ left-end t at k (S.Found a next) g e h = absurd (miss (1 ∷ 2 ∷ 3 ∷ 4 ∷ [
 left-end t at k S.Beyond g e h = absurd (let f = step-means t at S.Beyond e in omega arith)
 left-end t at k S.Nothing g e h = let f = step-means t at S.Nothing e in rw (parts-end t at (omega arith))
 left-end t at k S.Empty g e h = let f = step-means t at S.Empty e in rw (parts-end t at (omega arith))
-left-end t at k S.Bad g e h = let f = step-means t at S.Bad e in rw (f .parts)
+left-end t at k (S.Bad fault) g e h = let f = step-means t at (S.Bad fault) e in rw (f .parts)
 
 -- where one is left, a step finds it
 pub left-some : (t : List ℕ) (at k : ℕ) (a : Allele) (as′ : List Allele) → leftOf t at k ≡ a ∷ as′ → Ahead t at k → Further t at a (pastAt t at)

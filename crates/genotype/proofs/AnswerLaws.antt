@@ -9,7 +9,7 @@ use lib.ListN.{length}
 use borrow.Author.Tests.{eq-eqb, ne-eqb, lt-leb, le-leb}
 use Rattle.text.specs.Answer.{Answer, says, numberOf}
 use Rattle.text.specs.Over.{over}
-use Rattle.genotype.specs.Reading.{list, bad, empty, readingOf, listOf}
+use Rattle.genotype.specs.Reading.{list, bad, empty, readingOf, listOf, faultAt}
 use Rattle.genotype.specs.Row.{numbersOf, missingOf, phasedOf}
 use Rattle.genotype.specs.Answers.{readAnswer, rowAnswer, ReadsText}
 use Rattle.genotype.specs.Paper.{readPaper}
@@ -18,20 +18,20 @@ use Rattle.genotype.specs.declared.read.Read.{Read}
 
 -- ---- by what the text reads as
 
-module _ (room : ℕ) where
-  pub answer-list : (as′ : List Allele) → length as′ ≤ room → readAnswer (list as′) room ≡ says 0 (length as′ ∷ [])
+module _ (t : List ℕ) (room : ℕ) where
+  pub answer-list : (as′ : List Allele) → length as′ ≤ room → readAnswer t (list as′) room ≡ says 0 (length as′ ∷ [])
   unfolding readAnswer
   answer-list as′ h = rw (le-leb _ _ h)
 
-  pub answer-short : (as′ : List Allele) → room < length as′ → readAnswer (list as′) room ≡ says 17 []
+  pub answer-short : (as′ : List Allele) → room < length as′ → readAnswer t (list as′) room ≡ says 17 []
   unfolding readAnswer
   answer-short as′ h = rw (lt-leb _ _ h)
 
-  pub answer-bad : (k : ℕ) → readAnswer (bad k) room ≡ says 12 (k ∷ [])
+  pub answer-bad : (k : ℕ) → readAnswer t (bad k) room ≡ says 12 (k ∷ faultAt t k ∷ [])
   unfolding readAnswer
   answer-bad k = refl
 
-  pub answer-empty : readAnswer empty room ≡ says 11 []
+  pub answer-empty : readAnswer t empty room ≡ says 11 []
   unfolding readAnswer
   answer-empty = refl
 
@@ -73,5 +73,5 @@ pub reads-list : (t n m p : List ℕ) (as′ : List Allele) {r : Read} {n′ m�
     → length as′ ≤ length n → ReadsText t n m p r n′ m′ p′ → Holds as′ n m p r n′ m′ p′
 unfolding listOf
 reads-list t n m p as′ q e f h g =
-    let k = rw (row-even n m p _ e f, q, answer-list (length n) as′ h) at g in
+    let k = rw (row-even n m p _ e f, q, answer-list t (length n) as′ h) at g in
     record { answer = k .answer; numbers = k .numbers; missing = k .missing; phased = k .phased }

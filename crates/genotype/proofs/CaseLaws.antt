@@ -28,7 +28,7 @@ module _ {x : Step} where
   unfolding stepPaper
   step-empty e = rw e
 
-  pub step-bad : x ≡ S.Bad → stepPaper x ≡ says 12 []
+  pub step-bad : {fault : ℕ} → x ≡ S.Bad fault → stepPaper x ≡ says 12 (fault ∷ [])
   unfolding stepPaper
   step-bad e = rw e
 
@@ -41,7 +41,7 @@ module _ {x : Read} where
   unfolding readPaper
   read-empty e = rw e
 
-  pub read-bad : {n : ℕ} → x ≡ R.Bad n → readPaper x ≡ says 12 (n ∷ [])
+  pub read-bad : {n fault : ℕ} → x ≡ R.Bad n fault → readPaper x ≡ says 12 (n ∷ fault ∷ [])
   unfolding readPaper
   read-bad e = rw e
 

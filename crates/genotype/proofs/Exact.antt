@@ -25,13 +25,13 @@ exact t row fits = by (readingOf t) refl
     by (list as′) e =
         let m = reads-means t as′ .0 e in
         let l = fits as′ m in
-        rw (e, answer-list (length row) as′ l)
+        rw (e, answer-list t (length row) as′ l)
         (record {
           refused = (λ n. absurd (n refl), λ n. absurd (n as′ m));
           one = λ z. record { list = as′; means = m; only = λ bs k. means-one t bs as′ k m; count = refl; holds = refl };
         })
-    by (bad k) e = rw (e, answer-bad (length row) k) (refuses t row _ (λ as′ q. let z : _≡_ {A = ℕ} 0 1 = cc in omega arith) (λ z. omega arith))
-    by empty e = rw (e, answer-empty (length row)) (refuses t row _ (λ as′ q. let z : _≡_ {A = ℕ} 0 1 = cc in omega arith) (λ z. omega arith))
+    by (bad k) e = rw (e, answer-bad t (length row) k) (refuses t row _ (λ as′ q. let z : _≡_ {A = ℕ} 0 1 = cc in omega arith) (λ z. omega arith))
+    by empty e = rw (e, answer-empty t (length row)) (refuses t row _ (λ as′ q. let z : _≡_ {A = ℕ} 0 1 = cc in omega arith) (λ z. omega arith))
 
 pub untouched : Untouched reader
 unfolding Untouched reader

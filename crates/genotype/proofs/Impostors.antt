@@ -11,6 +11,8 @@ use Rattle.text.specs.Over.{over}
 use Rattle.text.proofs.Lists.{over-is}
 use Rattle.pieces.proofs.PieceLaws.{free-nil}
 use Rattle.pieces.proofs.CountLaws.{lacks-none}
+use Rattle.decimal.specs.Decimal.{faultOf}
+use Rattle.decimal.proofs.FirstFault.{decimal-fault}
 use Rattle.genotype.specs.Reading.{foundAnswer, stepAnswer}
 use Rattle.genotype.specs.Means.{none, more, Means, bare, at-end, without, bad-here, Broken, bad-after}
 use Rattle.genotype.specs.Demands.{Reader, reader, Stands, ExactAt, Exact, Refusals, Stepper, Walk, next, Visits, Steps, OneStepper}
@@ -87,20 +89,34 @@ invented-count read f x =
     omega arith
 
 -- `0|` is broken at its second piece
-cut-broken : Broken (48 ∷ 124 ∷ []) 1
+cut-broken : Broken (48 ∷ 124 ∷ []) 1 2
 cut-broken =
+    let w = decimal-fault [] .within in
+    let z : faultOf [] ≡ 0 = omega arith in
+    let f = rw z at (decimal-fault []) in
     bad-after (digit-body 0 true (omega arith))
-    (bad-here true refl (record { no-bar = free-nil; no-slash = free-nil; ends = at-end; no-body = λ a c. absurd (omega (arith, body-some c)) }))
+    (bad-here true refl (record { no-bar = free-nil; no-slash = free-nil; ends = at-end; no-body = λ a c. absurd (omega (arith, body-some c)); fault = f }))
 
 -- one that says of every bad text that its first piece is bad
 pub invented-index : (read : Reader)
-    → ((t : List ℕ) (row : List Allele) (k : ℕ) → reader t row .answer ≡ says 12 (k ∷ []) → read t row .answer ≡ says 12 (0 ∷ []))
+    → ((t : List ℕ) (row : List Allele) (k o : ℕ) → reader t row .answer ≡ says 12 (k ∷ o ∷ []) → read t row .answer ≡ says 12 (0 ∷ o ∷ []))
     → Refusals read → ⊥
 unfolding Refusals
 invented-index read f x =
-    let a = f _ [] 1 (refusals _ [] .broken 1 .1 cut-broken) in
-    let b = x _ [] .broken 1 .1 cut-broken in
+    let a = f _ [] 1 2 (refusals _ [] .broken 1 2 .1 cut-broken) in
+    let b = x _ [] .broken 1 2 .1 cut-broken in
     let z : _≡_ {A = ℕ} 0 1 = cc in
+    omega arith
+
+-- one whose place of a fault lies too far by one
+pub invented-offset : (read : Reader)
+    → ((t : List ℕ) (row : List Allele) (k o : ℕ) → reader t row .answer ≡ says 12 (k ∷ o ∷ []) → read t row .answer ≡ says 12 (k ∷ (o + 1) ∷ []))
+    → Refusals read → ⊥
+unfolding Refusals
+invented-offset read f x =
+    let a = f _ [] 1 2 (refusals _ [] .broken 1 2 .1 cut-broken) in
+    let b = x _ [] .broken 1 2 .1 cut-broken in
+    let z : _≡_ {A = ℕ} 3 2 = cc in
     omega arith
 
 -- ---- steppers

@@ -3,12 +3,13 @@ use Prim.Native.Nat.{ℕ, _+_, _≤_, _<_, zero-le}
 use mathlib.Core.Path.{_≡_, refl, sym, _∙_}
 use mathlib.Core.List.{List, [], _∷_}
 use native.Mathlib.Omega.{arith}
+use native.Mathlib.Nat.{zero-add}
 use types.Run.{OneOf, miss}
 use denote.Enum.Declared.{tagOf}
 use lib.ListN.{length, drop}
 use borrow.Author.Tests.{lt-leb, le-leb}
 use Rattle.text.specs.Answer.{Answer, says, numberOf}
-use Rattle.genotype.specs.Reading.{Reading, list, bad, empty, with, gathered, readingOf, listOf, partsOf, stepAnswer}
+use Rattle.genotype.specs.Reading.{Reading, list, bad, empty, with, gathered, readingOf, listOf, partsOf, faultAt, stepAnswer}
 use Rattle.genotype.specs.Answers.{readAnswer, textAnswer}
 use Rattle.genotype.specs.Paper.{stepPaper, readPaper}
 use Rattle.genotype.specs.declared.allele.Allele.{Allele}
@@ -20,7 +21,7 @@ use Rattle.genotype.specs.Inner.{wholeAnswer, fitAnswer}
 use Rattle.genotype.proofs.step.Step as T
 use Rattle.genotype.proofs.read.Read as D
 use Rattle.genotype.proofs.PieceLaws.{parts-end}
-use Rattle.genotype.proofs.StepLaws.{step-means, found, found-less}
+use Rattle.genotype.proofs.StepLaws.{further-fault, step-means, found, found-less}
 
 -- ---- the whole text
 
@@ -36,22 +37,22 @@ reading-none [] h = refl
 reading-none (b ∷ s) h = absurd (omega arith)
 
 -- the answer of k alleles and a reading behind them
-pub wholeFrom : ℕ → Reading → Answer
-wholeFrom k (list as′) = says 0 ((k + length as′) ∷ [])
-wholeFrom k (bad j) = says 12 (j ∷ [])
-wholeFrom k empty = says 11 []
+pub wholeFrom : List ℕ → ℕ → Reading → Answer
+wholeFrom t k (list as′) = says 0 ((k + length as′) ∷ [])
+wholeFrom t k (bad j) = says 12 (j ∷ faultAt t j ∷ [])
+wholeFrom t k empty = says 11 []
 
-whole-none : (r : Reading) → wholeFrom 0 r ≡ wholeAnswer r
+whole-none : (t : List ℕ) (r : Reading) → wholeFrom t 0 r ≡ wholeAnswer t r
 unfolding wholeFrom wholeAnswer
-whole-none (list as′) = let z : 0 + length as′ ≡ length as′ = omega arith in rw z
-whole-none (bad j) = refl
-whole-none empty = refl
+whole-none t (list as′) = let z : 0 + length as′ ≡ length as′ = omega arith in rw z
+whole-none t (bad j) = refl
+whole-none t empty = refl
 
-whole-with : (k : ℕ) (a : Allele) (r : Reading) → wholeFrom k (with a r) ≡ wholeFrom (k + 1) r
+whole-with : (t : List ℕ) (k : ℕ) (a : Allele) (r : Reading) → wholeFrom t k (with a r) ≡ wholeFrom t (k + 1) r
 unfolding wholeFrom with
-whole-with k a (list as′) = let z : k + length (a ∷ as′) ≡ k + 1 + length as′ = omega arith in rw z
-whole-with k a (bad j) = refl
-whole-with k a empty = refl
+whole-with t k a (list as′) = let z : k + length (a ∷ as′) ≡ k + 1 + length as′ = omega arith in rw z
+whole-with t k a (bad j) = refl
+whole-with t k a empty = refl
 
 -- a reading that is a list once it has an allele before it
 pub with-list : (a : Allele) (r : Reading) {as′ : List Allele} → with a r ≡ list as′ → r ≡ list (listOf r)
@@ -72,20 +73,27 @@ end-tells t at (S.Found a next) w e h = absurd (miss (1 ∷ 2 ∷ 3 ∷ []) 0 tt
 end-tells t at S.Beyond w e h = let f = step-means t at S.Beyond e in omega arith
 end-tells t at S.Nothing w e h = let f = step-means t at S.Nothing e in omega arith
 end-tells t at S.Empty w e h = let f = step-means t at S.Empty e in omega arith
-end-tells t at S.Bad w e h = absurd (miss (1 ∷ 2 ∷ 3 ∷ []) 4 tt h)
+end-tells t at (S.Bad fault) w e h = absurd (miss (1 ∷ 2 ∷ 3 ∷ []) 4 tt h)
 
--- k alleles are passed, and at stands behind them
+-- k alleles are passed, and at stands behind them: a fault from there on is one of the whole
 pub record Judging (t : List ℕ) (at k : ℕ) : Type 0 where
   pub within : at ≤ length t
   pub few : k ≤ at
-  pub same : wholeFrom k (gathered k (partsOf (drop at t))) ≡ wholeAnswer (readingOf t)
+  pub same : wholeFrom t k (gathered k (partsOf (drop at t))) ≡ wholeAnswer t (readingOf t)
+  pub faults : (j : ℕ) → at + faultAt (drop at t) j ≡ faultAt t (k + j)
 
-pub judge-empty : (t : List ℕ) → length t ≡ 0 → readPaper R.Empty ≡ wholeAnswer (readingOf t)
+pub judge-empty : (t : List ℕ) → length t ≡ 0 → readPaper R.Empty ≡ wholeAnswer t (readingOf t)
 unfolding readPaper wholeAnswer
 judge-empty t h = rw (reading-none t h)
 
 pub judge-first : (t : List ℕ) → (length t ≡ 0 → ⊥) → Judging t 0 0
-judge-first t h = record { within = zero-le; few = zero-le; same = rw (reading-some t h) (whole-none (gathered 0 (partsOf t))) }
+judge-first t h =
+    record {
+      within = zero-le;
+      few = zero-le;
+      same = rw (reading-some t h) (whole-none t (gathered 0 (partsOf t)));
+      faults = λ j. simp zero-add;
+    }
 
 module _ (t : List ℕ) (at k : ℕ) (x : Step) (g : Judging t at k) (e : stepPaper x ≡ stepAnswer t at) where
   module _ (a : Allele) (next : ℕ) (q : x ≡ S.Found a next) where
@@ -93,13 +101,22 @@ module _ (t : List ℕ) (at k : ℕ) (x : Step) (g : Judging t at k) (e : stepPa
     unfolding gathered
     judge-turn =
         let f = found t at x e a next q in
-        record { within = f .within; few = omega arith; same = sym (whole-with k a _) ∙ (rw (f .parts) at (g .same)) }
+        record {
+          within = f .within;
+          few = omega arith;
+          same = sym (whole-with t k a _) ∙ (rw (f .parts) at (g .same));
+          faults = λ j. (let z : k + (j + 1) ≡ k + 1 + j = omega arith in sym (further-fault f j) ∙ g .faults (j + 1) ∙ rw z);
+        }
 
-  pub judge-bad : x ≡ S.Bad → readPaper (R.Bad k) ≡ wholeAnswer (readingOf t)
+  pub judge-bad : {fault : ℕ} → x ≡ S.Bad fault → readPaper (R.Bad k fault) ≡ wholeAnswer t (readingOf t)
   unfolding readPaper gathered wholeFrom
-  judge-bad q = let f = step-means t at S.Bad (rw q at e) in rw (f .parts) at (g .same)
+  judge-bad {fault} q =
+      let f = step-means t at (S.Bad fault) (rw q at e) in
+      let z : k + 0 ≡ k = omega arith in
+      let w : fault ≡ faultAt t k = f .there ∙ g .faults 0 ∙ rw z in
+      rw w (rw (f .parts) at (g .same))
 
-  pub judge-past : OneOf (1 ∷ 2 ∷ 3 ∷ []) (tagOf T.the-type x) → readPaper (R.Done k) ≡ wholeAnswer (readingOf t)
+  pub judge-past : OneOf (1 ∷ 2 ∷ 3 ∷ []) (tagOf T.the-type x) → readPaper (R.Done k) ≡ wholeAnswer t (readingOf t)
   unfolding readPaper gathered wholeFrom
   judge-past h = let z : k + 0 ≡ k = omega arith in rw (parts-end t at (end-tells t at x (g .within) e h), z) at (g .same)
 
@@ -114,7 +131,7 @@ pub other-number : (x : Read) → OneOf (1 ∷ 2 ∷ 3 ∷ 4 ∷ 5 ∷ []) (tagO
 unfolding readPaper
 other-number (R.Done n) h e = miss (1 ∷ 2 ∷ 3 ∷ 4 ∷ 5 ∷ []) 0 tt h
 other-number R.Empty h e = omega arith
-other-number (R.Bad k) h e = omega arith
+other-number (R.Bad k fault) h e = omega arith
 other-number R.Lengths h e = omega arith
 other-number R.Short h e = omega arith
 other-number (R.Above k) h e = omega arith
@@ -131,19 +148,19 @@ pub fit-other : (x : Read) (room : ℕ) → OneOf (1 ∷ 2 ∷ 3 ∷ 4 ∷ 5 ∷
 unfolding readPaper fitAnswer
 fit-other (R.Done n) room h = absurd (miss (1 ∷ 2 ∷ 3 ∷ 4 ∷ 5 ∷ []) 0 tt h)
 fit-other R.Empty room h = refl
-fit-other (R.Bad k) room h = refl
+fit-other (R.Bad k fault) room h = refl
 fit-other R.Lengths room h = refl
 fit-other R.Short room h = refl
 fit-other (R.Above k) room h = refl
 
-fit-whole : (r : Reading) (room : ℕ) → fitAnswer (wholeAnswer r) room ≡ readAnswer r room
+fit-whole : (t : List ℕ) (r : Reading) (room : ℕ) → fitAnswer (wholeAnswer t r) room ≡ readAnswer t r room
 unfolding fitAnswer wholeAnswer readAnswer
-fit-whole (list as′) room = refl
-fit-whole (bad k) room = refl
-fit-whole empty room = refl
+fit-whole t (list as′) room = refl
+fit-whole t (bad k) room = refl
+fit-whole t empty room = refl
 
-pub judge-fits : (t : List ℕ) (room : ℕ) (x y : Read) → readPaper x ≡ wholeAnswer (readingOf t) → readPaper y ≡ fitAnswer (readPaper x) room
+pub judge-fits : (t : List ℕ) (room : ℕ) (x y : Read) → readPaper x ≡ wholeAnswer t (readingOf t) → readPaper y ≡ fitAnswer (readPaper x) room
     → readPaper y ≡ textAnswer t room
-judge-fits t room x y e f = f ∙ (rw e (fit-whole (readingOf t) room))
+judge-fits t room x y e f = f ∙ (rw e (fit-whole t (readingOf t) room))
 
 pub ruleset laws = (judge-empty, judge-first, judge-turn, found-less, judge-bad, judge-past, fit-short, fit-done, fit-other, judge-fits)

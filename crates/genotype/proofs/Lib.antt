@@ -2,6 +2,7 @@ pub mod PaperLaws
 pub mod PieceLaws
 pub mod CutLaws
 pub mod ImpliedLaws
+pub mod FaultLaws
 pub mod StepLaws
 pub mod JudgeLaws
 pub mod Ahead

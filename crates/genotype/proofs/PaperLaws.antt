@@ -17,10 +17,10 @@ mark-back true = refl
 mark-back false = refl
 
 stepOf : Answer → Step
-stepOf (says n []) = pick (eqb n 6) S.Beyond (pick (eqb n 10) S.Nothing (pick (eqb n 11) S.Empty S.Bad))
-stepOf (says n (a ∷ [])) = S.Bad
-stepOf (says n (a ∷ b ∷ [])) = S.Bad
-stepOf (says n (a ∷ b ∷ c ∷ [])) = S.Bad
+stepOf (says n []) = pick (eqb n 6) S.Beyond (pick (eqb n 10) S.Nothing S.Empty)
+stepOf (says n (a ∷ [])) = S.Bad a
+stepOf (says n (a ∷ b ∷ [])) = S.Bad a
+stepOf (says n (a ∷ b ∷ c ∷ [])) = S.Bad a
 stepOf (says n (a ∷ b ∷ c ∷ d ∷ l)) = S.Found (record { number = b; missing = eqb c 1; phased = eqb d 1 }) a
 
 step-back : (x : Step) → stepOf (stepPaper x) ≡ x
@@ -29,20 +29,21 @@ step-back (S.Found a next) = rw (mark-back (a .missing), mark-back (a .phased))
 step-back S.Beyond = refl
 step-back S.Nothing = refl
 step-back S.Empty = refl
-step-back S.Bad = refl
+step-back (S.Bad fault) = refl
 
 pub step-paper-injective : (x y : Step) → stepPaper x ≡ stepPaper y → x ≡ y
 step-paper-injective = LeftInverse·injective stepOf stepPaper step-back
 
 readOf : Answer → Read
 readOf (says n []) = pick (eqb n 11) R.Empty (pick (eqb n 16) R.Lengths R.Short)
-readOf (says n (k ∷ l)) = pick (eqb n 0) (R.Done k) (pick (eqb n 12) (R.Bad k) (R.Above k))
+readOf (says n (k ∷ [])) = pick (eqb n 0) (R.Done k) (R.Above k)
+readOf (says n (k ∷ fault ∷ l)) = R.Bad k fault
 
 read-back : (x : Read) → readOf (readPaper x) ≡ x
 unfolding readOf readPaper
 read-back (R.Done n) = refl
 read-back R.Empty = refl
-read-back (R.Bad k) = refl
+read-back (R.Bad k fault) = refl
 read-back R.Lengths = refl
 read-back R.Short = refl
 read-back (R.Above k) = refl

@@ -99,6 +99,18 @@ marked-pieces (b ∷ s) = by (isMark b) refl (marked-pieces s)
     by true m h = rw (head-mark b s m)
     by false m h = rw (head-more b s m) h
 
+-- where a text begins with a mark, these are its pieces
+pub pieces-marked : (t : List ℕ) → headOf t ≡ [] → piecesOf t ≡ markedPieces t
+pieces-marked t e = sym (rw e at (marked-pieces t))
+
+-- the pieces from a place of the text on
+pub pieces-at : (t : List ℕ) (at : ℕ) → at < length t
+    → piecesOf (drop at t) ≡ (getD t at 0 ∷ headOf (drop (at + 1) t)) ∷ piecesOf (drop (at + 1 + length (headOf (drop (at + 1) t))) t)
+unfolding piecesOf
+pieces-at t at h =
+    rw (here t at h, ← drop-drop (length (headOf (drop (at + 1) t))) (at + 1) t)
+    (ap (λ (l : List (List ℕ)). (getD t at 0 ∷ headOf (drop (at + 1) t)) ∷ l) (marked-pieces (drop (at + 1) t)))
+
 pub parts-first : (b : ℕ) (s : List ℕ) → partsOf (b ∷ s) ≡ alleleIn (impliedBy s) (b ∷ headOf s) ∷ map (alleleIn (impliedBy s)) (markedPieces s)
 unfolding partsOf piecesOf impliedOf
 parts-first b s = refl
@@ -106,7 +118,7 @@ parts-first b s = refl
 -- where a text begins with a mark, so do all its pieces
 pub parts-marked : (t : List ℕ) → headOf t ≡ [] → partsOf t ≡ map (alleleIn (impliedOf t)) (markedPieces t)
 unfolding partsOf
-parts-marked t e = sym (ap (map (alleleIn (impliedOf t))) (rw e at (marked-pieces t)))
+parts-marked t e = ap (map (alleleIn (impliedOf t))) (pieces-marked t e)
 
 -- so the parts behind the first are those of the text behind it, whatever it implies itself
 parts-cons : (b : ℕ) (s : List ℕ) → partsOf (b ∷ s) ≡ alleleIn (impliedBy s) (b ∷ headOf s) ∷ partsOf (drop (length (headOf s)) s)

@@ -67,32 +67,32 @@ pub record Fits (r : Reading) (room k : ℕ) : Type 0 where
   pub count : length (listOf r) ≡ k
   pub few : length (listOf r) ≤ room
 
-fits : (r : Reading) (room k : ℕ) → readPaper (R.Done k) ≡ readAnswer r room → Fits r room k
+fits : (t : List ℕ) (r : Reading) (room k : ℕ) → readPaper (R.Done k) ≡ readAnswer t r room → Fits r room k
 unfolding readPaper listOf
-fits (list as′) room k e = by (decLe (length as′) room)
+fits t (list as′) room k e = by (decLe (length as′) room)
   where
     by : Dec (length as′ ≤ room) → Fits (list as′) room k
-    by (yes h) = record { meant = refl; count = let q = e ∙ answer-list room as′ h in cc; few = h }
-    by (no h) = absurd (let z = ap numberOf (e ∙ answer-short room as′ (omega arith)) in omega arith)
-fits (bad j) room k e = absurd (let z = ap numberOf (e ∙ answer-bad room j) in omega arith)
-fits empty room k e = absurd (let z = ap numberOf (e ∙ answer-empty room) in omega arith)
+    by (yes h) = record { meant = refl; count = let q = e ∙ answer-list t room as′ h in cc; few = h }
+    by (no h) = absurd (let z = ap numberOf (e ∙ answer-short t room as′ (omega arith)) in omega arith)
+fits t (bad j) room k e = absurd (let z = ap numberOf (e ∙ answer-bad t room j) in omega arith)
+fits t empty room k e = absurd (let z = ap numberOf (e ∙ answer-empty t room) in omega arith)
 
 -- a check passes on only what none is above
-checked : (count : ℕ) (r : Reading) (room k : ℕ) → readPaper (R.Done k) ≡ checkedAnswer count r room → readPaper (R.Done k) ≡ readAnswer r room
+checked : (count : ℕ) (t : List ℕ) (r : Reading) (room k : ℕ) → readPaper (R.Done k) ≡ checkedAnswer count t r room → readPaper (R.Done k) ≡ readAnswer t r room
 unfolding readPaper checkedAnswer aboveAnswer
-checked count r room k e = by (firstAbove count 0 (listOf r)) e
+checked count t r room k e = by (firstAbove count 0 (listOf r)) e
   where
-    by : (o : Option ℕ) → says 0 (k ∷ []) ≡ aboveAnswer o (readAnswer r room) → says 0 (k ∷ []) ≡ readAnswer r room
+    by : (o : Option ℕ) → says 0 (k ∷ []) ≡ aboveAnswer o (readAnswer t r room) → says 0 (k ∷ []) ≡ readAnswer t r room
     by (some j) e = absurd (let z : _≡_ {A = ℕ} 0 1 = cc in omega arith)
     by none e = e
 
 module _ (t : List ℕ) (room : ℕ) (x : Read) (h : readPaper x ≡ textAnswer t room) {k : ℕ} (q : x ≡ R.Done k) where
   pub read-fits : Fits (readingOf t) room k
-  read-fits = fits (readingOf t) room k (rw q at h)
+  read-fits = fits t (readingOf t) room k (rw q at h)
 
 module _ (t alt : List ℕ) (room : ℕ) (x : Read) (h : readPaper x ≡ checkedText t alt room) {k : ℕ} (q : x ≡ R.Done k) where
   pub checked-fits : Fits (readingOf t) room k
-  checked-fits = fits (readingOf t) room k (checked (altCount alt) (readingOf t) room k (rw q at h))
+  checked-fits = fits t (readingOf t) room k (checked (altCount alt) t (readingOf t) room k (rw q at h))
 
 -- ---- what is asked of who fills
 

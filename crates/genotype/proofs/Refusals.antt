@@ -8,7 +8,7 @@ use native.Mathlib.Omega.{arith}
 use native.Mathlib.Decide.{ℕ-discrete, decLe}
 use lib.ListN.{length}
 use Rattle.text.specs.Answer.{Answer, says, numberOf}
-use Rattle.genotype.specs.Reading.{Reading, list, bad, empty, with, gathered, readingOf, partsOf}
+use Rattle.genotype.specs.Reading.{Reading, list, bad, empty, with, gathered, readingOf, partsOf, faultAt}
 use Rattle.genotype.specs.Answers.{readAnswer}
 use Rattle.genotype.specs.Means.{Means, Broken}
 use Rattle.genotype.specs.Demands.{MeansOrBroken, Outcome, Reader, reader, Stands, ExactAt, Exact, Untouched, Longer, RefusedAt, Refusals, Meets, OneReader}
@@ -45,32 +45,36 @@ module _ (t : List ℕ) where
       let z : _≡_ {A = ℕ} 0 1 = cc in
       omega arith
 
-  broken-some : {k : ℕ} → Broken t k → t ≡ [] → ⊥
-  broken-some {k} g e =
-      let r = reads-broken t k .1 g in
+  broken-some : {k o : ℕ} → Broken t k o → t ≡ [] → ⊥
+  broken-some {k} {o} g e =
+      let r = reads-broken t k o .1 g .0 in
       let n = reading-none t (ap length e) in
       let z : _≡_ {A = ℕ} 0 1 = cc in
       omega arith
 
-  means-whole : {as′ : List Allele} {k : ℕ} → Means t as′ → Broken t k → ⊥
-  means-whole {as′} {k} m g =
+  means-whole : {as′ : List Allele} {k o : ℕ} → Means t as′ → Broken t k o → ⊥
+  means-whole {as′} {k} {o} m g =
       let r = reads-means t as′ .1 m in
-      let n = reads-broken t k .1 g in
+      let n = reads-broken t k o .1 g .0 in
       let z : _≡_ {A = ℕ} 0 1 = cc in
       omega arith
 
-  broken-one : {j k : ℕ} → Broken t j → Broken t k → j ≡ k
-  broken-one {j} {k} g h =
-      let r = reads-broken t j .1 g in
-      let n = reads-broken t k .1 h in
-      cc
+  -- the first piece that is no allele is one piece, and its fault is at one place
+  broken-one : {j k p o : ℕ} → Broken t j p → Broken t k o → (j ≡ k) × (p ≡ o)
+  broken-one {j} {k} {p} {o} g h =
+      let r = reads-broken t j p .1 g in
+      let n = reads-broken t k o .1 h in
+      let a = r .0 in
+      let b = n .0 in
+      let z : j ≡ k = cc in
+      (z, sym (r .1) ∙ rw z (n .1))
 
 pub means-or-broken : MeansOrBroken
-means-or-broken = record { either = λ t e m g. by t e m g (readingOf t) refl; never-both = λ t as′ k. means-whole t }
+means-or-broken = record { either = λ t e m g. by t e m g (readingOf t) refl; never-both = λ t as′ k o. means-whole t }
   where
-    by : (t : List ℕ) → (t ≡ [] → ⊥) → ((as′ : List Allele) → Means t as′ → ⊥) → ((k : ℕ) → Broken t k → ⊥) → (r : Reading) → readingOf t ≡ r → ⊥
+    by : (t : List ℕ) → (t ≡ [] → ⊥) → ((as′ : List Allele) → Means t as′ → ⊥) → ((k o : ℕ) → Broken t k o → ⊥) → (r : Reading) → readingOf t ≡ r → ⊥
     by t e m g (list as′) q = m as′ (reads-means t as′ .0 q)
-    by t e m g (bad k) q = g k (reads-broken t k .0 q)
+    by t e m g (bad k) q = g k (faultAt t k) (reads-broken t k (faultAt t k) .0 (q, refl))
     by t e m g empty q = e (reading-empty t q)
 
 -- ---- which number, and when
@@ -79,38 +83,38 @@ pub refusals : Refusals reader
 unfolding Refusals reader
 refusals t row = by (readingOf t) refl
   where
-    held : (as′ : List Allele) → Means t as′ → Dec (length as′ ≤ length row) → RefusedAt t row (readAnswer (list as′) (length row))
+    held : (as′ : List Allele) → Means t as′ → Dec (length as′ ≤ length row) → RefusedAt t row (readAnswer t (list as′) (length row))
     held as′ m (yes h) =
-        rw (answer-list (length row) as′ h)
+        rw (answer-list t (length row) as′ h)
         (record {
           empty = (λ z. absurd (omega (arith, ap numberOf z)), λ z. absurd (means-some t m z));
-          broken = λ k. (λ z. absurd (omega (arith, ap numberOf z)), λ g. absurd (means-whole t m g));
+          broken = λ k o. (λ z. absurd (omega (arith, ap numberOf z)), λ g. absurd (means-whole t m g));
           short = (λ z. absurd (omega (arith, ap numberOf z)), λ g. absurd (let q = ap length (means-one t (g .list) as′ (g .means) m) in omega arith));
         })
     held as′ m (no h) =
-        rw (answer-short (length row) as′ (omega arith))
+        rw (answer-short t (length row) as′ (omega arith))
         (record {
           empty = (λ z. absurd (omega (arith, ap numberOf z)), λ z. absurd (means-some t m z));
-          broken = λ k. (λ z. absurd (omega (arith, ap numberOf z)), λ g. absurd (means-whole t m g));
+          broken = λ k o. (λ z. absurd (omega (arith, ap numberOf z)), λ g. absurd (means-whole t m g));
           short = (λ z. record { list = as′; means = m; longer = omega arith }, λ g. refl);
         })
 
-    by : (r : Reading) → readingOf t ≡ r → RefusedAt t row (readAnswer r (length row))
+    by : (r : Reading) → readingOf t ≡ r → RefusedAt t row (readAnswer t r (length row))
     by (list as′) e = held as′ (reads-means t as′ .0 e) (decLe (length as′) (length row))
     by (bad k) e =
-        let g = reads-broken t k .0 e in
-        rw (answer-bad (length row) k)
+        let g = reads-broken t k (faultAt t k) .0 (e, refl) in
+        rw (answer-bad t (length row) k)
         (record {
           empty = (λ z. absurd (omega (arith, ap numberOf z)), λ z. absurd (broken-some t g z));
-          broken = λ j. (λ z. let q : k ≡ j = cc in rw q at g, λ h. rw (broken-one t g h));
+          broken = λ j o. (λ z. let q : k ≡ j = cc in let f : faultAt t k ≡ o = cc in rw (f, q) at g, λ h. let u = broken-one t g h in rw (u .1, u .0));
           short = (λ z. absurd (omega (arith, ap numberOf z)), λ h. absurd (means-whole t (h .means) g));
         })
     by empty e =
         let n = reading-empty t e in
-        rw (answer-empty (length row))
+        rw (answer-empty t (length row))
         (record {
           empty = (λ z. n, λ z. refl);
-          broken = λ k. (λ z. absurd (omega (arith, ap numberOf z)), λ g. absurd (broken-some t g n));
+          broken = λ k o. (λ z. absurd (omega (arith, ap numberOf z)), λ g. absurd (broken-some t g n));
           short = (λ z. absurd (omega (arith, ap numberOf z)), λ g. absurd (means-some t (g .means) n));
         })
 
@@ -158,8 +162,9 @@ one-reader read other w v t row = by (readingOf t) refl
     by : (r : Reading) → readingOf t ≡ r → read t row ≡ other t row
     by (list as′) e = held as′ (reads-means t as′ .0 e) (decLe (length as′) (length row))
     by (bad k) e =
-        let g = reads-broken t k .0 e in
-        same (says 12 (k ∷ [])) (λ z. omega arith) (w .refusals t row .broken k .1 g) (v .refusals t row .broken k .1 g)
+        let o : ℕ = faultAt t k in
+        let g = reads-broken t k o .0 (e, refl) in
+        same (says 12 (k ∷ o ∷ [])) (λ z. omega arith) (w .refusals t row .broken k o .1 g) (v .refusals t row .broken k o .1 g)
     by empty e =
         let n = reading-empty t e in
         same (says 11 []) (λ z. omega arith) (w .refusals t row .empty .1 n) (v .refusals t row .empty .1 n)

@@ -1,28 +1,32 @@
 -- One step: each way through its functions is a law of the cut; and what an answer tells, by cases of the definition. Assumes nothing.
-use Prim.Native.Nat.{ℕ, suc, _+_, _-_, _≤_, _<_}
+use Prim.Native.Nat.{ℕ, suc, _+_, _-_, _^_, _≤_, _<_}
 use mathlib.Core.Path.{_≡_, refl, sym, ap, _∙_}
 use mathlib.Core.List.{List, [], _∷_}
 use mathlib.Core.Bool.{Bool, true, false}
 use mathlib.Core.Option.{Option, some, none}
 use native.Mathlib.Omega.{arith}
 use native.Mathlib.Decide.{ℕ-discrete}
+use mir.Syntax.{w64}
+use mir.Val.{Fits}
 use lib.ListN.{length, getD, take, drop, drop-of-length-le, length-drop}
 use lib.Dec.{ltb}
 use borrow.Author.Tests.{ltb-true, ltb-false, le-leb, lt-leb}
 use Rattle.text.specs.Answer.{says}
 use Rattle.text.specs.Same.{same}
 use Rattle.text.proofs.Lists.{here}
-use Rattle.decimal.specs.Decimal.{decimalAnswer}
+use Rattle.decimal.specs.Decimal.{faultOf, decimalAnswer}
 use Rattle.decimal.specs.Paper.{numberPaper}
 use Rattle.decimal.specs.declared.read.Number.{Number}
 use Rattle.decimal.specs.declared.read.Number.the-variants as N
 use Rattle.decimal.proofs.Value.{told-value, told-bad}
-use Rattle.genotype.specs.Reading.{isMark, headOf, numbered, bodied, alleleIn, impliedBy, partsOf, foundAnswer, alleleAnswer, firstAnswer, fromAnswer, stepAnswer}
+use Rattle.decimal.proofs.FirstFault.{decimal-fault}
+use Rattle.genotype.specs.Reading.{isMark, headOf, numbered, bodied, alleleIn, impliedBy, partsOf, pieceFault, faultAt, foundAnswer, alleleAnswer, firstAnswer, fromAnswer, stepAnswer}
 use Rattle.genotype.specs.Paper.{stepPaper}
 use Rattle.genotype.specs.declared.allele.Allele.{Allele}
 use Rattle.genotype.specs.declared.step.Step.{Step}
 use Rattle.genotype.specs.declared.step.Step.the-variants as S
 use Rattle.genotype.proofs.PaperLaws.{step-paper-injective}
+use Rattle.genotype.proofs.FaultLaws.{piece-marked, piece-plain, fault-here, fault-past}
 use Rattle.genotype.proofs.PieceLaws.{mark-bar, mark-slash, mark-none, in-bar, in-slash, in-plain, head-none, head-mark, head-more, head-le, head-take, parts-at, parts-end}
 
 -- ---- the next mark
@@ -56,18 +60,26 @@ module _ {s : List ℕ} {from i : ℕ} (g : Seeking s from i) where
 -- ---- a piece without its mark
 
 module _ (s : List ℕ) (phased : Bool) (next : ℕ) {t : Bool} (d : t ≡ same s (46 ∷ [])) where
-  pub body-dot : t ≡ true → stepPaper (S.Found (record { number = 0; missing = true; phased = phased }) next) ≡ alleleAnswer next (bodied phased s)
+  pub body-dot : t ≡ true
+      → stepPaper (S.Found (record { number = 0; missing = true; phased = phased }) next) ≡ alleleAnswer next (next - length s + faultOf s) (bodied phased s)
   unfolding bodied stepPaper alleleAnswer
   body-dot e = rw (← d, e)
 
-  pub body-value : (x : Number) {n : ℕ} → t ≡ false → numberPaper x ≡ decimalAnswer s → x ≡ N.Value n
-      → stepPaper (S.Found (record { number = n; missing = false; phased = phased }) next) ≡ alleleAnswer next (bodied phased s)
-  unfolding bodied numbered stepPaper alleleAnswer
-  body-value x {n} e f g = rw (← d, e, told-value n s (rw g at f))
+  module _ (x : Number) (f : numberPaper x ≡ decimalAnswer s) where
+    pub body-value : {n : ℕ} → t ≡ false → x ≡ N.Value n
+        → stepPaper (S.Found (record { number = n; missing = false; phased = phased }) next) ≡ alleleAnswer next (next - length s + faultOf s) (bodied phased s)
+    unfolding bodied numbered stepPaper alleleAnswer
+    body-value {n} e g = rw (← d, e, told-value n s (rw g at f))
 
-  pub body-bad : (x : Number) → t ≡ false → numberPaper x ≡ decimalAnswer s → x ≡ N.Bad → stepPaper S.Bad ≡ alleleAnswer next (bodied phased s)
-  unfolding bodied numbered stepPaper alleleAnswer
-  body-bad x e f g = rw (← d, e, told-bad s (rw g at f))
+    pub body-bad : {k : ℕ} → t ≡ false → x ≡ N.Bad k
+        → stepPaper (S.Bad (next - length s + k)) ≡ alleleAnswer next (next - length s + faultOf s) (bodied phased s)
+    unfolding bodied numbered stepPaper alleleAnswer
+    body-bad {k} e g = let b = told-bad k s (rw g at f) in rw (← d, e, b .0, b .1)
+
+-- a fault lies within the piece, or at its end
+pub body-fits : (s : List ℕ) (next : ℕ) (x : Number) {k : ℕ} → numberPaper x ≡ decimalAnswer s → x ≡ N.Bad k → length s ≤ next → next < 2 ^ 64
+    → Fits w64 (next - length s + k)
+body-fits s next x {k} f g h l = let b = told-bad k s (rw g at f) .1 in let w = decimal-fault s .within in omega arith
 
 -- ---- what a step answers
 
@@ -77,6 +89,10 @@ firstAt t at = alleleIn (impliedBy (drop (at + 1) t)) (getD t at 0 ∷ headOf (d
 
 abbrev pub pastAt : List ℕ → ℕ → ℕ
 pastAt t at = at + 1 + length (headOf (drop (at + 1) t))
+
+-- and the place of its fault, where it is none
+abbrev faultFrom : List ℕ → ℕ → ℕ
+faultFrom t at = at + pieceFault (getD t at 0 ∷ headOf (drop (at + 1) t))
 
 inside : (t : List ℕ) (at : ℕ) → (length t ≡ 0 → ⊥) → at ≤ length t → stepAnswer t at ≡ firstAnswer at (drop at t)
 unfolding stepAnswer fromAnswer
@@ -96,7 +112,7 @@ pub step-nothing : (t : List ℕ) (at : ℕ) → (length t ≡ 0 → ⊥) → at
 unfolding stepPaper firstAnswer
 step-nothing t at n e = sym (inside t at n (omega arith) ∙ rw (drop-of-length-le t {i = at} (omega arith)))
 
-step-here : (t : List ℕ) (at : ℕ) → at < length t → stepAnswer t at ≡ alleleAnswer (pastAt t at) (firstAt t at)
+step-here : (t : List ℕ) (at : ℕ) → at < length t → stepAnswer t at ≡ alleleAnswer (pastAt t at) (faultFrom t at) (firstAt t at)
 unfolding firstAnswer
 step-here t at h = inside t at (λ z. omega arith) (omega arith) ∙ rw (here t at h)
 
@@ -112,18 +128,40 @@ module _ (t : List ℕ) (at : ℕ) {end : ℕ} (x : Step) (w : at ≤ length t) 
       let l : end - at ≡ suc (end - (at + 1)) = omega arith in
       rw (l, here t at (omega arith)) (ap (λ (z : List ℕ). getD t at 0 ∷ z) part)
 
-  finds : {o : Option Allele} → firstAt t at ≡ o → stepPaper x ≡ alleleAnswer end o → stepPaper x ≡ stepAnswer t at
-  finds q f = f ∙ rw (e, ← q) (sym (step-here t at (omega arith)))
+  -- the bytes lent to `read_body`
+  pub part-within : length (take (end - (at + 1)) (drop (at + 1) t)) ≤ end
+  part-within = rw part (omega arith)
 
-  pub step-bar : getD t at 0 ≡ 124 → stepPaper x ≡ alleleAnswer end (bodied true (take (end - (at + 1)) (drop (at + 1) t))) → stepPaper x ≡ stepAnswer t at
-  step-bar b f = finds (in-bar _ _ _ b) (rw part at f)
+  pub whole-within : length (take (end - at) (drop at t)) ≤ end
+  whole-within = rw whole (omega arith)
 
-  pub step-slash : getD t at 0 ≡ 47 → stepPaper x ≡ alleleAnswer end (bodied false (take (end - (at + 1)) (drop (at + 1) t))) → stepPaper x ≡ stepAnswer t at
-  step-slash b f = finds (in-slash _ _ _ b) (rw part at f)
+  finds : {o : Option Allele} {f : ℕ} → firstAt t at ≡ o → f ≡ faultFrom t at → stepPaper x ≡ alleleAnswer end f o → stepPaper x ≡ stepAnswer t at
+  finds q z f = f ∙ rw (e, ← q, z) (sym (step-here t at (omega arith)))
+
+  -- a fault is counted from the piece's start, past its mark
+  marked-fault : isMark (getD t at 0) ≡ true → end - length (headOf (drop (at + 1) t)) + faultOf (headOf (drop (at + 1) t)) ≡ faultFrom t at
+  marked-fault m = let z = piece-marked (getD t at 0) (headOf (drop (at + 1) t)) m in omega arith
+
+  pub step-bar : getD t at 0 ≡ 124
+      → stepPaper x
+      ≡ alleleAnswer end (end - length (take (end - (at + 1)) (drop (at + 1) t)) + faultOf (take (end - (at + 1)) (drop (at + 1) t))) (bodied true (take (end - (at + 1)) (drop (at + 1) t)))
+      → stepPaper x ≡ stepAnswer t at
+  step-bar b f = finds (in-bar _ _ _ b) (marked-fault (mark-bar _ b)) (rw part at f)
+
+  pub step-slash : getD t at 0 ≡ 47
+      → stepPaper x
+      ≡ alleleAnswer end (end - length (take (end - (at + 1)) (drop (at + 1) t)) + faultOf (take (end - (at + 1)) (drop (at + 1) t))) (bodied false (take (end - (at + 1)) (drop (at + 1) t)))
+      → stepPaper x ≡ stepAnswer t at
+  step-slash b f = finds (in-slash _ _ _ b) (marked-fault (mark-slash _ b)) (rw part at f)
+
+  plain-fault : isMark (getD t at 0) ≡ false
+      → end - length (getD t at 0 ∷ headOf (drop (at + 1) t)) + faultOf (getD t at 0 ∷ headOf (drop (at + 1) t)) ≡ faultFrom t at
+  plain-fault m = let z = piece-plain (getD t at 0) (headOf (drop (at + 1) t)) m in omega arith
 
   pub step-plain : {i : Bool} → (getD t at 0 ≡ 124 → ⊥) → (getD t at 0 ≡ 47 → ⊥) → i ≡ impliedBy (drop (at + 1) t)
-      → stepPaper x ≡ alleleAnswer end (bodied i (take (end - at) (drop at t))) → stepPaper x ≡ stepAnswer t at
-  step-plain b c i f = finds (in-plain _ _ _ b c) (rw (i, whole) at f)
+      → stepPaper x ≡ alleleAnswer end (end - length (take (end - at) (drop at t)) + faultOf (take (end - at) (drop at t))) (bodied i (take (end - at) (drop at t)))
+      → stepPaper x ≡ stepAnswer t at
+  step-plain b c i f = finds (in-plain _ _ _ b c) (plain-fault (mark-none _ b c)) (rw (i, whole) at f)
 
 -- ---- what an answer tells
 
@@ -135,9 +173,10 @@ pub record Further (t : List ℕ) (at : ℕ) (a : Allele) (next : ℕ) : Type 0 
   pub within : next ≤ length t
   pub parts : partsOf (drop at t) ≡ some a ∷ partsOf (drop next t)
 
--- a piece that is no allele
-pub record Wrong (t : List ℕ) (at : ℕ) : Type 0 where
+-- a piece that is no allele, and the place of its fault
+pub record Wrong (t : List ℕ) (at fault : ℕ) : Type 0 where
   pub first : firstAt t at ≡ none
+  pub there : fault ≡ at + faultAt (drop at t) 0
   pub before : at < length t
   pub others : List (Option Allele)
   pub parts : partsOf (drop at t) ≡ none ∷ others
@@ -158,7 +197,7 @@ StepTells t at (S.Found a next) = Further t at a next
 StepTells t at S.Beyond = length t < at
 StepTells t at S.Nothing = AtEnd t at
 StepTells t at S.Empty = NoText t at
-StepTells t at S.Bad = Wrong t at
+StepTells t at (S.Bad fault) = Wrong t at fault
 
 module _ (t : List ℕ) (at : ℕ) (h : at < length t) where
   pub further-at : (a : Allele) → firstAt t at ≡ some a → Further t at a (pastAt t at)
@@ -167,17 +206,24 @@ module _ (t : List ℕ) (at : ℕ) (h : at < length t) where
       let d = length-drop (at + 1) t in
       record { first = q; ends = refl; past = omega arith; within = omega arith; parts = rw q at (parts-at t at h) }
 
-  pub wrong-at : firstAt t at ≡ none → Wrong t at
-  wrong-at q = record { first = q; before = h; others = _; parts = rw q at (parts-at t at h) }
+  from-rest : faultFrom t at ≡ at + faultAt (drop at t) 0
+  from-rest = rw (fault-here t at h)
+
+  pub wrong-at : firstAt t at ≡ none → Wrong t at (at + faultAt (drop at t) 0)
+  wrong-at q = record { first = q; there = refl; before = h; others = _; parts = rw q at (parts-at t at h) }
 
 module _ {t : List ℕ} {at : ℕ} where
   pub further-says : {a : Allele} {next : ℕ} → Further t at a next → stepAnswer t at ≡ foundAnswer next a
   unfolding alleleAnswer
   further-says f = step-here t at (omega (arith, f .past, f .within)) ∙ rw (f .first, f .ends)
 
-  pub wrong-says : Wrong t at → stepAnswer t at ≡ says 12 []
+  pub wrong-says : {fault : ℕ} → Wrong t at fault → stepAnswer t at ≡ says 12 (fault ∷ [])
   unfolding alleleAnswer
-  wrong-says f = step-here t at (f .before) ∙ rw (f .first)
+  wrong-says f = step-here t at (f .before) ∙ rw (f .first, from-rest t at (f .before), ← f .there)
+
+  -- behind an allele faults are those of the rest from there on
+  pub further-fault : {a : Allele} {next : ℕ} → Further t at a next → (k : ℕ) → at + faultAt (drop at t) (k + 1) ≡ next + faultAt (drop next t) k
+  further-fault f k = rw (f .ends) (fault-past t at (omega (arith, f .past, f .within)) k)
 
 -- where parts begin with one from a place on, it is that of the place
 pub record Opens (t : List ℕ) (at : ℕ) (o : Option Allele) : Type 0 where
@@ -203,7 +249,7 @@ answered t at = placed (ltb (length t) at) refl
   where
     some-left : at < length t → (o : Option Allele) → firstAt t at ≡ o → Answered t at
     some-left h (some a) q = let f = further-at t at h a q in record { step = S.Found a (pastAt t at); is = sym (further-says f); tells = f }
-    some-left h none q = let f = wrong-at t at h q in record { step = S.Bad; is = sym (wrong-says f); tells = f }
+    some-left h none q = let f = wrong-at t at h q in record { step = S.Bad _; is = sym (wrong-says f); tells = f }
 
     ended : at ≡ length t → Dec (length t ≡ 0) → Answered t at
     ended z (yes n) = record { step = S.Empty; is = step-empty t at (omega arith) n; tells = record { none = n; start = omega arith } }
@@ -227,9 +273,9 @@ module _ (t : List ℕ) (at : ℕ) where
   unfolding stepPaper
   says-found a to e = step-means t at (S.Found a to) (sym e)
 
-  pub says-bad : stepAnswer t at ≡ says 12 [] → Wrong t at
+  pub says-bad : (fault : ℕ) → stepAnswer t at ≡ says 12 (fault ∷ []) → Wrong t at fault
   unfolding stepPaper
-  says-bad e = step-means t at S.Bad (sym e)
+  says-bad fault e = step-means t at (S.Bad fault) (sym e)
 
 -- a step that finds an allele moves on
 module _ (t : List ℕ) (at : ℕ) (x : Step) (e : stepPaper x ≡ stepAnswer t at) (a : Allele) (next : ℕ) (q : x ≡ S.Found a next) where
@@ -239,4 +285,4 @@ module _ (t : List ℕ) (at : ℕ) (x : Step) (e : stepPaper x ≡ stepAnswer t 
   pub found-less : length t - next < length t - at
   found-less = let f = found in omega arith
 
-pub ruleset laws = (seek-first, seek-bar, seek-slash, seek-turn, seek-past, body-dot, body-value, body-bad, step-beyond, step-empty, step-nothing, step-bar, step-slash, step-plain)
+pub ruleset laws = (seek-first, seek-bar, seek-slash, seek-turn, seek-past, body-dot, body-value, body-bad, body-fits, step-beyond, step-empty, step-nothing, part-within, whole-within, step-bar, step-slash, step-plain)

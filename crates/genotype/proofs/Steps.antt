@@ -9,10 +9,10 @@ use lib.ListN.{length, getD, drop}
 use Rattle.text.specs.Answer.{says}
 use Rattle.text.proofs.Lists.{here}
 use Rattle.pieces.specs.Pieces.{lacks}
-use Rattle.genotype.specs.Reading.{headOf, bodied, alleleIn, impliedBy, impliedOf, partsOf, stepAnswer}
+use Rattle.genotype.specs.Reading.{headOf, bodied, alleleIn, impliedBy, impliedOf, partsOf, faultAt, stepAnswer}
 use Rattle.genotype.specs.Paper.{stepPaper}
 use Rattle.genotype.specs.Means as M
-use Rattle.genotype.specs.Means.{Begins}
+use Rattle.genotype.specs.Means.{Begins, Broken}
 use Rattle.genotype.specs.Demands.{Stepper, Steps, OneStepper}
 use Rattle.genotype.specs.declared.allele.Allele.{Allele}
 use Rattle.genotype.specs.declared.step.Step.{Step}
@@ -82,9 +82,19 @@ module _ (t : List ℕ) (at : ℕ) (a : Allele) (n : ℕ) where
       let z : at + 1 + length (headOf (drop (at + 1) t)) ≡ at + n = omega arith in
       rw z at f
 
-none-bad : (t : List ℕ) (at : ℕ) {ps : List (Option Allele)} {k : ℕ} → NoneAt ps k → k ≡ 0 → partsOf (drop at t) ≡ ps → stepAnswer t at ≡ says 12 []
+none-bad : (t : List ℕ) (at : ℕ) {ps : List (Option Allele)} {k : ℕ} → NoneAt ps k → k ≡ 0 → partsOf (drop at t) ≡ ps
+    → stepAnswer t at ≡ says 12 ((at + faultAt (drop at t) 0) ∷ [])
 none-bad t at B.here z e = let o = parts-open t at e in wrong-says (wrong-at t at (o .before) (o .first))
 none-bad t at (B.later n) z e = absurd (omega arith)
+
+module _ (t : List ℕ) (at o : ℕ) where
+  bad-broken : stepAnswer t at ≡ says 12 ((at + o) ∷ []) → Broken (drop at t) 0 o
+  bad-broken e =
+      let f = says-bad t at (at + o) e in
+      parts-broken (drop at t) 0 o .0 (rw (f .parts) B.here, omega (arith, f .there))
+
+  broken-bad : Broken (drop at t) 0 o → stepAnswer t at ≡ says 12 ((at + o) ∷ [])
+  broken-bad g = let p = parts-broken (drop at t) 0 o .1 g in none-bad t at (p .0) refl refl ∙ rw (p .1)
 
 pub steps : Steps stepAnswer
 unfolding Steps stepPaper
@@ -94,7 +104,7 @@ steps t at =
       beyond = (λ e. step-means t at S.Beyond (sym e), λ h. sym (step-beyond t at h));
       ended = (λ e. let f = step-means t at S.Nothing (sym e) in (omega arith, f .is), λ g. sym (step-nothing t at (λ z. omega arith) (g .1)));
       empty = (λ e. let f = step-means t at S.Empty (sym e) in (f .none, f .start), λ g. sym (step-empty t at (omega (arith, g .1)) (g .0)));
-      bad = (λ e. parts-broken (drop at t) 0 .0 (rw (says-bad t at e .parts) B.here), λ g. none-bad t at (parts-broken (drop at t) 0 .1 g) refl refl);
+      bad = λ o. (bad-broken t at o, broken-bad t at o);
     }
 
 -- ---- one stepper
@@ -110,7 +120,10 @@ answers step w t at = let g = answered t at in by (g .step) (g .is) (g .tells)
     by S.Beyond e h = w t at .beyond .1 h ∙ e
     by S.Nothing e f = w t at .ended .1 (steps t at .ended .0 (sym e)) ∙ e
     by S.Empty e f = w t at .empty .1 (f .none, f .start) ∙ e
-    by S.Bad e f = w t at .bad .1 (steps t at .bad .0 (sym e)) ∙ e
+    by (S.Bad fault) e f =
+        let o : ℕ = faultAt (drop at t) 0 in
+        let z : stepAnswer t at ≡ says 12 ((at + o) ∷ []) = sym e ∙ rw (f .there) in
+        w t at .bad o .1 (bad-broken t at o z) ∙ sym z
 
 pub one-stepper : OneStepper
 unfolding OneStepper

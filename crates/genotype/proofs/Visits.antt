@@ -1,23 +1,24 @@
 -- The steps from a place on are the parts of the text from there on, one by one; so from its start they visit the list that it
 -- means, or break where it is broken. Assumes nothing.
-use Prim.Native.Nat.{ℕ, _≤_, zero-le}
+use Prim.Native.Nat.{ℕ, _+_, _≤_, zero-le}
 use mathlib.Core.Path.{_≡_, refl, sym, ap, _∙_}
 use mathlib.Core.Bool.{Bool, true, false}
 use mathlib.Core.List.{List, [], _∷_, map}
 use mathlib.Core.Option.{Option, some}
 use native.Mathlib.Omega.{arith}
+use native.Mathlib.Nat.{zero-add}
 use lib.ListN.{length, drop}
 use lib.Dec.{ltb}
 use borrow.Author.Tests.{ltb-true, ltb-false}
 use Rattle.text.specs.Answer.{numberOf}
-use Rattle.genotype.specs.Reading.{readingOf, list, partsOf, stepAnswer}
+use Rattle.genotype.specs.Reading.{readingOf, list, partsOf, faultAt, stepAnswer}
 use Rattle.genotype.specs.Paper.{stepPaper}
-use Rattle.genotype.specs.Means.{Means}
+use Rattle.genotype.specs.Means.{Means, Broken}
 use Rattle.genotype.specs.Demands.{Walk, end, next, Breaks, stop, past, Visits}
 use Rattle.genotype.specs.declared.allele.Allele.{Allele}
 use Rattle.genotype.specs.declared.step.Step.the-variants as S
 use Rattle.genotype.proofs.PieceLaws.{parts-at, parts-end}
-use Rattle.genotype.proofs.StepLaws.{step-empty, step-nothing, further-at, further-says, wrong-at, wrong-says, parts-open, step-means, says-found, says-bad}
+use Rattle.genotype.proofs.StepLaws.{step-empty, step-nothing, further-at, further-says, further-fault, wrong-at, wrong-says, parts-open, step-means, says-found, says-bad}
 use Rattle.genotype.proofs.JudgeLaws.{reading-some, reading-none}
 use Rattle.genotype.proofs.MeansLaws.{some-gathered, gathered-some, reads-means}
 use Rattle.genotype.proofs.BrokenLaws.{NoneAt, here, later, parts-broken}
@@ -59,16 +60,31 @@ means-walk (b ∷ s) as′ e =
 
 -- ---- a break
 
-breaks-none : {t : List ℕ} {at k : ℕ} → Breaks stepAnswer t at k → NoneAt (partsOf (drop at t)) k
-breaks-none {t} {at} (stop e) = rw (says-bad t at e .parts) here
-breaks-none {t} {at} (past {to = to} a e h w) = rw (says-found t at a to e .parts) (later (breaks-none w))
+breaks-none : {t : List ℕ} {o at k : ℕ} → Breaks stepAnswer t o at k → NoneAt (partsOf (drop at t)) k
+breaks-none {t} {o} {at} (stop e) = rw (says-bad t at o e .parts) here
+breaks-none {t} {o} {at} (past {to = to} a e h w) = rw (says-found t at a to e .parts) (later (breaks-none w))
 
-none-breaks : (t : List ℕ) {ps : List (Option Allele)} {k : ℕ} → NoneAt ps k → (at : ℕ) → partsOf (drop at t) ≡ ps → Breaks stepAnswer t at k
+-- the fault that it ends with, counted from the text's start
+breaks-fault : {t : List ℕ} {o at k : ℕ} → Breaks stepAnswer t o at k → o ≡ at + faultAt (drop at t) k
+breaks-fault {t} {o} {at} (stop e) = says-bad t at o e .there
+breaks-fault {t} {o} {at} (past {to = to} {k} a e h w) = breaks-fault w ∙ sym (further-fault (says-found t at a to e) k)
+
+none-breaks : (t : List ℕ) {ps : List (Option Allele)} {k : ℕ} → NoneAt ps k → (at : ℕ) → partsOf (drop at t) ≡ ps
+    → Breaks stepAnswer t (at + faultAt (drop at t) k) at k
 none-breaks t here at e = let o = parts-open t at e in stop (wrong-says (wrong-at t at (o .before) (o .first)))
-none-breaks t (later {a} n) at e =
+none-breaks t (later {a} {k = k} n) at e =
     let o = parts-open t at e in
     let f = further-at t at (o .before) a (o .first) in
-    past a (further-says f) (f .past) (none-breaks t n _ (let q = sym (f .parts) ∙ e in cc))
+    rw (further-fault f k) (past a (further-says f) (f .past) (none-breaks t n _ (let q = sym (f .parts) ∙ e in cc)))
+
+broken-breaks : (t : List ℕ) (k o : ℕ) → Broken t k o → Breaks stepAnswer t o 0 k
+broken-breaks t k o g =
+    let p = parts-broken t k o .1 g in
+    let z : 0 + faultAt t k ≡ o = zero-add (faultAt t k) ∙ p .1 in
+    rw z at (none-breaks t (p .0) 0 refl)
+
+breaks-broken : (t : List ℕ) (k o : ℕ) → Breaks stepAnswer t o 0 k → Broken t k o
+breaks-broken t k o w = parts-broken t k o .0 (breaks-none w, sym (breaks-fault w ∙ zero-add (faultAt t k)))
 
 -- ---- from the start
 
@@ -77,6 +93,6 @@ unfolding stepPaper
 visits =
     record {
       means = λ t as′. (λ m. means-walk t as′ (reads-means t as′ .1 m), walk-means t as′);
-      broken = λ t k. (λ g. none-breaks t (parts-broken t k .1 g) 0 refl, λ w. parts-broken t k .0 (breaks-none w));
+      broken = λ t k o. (broken-breaks t k o, breaks-broken t k o);
       empty = sym (step-empty [] 0 zero-le refl);
     }

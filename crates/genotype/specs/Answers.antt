@@ -11,7 +11,7 @@ use Rattle.text.specs.Answer.{Answer, says}
 use Rattle.text.specs.Over.{laid, roomFor}
 use Rattle.text.specs.First.{firstWhere}
 use Rattle.lists.specs.AlternateBases.{altCount}
-use Rattle.genotype.specs.Reading.{Reading, list, bad, empty, readingOf, listOf}
+use Rattle.genotype.specs.Reading.{Reading, list, bad, empty, readingOf, listOf, faultAt}
 use Rattle.genotype.specs.Row.{numbersOf, missingOf, phasedOf}
 use Rattle.genotype.specs.Paper.{readPaper}
 use Rattle.genotype.specs.declared.allele.Allele.{Allele}
@@ -19,11 +19,12 @@ use Rattle.genotype.specs.declared.read.Read.{Read}
 
 -- ---- judged whole, and room last
 
--- so many alleles where the row holds them, else 17; 12 with the index of the first piece that is none; or 11
-unfoldable pub readAnswer : Reading → ℕ → Answer
-readAnswer (list as′) room = roomFor (length as′) room
-readAnswer (bad k) room = says 12 (k ∷ [])
-readAnswer empty room = says 11 []
+-- what the reading of t answers: so many alleles where the row holds them, else 17; 12 with the index of the first piece that is
+-- none and the place of the byte at fault; or 11
+unfoldable pub readAnswer : List ℕ → Reading → ℕ → Answer
+readAnswer t (list as′) room = roomFor (length as′) room
+readAnswer t (bad k) room = says 12 (k ∷ faultAt t k ∷ [])
+readAnswer t empty room = says 11 []
 
 -- ---- checked against ALT
 
@@ -36,18 +37,18 @@ unfoldable pub aboveAnswer : Option ℕ → Answer → Answer
 aboveAnswer (some k) a = says 20 (k ∷ [])
 aboveAnswer none a = a
 
-unfoldable pub checkedAnswer : ℕ → Reading → ℕ → Answer
+unfoldable pub checkedAnswer : ℕ → List ℕ → Reading → ℕ → Answer
 unfolding readAnswer
-checkedAnswer count r room = aboveAnswer (firstAbove count 0 (listOf r)) (readAnswer r room)
+checkedAnswer count t r room = aboveAnswer (firstAbove count 0 (listOf r)) (readAnswer t r room)
 
 -- ---- of a text
 
 abbrev pub textAnswer : List ℕ → ℕ → Answer
-textAnswer t room = readAnswer (readingOf t) room
+textAnswer t room = readAnswer t (readingOf t) room
 
 -- and with no allele above what an ALT column counts
 abbrev pub checkedText : List ℕ → List ℕ → ℕ → Answer
-checkedText t alt room = checkedAnswer (altCount alt) (readingOf t) room
+checkedText t alt room = checkedAnswer (altCount alt) t (readingOf t) room
 
 -- ---- the row
 

@@ -21,9 +21,10 @@ use Rattle.genotype.specs.declared.read.Read.{Read}
 abbrev pub ReadsMeans : (List ℕ → Reading) → Type 0
 ReadsMeans reading = (t : List ℕ) (as′ : List Allele) → (reading t ≡ list as′) ↔ Means t as′
 
--- and as bad at k exactly when the piece with index k is the first that is no allele
-abbrev pub ReadsBroken : (List ℕ → Reading) → Type 0
-ReadsBroken reading = (t : List ℕ) (k : ℕ) → (reading t ≡ bad k) ↔ Broken t k
+-- and as bad at k, with its fault at o, exactly when the piece with index k is the first that is no allele, and o is the place of
+-- its fault
+abbrev pub ReadsBroken : (List ℕ → Reading) → (List ℕ → ℕ → ℕ) → Type 0
+ReadsBroken reading fault = (t : List ℕ) (k o : ℕ) → ((reading t ≡ bad k) × (fault t k ≡ o)) ↔ Broken t k o
 
 -- it means one list at most
 abbrev pub MeansOne : Type 0
@@ -31,8 +32,8 @@ MeansOne = (t : List ℕ) (as′ bs : List Allele) → Means t as′ → Means t
 
 -- a text that is not empty means a list, or has a first piece that is no allele, and never both
 pub record MeansOrBroken : Type 0 where
-  pub either : (t : List ℕ) → (t ≡ [] → ⊥) → ((as′ : List Allele) → Means t as′ → ⊥) → ((k : ℕ) → Broken t k → ⊥) → ⊥
-  pub never-both : (t : List ℕ) (as′ : List Allele) (k : ℕ) → Means t as′ → Broken t k → ⊥
+  pub either : (t : List ℕ) → (t ≡ [] → ⊥) → ((as′ : List Allele) → Means t as′ → ⊥) → ((k o : ℕ) → Broken t k o → ⊥) → ⊥
+  pub never-both : (t : List ℕ) (as′ : List Allele) (k o : ℕ) → Means t as′ → Broken t k o → ⊥
 
 -- ---- readers
 
@@ -78,10 +79,11 @@ pub record Longer (t : List ℕ) (row : List Allele) : Type 0 where
   pub means : Means t list
   pub longer : length row < length list
 
--- 11 exactly for the empty text; 12, with its index, exactly for the first piece that is no allele; 17 exactly for too long a list
+-- 11 exactly for the empty text; 12, with its index and the place of its fault, exactly for the first piece that is no allele; 17
+-- exactly for too long a list
 pub record RefusedAt (t : List ℕ) (row : List Allele) (a : Answer) : Type 0 where
   pub empty : (a ≡ says 11 []) ↔ (t ≡ [])
-  pub broken : (k : ℕ) → (a ≡ says 12 (k ∷ [])) ↔ Broken t k
+  pub broken : (k o : ℕ) → (a ≡ says 12 (k ∷ o ∷ [])) ↔ Broken t k o
   pub short : (a ≡ says 17 []) ↔ Longer t row
 
 unfoldable pub Refusals : Reader → Type 0
@@ -107,25 +109,25 @@ pub data Walk (step : Stepper) (t : List ℕ) : ℕ → List Allele → Type 0 w
   end : {at : ℕ} → step t at ≡ says 10 [] → Walk step t at []
   next : {at to : ℕ} {a : Allele} {as′ : List Allele} → step t at ≡ foundAnswer to a → at < to → Walk step t to as′ → Walk step t at (a ∷ as′)
 
--- k steps from a place on give an allele, and then comes 12
-pub data Breaks (step : Stepper) (t : List ℕ) : ℕ → ℕ → Type 0 where
-  stop : {at : ℕ} → step t at ≡ says 12 [] → Breaks step t at 0
-  past : {at to k : ℕ} (a : Allele) → step t at ≡ foundAnswer to a → at < to → Breaks step t to k → Breaks step t at (k + 1)
+-- k steps from a place on give an allele, and then comes 12, with the place o
+pub data Breaks (step : Stepper) (t : List ℕ) (o : ℕ) : ℕ → ℕ → Type 0 where
+  stop : {at : ℕ} → step t at ≡ says 12 (o ∷ []) → Breaks step t o at 0
+  past : {at to k : ℕ} (a : Allele) → step t at ≡ foundAnswer to a → at < to → Breaks step t o to k → Breaks step t o at (k + 1)
 
 -- from place 0 the steps give the alleles of the list that the text means, each once and in order, and then 10; a text that means
--- none is refused at its first piece that is no allele, and the empty text at once
+-- none is refused at its first piece that is no allele, with the place of its fault, and the empty text at once
 pub record Visits (step : Stepper) : Type 0 where
   pub means : (t : List ℕ) (as′ : List Allele) → Means t as′ ↔ Walk step t 0 as′
-  pub broken : (t : List ℕ) (k : ℕ) → Broken t k ↔ Breaks step t 0 k
+  pub broken : (t : List ℕ) (k o : ℕ) → Broken t k o ↔ Breaks step t o 0 k
   pub empty : step [] 0 ≡ says 11 []
 
--- what each number says of the text from the place on
+-- what each number says of the text from the place on; the place of a fault is counted from the text's start
 pub record StepsAt (t : List ℕ) (at : ℕ) (s : Answer) : Type 0 where
   pub found : (a : Allele) (n : ℕ) → (s ≡ foundAnswer (at + n) a) ↔ Begins (drop at t) a n
   pub beyond : (s ≡ says 6 []) ↔ (length t < at)
   pub ended : (s ≡ says 10 []) ↔ ((0 < length t) × (at ≡ length t))
   pub empty : (s ≡ says 11 []) ↔ ((length t ≡ 0) × (at ≡ 0))
-  pub bad : (s ≡ says 12 []) ↔ Broken (drop at t) 0
+  pub bad : (o : ℕ) → (s ≡ says 12 ((at + o) ∷ [])) ↔ Broken (drop at t) 0 o
 
 unfoldable pub Steps : Stepper → Type 0
 Steps step = (t : List ℕ) (at : ℕ) → StepsAt t at (step t at)

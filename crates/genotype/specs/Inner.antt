@@ -6,7 +6,7 @@ use mathlib.Core.Option.{Option, some, none}
 use lib.ListN.{length}
 use Rattle.text.specs.Answer.{Answer, says}
 use Rattle.text.specs.Over.{roomFor}
-use Rattle.genotype.specs.Reading.{Reading, list, bad, empty, readingOf, listOf}
+use Rattle.genotype.specs.Reading.{Reading, list, bad, empty, readingOf, listOf, faultAt}
 use Rattle.genotype.specs.declared.read.Read.{Read}
 use Rattle.genotype.specs.declared.read.Read.the-variants as R
 use Rattle.genotype.specs.declared.read.Above.{Above}
@@ -16,11 +16,12 @@ use Rattle.genotype.specs.declared.read.Above.the-variants as O
 pub record ListMeant (t : List ℕ) : Type 0 where
   pub is : readingOf t ≡ list (listOf (readingOf t))
 
--- a text judged whole, whatever the room: so many alleles, 11, or 12 with the index of the first piece that is none
-unfoldable pub wholeAnswer : Reading → Answer
-wholeAnswer (list as′) = says 0 (length as′ ∷ [])
-wholeAnswer (bad k) = says 12 (k ∷ [])
-wholeAnswer empty = says 11 []
+-- a text judged whole, whatever the room: so many alleles, 11, or 12 with the index of the first piece that is none and the place of
+-- the byte at fault
+unfoldable pub wholeAnswer : List ℕ → Reading → Answer
+wholeAnswer t (list as′) = says 0 (length as′ ∷ [])
+wholeAnswer t (bad k) = says 12 (k ∷ faultAt t k ∷ [])
+wholeAnswer t empty = says 11 []
 
 -- such an answer, with room for so many
 unfoldable pub fitAnswer : Answer → ℕ → Answer

@@ -4,7 +4,7 @@ use mathlib.Core.Path.{_≡_}
 use mathlib.Core.Bool.{Bool, true, false, _&&_}
 use mathlib.Core.List.{List, [], _∷_, _++_}
 use lib.ListN.{length}
-use Rattle.decimal.specs.Demands.{Decimal}
+use Rattle.decimal.specs.Demands.{Decimal, Readable, FaultAt}
 use Rattle.pieces.specs.Pieces.{lacks}
 use Rattle.pieces.specs.Demands.{Free}
 use Rattle.genotype.specs.declared.allele.Allele.{Allele}
@@ -48,20 +48,22 @@ pub data Begins : List ℕ → Allele → ℕ → Type 0 where
 
 -- ---- texts that mean none
 
--- what is left of a piece is no allele
-pub record Bad (t rest : List ℕ) : Type 0 where
+-- what is left of a piece is no allele, and the decimal that is read there has its first fault at o
+pub record Bad (t rest : List ℕ) (o : ℕ) : Type 0 where
   pub no-bar : Free 124 t
   pub no-slash : Free 47 t
   pub ends : Ends rest
   pub no-body : (a : Allele) → Body t a → ⊥
+  pub fault : FaultAt (Readable Decimal) t o
 
--- of pieces with their marks the one with index k is the first that is no allele
-pub data BrokenLater : List ℕ → ℕ → Type 0 where
-  bad-here : {b : ℕ} {t rest : List ℕ} (phased : Bool) → b ≡ markByte phased → Bad t rest → BrokenLater (b ∷ t ++ rest) 0
-  bad-later : {b : ℕ} {t rest : List ℕ} {a : Allele} {k : ℕ} → b ≡ markByte (a .phased) → Body t a → BrokenLater rest k → BrokenLater (b ∷ t ++ rest) (k + 1)
+-- of pieces with their marks the one with index k is the first that is no allele, and o is the place of its fault
+pub data BrokenLater : List ℕ → ℕ → ℕ → Type 0 where
+  bad-here : {b : ℕ} {t rest : List ℕ} {o : ℕ} (phased : Bool) → b ≡ markByte phased → Bad t rest o → BrokenLater (b ∷ t ++ rest) 0 (1 + o)
+  bad-later : {b : ℕ} {t rest : List ℕ} {a : Allele} {k o : ℕ} → b ≡ markByte (a .phased) → Body t a → BrokenLater rest k o
+      → BrokenLater (b ∷ t ++ rest) (k + 1) (length (b ∷ t) + o)
 
 -- and of any text: the first piece has its mark, or none
-pub data Broken : List ℕ → ℕ → Type 0 where
-  bad-marked : {t : List ℕ} {k : ℕ} → BrokenLater t k → Broken t k
-  bad-bare : {t rest : List ℕ} → 0 < length t → Bad t rest → Broken (t ++ rest) 0
-  bad-after : {t rest : List ℕ} {a : Allele} {k : ℕ} → Body t a → BrokenLater rest k → Broken (t ++ rest) (k + 1)
+pub data Broken : List ℕ → ℕ → ℕ → Type 0 where
+  bad-marked : {t : List ℕ} {k o : ℕ} → BrokenLater t k o → Broken t k o
+  bad-bare : {t rest : List ℕ} {o : ℕ} → 0 < length t → Bad t rest o → Broken (t ++ rest) 0 o
+  bad-after : {t rest : List ℕ} {a : Allele} {k o : ℕ} → Body t a → BrokenLater rest k o → Broken (t ++ rest) (k + 1) (length t + o)

@@ -12,12 +12,12 @@ stepPaper (S.Found a next) = foundAnswer next a
 stepPaper S.Beyond = says 6 []
 stepPaper S.Nothing = says 10 []
 stepPaper S.Empty = says 11 []
-stepPaper S.Bad = says 12 []
+stepPaper (S.Bad fault) = says 12 (fault ∷ [])
 
 unfoldable pub readPaper : Read → Answer
 readPaper (R.Done n) = says 0 (n ∷ [])
 readPaper R.Empty = says 11 []
-readPaper (R.Bad k) = says 12 (k ∷ [])
+readPaper (R.Bad k fault) = says 12 (k ∷ fault ∷ [])
 readPaper R.Lengths = says 16 []
 readPaper R.Short = says 17 []
 readPaper (R.Above k) = says 20 (k ∷ [])

@@ -1,5 +1,5 @@
--- What a genotype text reads as (docs/RULES.md, "Genotypes"): cut it, read each piece. Assumes nothing.
-use Prim.Native.Nat.{ℕ, _+_}
+-- What a genotype text reads as, and which of its bytes is at fault (docs/RULES.md, "Genotypes"): cut it, read each piece. Assumes nothing.
+use Prim.Native.Nat.{ℕ, zero, suc, _+_}
 use mathlib.Core.Bool.{Bool, true, false, _||_}
 use mathlib.Core.List.{List, [], _∷_, map}
 use mathlib.Core.Option.{Option, some, none}
@@ -10,7 +10,7 @@ use Rattle.text.specs.Answer.{Answer, says}
 use Rattle.text.specs.Same.{same}
 use Rattle.text.specs.Place.{placed}
 use Rattle.pieces.specs.Before.{beforeEither}
-use Rattle.decimal.specs.Decimal.{valueOf}
+use Rattle.decimal.specs.Decimal.{valueOf, faultOf}
 use Rattle.pieces.specs.Pieces.{lacks}
 use Rattle.genotype.specs.declared.allele.Allele.{Allele}
 
@@ -89,16 +89,32 @@ listOf (list as′) = as′
 listOf (bad k) = []
 listOf empty = []
 
+-- ---- the byte at fault
+
+-- a piece that is no allele is read as a decimal, past its mark: where that has its fault
+unfoldable pub pieceFault : List ℕ → ℕ
+pieceFault [] = 0
+pieceFault (b ∷ s) = pick (isMark b) (1 + faultOf s) (faultOf (b ∷ s))
+
+-- the same of the piece with index k, past all bytes of those before it
+unfoldable pub faultIn : ℕ → List (List ℕ) → ℕ
+faultIn k [] = 0
+faultIn zero (p ∷ ps) = pieceFault p
+faultIn (suc k) (p ∷ ps) = length p + faultIn k ps
+
+unfoldable pub faultAt : List ℕ → ℕ → ℕ
+faultAt t k = faultIn k (piecesOf t)
+
 -- ---- one step
 
 -- the next place, and the allele
 abbrev pub foundAnswer : ℕ → Allele → Answer
 foundAnswer next a = says 0 (next ∷ a .number ∷ oneIf (a .missing) ∷ oneIf (a .phased) ∷ [])
 
--- or 12
-unfoldable pub alleleAnswer : ℕ → Option Allele → Answer
-alleleAnswer next (some a) = foundAnswer next a
-alleleAnswer next none = says 12 []
+-- or 12, and the place of the byte at fault
+unfoldable pub alleleAnswer : ℕ → ℕ → Option Allele → Answer
+alleleAnswer next fault (some a) = foundAnswer next a
+alleleAnswer next fault none = says 12 (fault ∷ [])
 
 -- the first allele of a text, and the place past it where the text stands at the place `at`
 abbrev pub firstOf : List ℕ → Option Allele
@@ -112,7 +128,7 @@ pastFirst at (b ∷ s) = at + 1 + length (headOf s)
 unfoldable pub firstAnswer : ℕ → List ℕ → Answer
 unfolding alleleAnswer
 firstAnswer at [] = says 10 []
-firstAnswer at (b ∷ s) = alleleAnswer (pastFirst at (b ∷ s)) (firstOf (b ∷ s))
+firstAnswer at (b ∷ s) = alleleAnswer (pastFirst at (b ∷ s)) (at + pieceFault (b ∷ headOf s)) (firstOf (b ∷ s))
 
 -- 11 where the text is empty, 10 at the end of any other
 unfoldable pub fromAnswer : List ℕ → ℕ → Answer

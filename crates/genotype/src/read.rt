@@ -20,8 +20,8 @@ pub enum Read {
     Done(usize),
     // 11: the text is empty.
     Empty,
-    // 12: the piece with this index is no allele.
-    Bad(usize),
+    // 12: the piece with this index is no allele. Then the place, in the text, of the byte at fault.
+    Bad(usize, usize),
     // 16: the slices' lengths differ.
     Lengths,
     // 17: the row is too short.
@@ -32,7 +32,7 @@ pub enum Read {
 
 // Judges the whole text: how many alleles it has, 11, or 12 at the first that is none.
 fn judge_whole(text: &[u8]) -> Read
-    ensures { λ r. ⌜ readPaper r ≡ wholeAnswer (readingOf (now (text .entry))) ⌝ }
+    ensures { λ r. ⌜ readPaper r ≡ wholeAnswer (now (text .entry)) (readingOf (now (text .entry))) ⌝ }
 {
     if text.len() == 0 {
         return Read::Empty;
@@ -45,7 +45,7 @@ fn judge_whole(text: &[u8]) -> Read
                 at = next;
                 k += 1;
             }
-            Step::Bad => return Read::Bad(k),
+            Step::Bad(fault) => return Read::Bad(k, fault),
             _ => return Read::Done(k),
         }
     }

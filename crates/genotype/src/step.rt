@@ -4,8 +4,9 @@ use decimal::read::Number;
 use decimal::read::read_decimal;
 use text::same::same_bytes;
 ghost use mathlib.Core.Path.{_≡_};
-ghost use Prim.Native.Nat.{_+_, _≤_, _<_};
+ghost use Prim.Native.Nat.{_+_, _-_, _≤_, _<_};
 ghost use lib.ListN.{length, drop};
+ghost use Rattle.decimal.specs.Decimal.{faultOf};
 ghost use Rattle.genotype.specs.Reading.{headOf, impliedBy, bodied, alleleAnswer};
 ghost use Rattle.genotype.specs.Paper.{stepPaper};
 ghost use Rattle.genotype.specs.Promises.{TakesStep};
@@ -20,8 +21,8 @@ pub enum Step {
     Nothing,
     // 11: the text is empty.
     Empty,
-    // 12: what stands there is no allele.
-    Bad,
+    // 12: what stands there is no allele. The place, in the text, of the byte at fault.
+    Bad(usize),
 }
 
 // The index of the first `|` or `/` at or after `from`, or the text's length.
@@ -60,9 +61,10 @@ fn implied(text: &[u8], from: usize) -> bool
     true
 }
 
-// A piece without its mark: `.` or a decimal.
+// A piece without its mark, which ends at the place `next`: `.` or a decimal. Where it starts is reckoned only for a fault.
 fn read_body(body: &[u8], phased: bool, next: usize) -> Step
-    ensures { λ r. ⌜ stepPaper r ≡ alleleAnswer next (bodied phased (now (body .entry))) ⌝ }
+    requires { ⌜ length (now body) ≤ next ⌝ }
+    ensures { λ r. ⌜ stepPaper r ≡ alleleAnswer next (next - length (now (body .entry)) + faultOf (now (body .entry))) (bodied phased (now (body .entry))) ⌝ }
 {
     if same_bytes(body, b".") {
         return Step::Found(
@@ -83,7 +85,7 @@ fn read_body(body: &[u8], phased: bool, next: usize) -> Step
             },
             next,
         ),
-        Number::Bad => Step::Bad,
+        Number::Bad(fault) => Step::Bad(next - body.len() + fault),
     }
 }
 

@@ -1,4 +1,4 @@
--- Each way out is the rule for the value that `read_decimal` ensures; a text of one byte that is worth 0 is `0`. Assumes nothing.
+-- Each way out is the rule for the value, or the fault, that `read_decimal` ensures; a text of one byte that is worth 0 is `0`. Assumes nothing.
 use borrow.Author.Needs.{needs}
 use Rattle.fields.proofs.PosLaws.{laws}
 use Rattle.fields.proofs.pos.read_pos.Statement.{statement}
@@ -7,17 +7,17 @@ use Rattle.fields.proofs.pos.read_pos.Tie as tie
 read-decimal-requires : tie.Need-read-decimal-requires
 read-decimal-requires c κs = search (needs, laws)
 
-enum-known-read : tie.Need-enum-known-read
-enum-known-read c = search (needs, laws)
-
-enum-told : tie.Need-enum-told
-enum-told c = search (needs, laws)
+enum-known-n : tie.Need-enum-known-n
+enum-known-n c = search (needs, laws)
 
 returns : tie.Need-returns
 returns c = search (needs, laws)
 
 returns-2 : tie.Need-returns-2
 returns-2 c = search (needs, laws)
+
+enum-known-fault : tie.Need-enum-known-fault
+enum-known-fault c = search (needs, laws)
 
 returns-3 : tie.Need-returns-3
 returns-3 c = search (needs, laws)
@@ -30,9 +30,9 @@ read-pos-spec =
     tie.close
     (tie.spec
     read-decimal-requires
-    enum-known-read
-    enum-told
+    enum-known-n
     returns
     returns-2
+    enum-known-fault
     returns-3
     returns-4)

@@ -33,8 +33,8 @@ loop-less c = search (needs, laws)
 loop-again : tie.Need-loop-again Inv-loop μ-loop
 loop-again c = search (needs, laws)
 
-enum-told : tie.Need-enum-told Inv-loop μ-loop
-enum-told c = search (needs, laws)
+enum-known-fault : tie.Need-enum-known-fault Inv-loop μ-loop
+enum-known-fault c = search (needs, laws)
 
 returns-2 : tie.Need-returns-2 Inv-loop μ-loop
 returns-2 c = search (needs, laws)
@@ -55,6 +55,6 @@ judge-whole-spec =
     add-k
     loop-less
     loop-again
-    enum-told
+    enum-known-fault
     returns-2
     returns-3)

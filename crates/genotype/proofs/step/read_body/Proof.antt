@@ -19,8 +19,14 @@ read-decimal-requires c κs = search (needs, laws)
 enum-known-number : tie.Need-enum-known-number
 enum-known-number c = search (needs, laws)
 
-enum-told : tie.Need-enum-told
-enum-told c = search (needs, laws)
+enum-known-fault : tie.Need-enum-known-fault
+enum-known-fault c = search (needs, laws)
+
+sub-t15 : tie.Need-sub-t15
+sub-t15 c = search (needs, laws)
+
+add-t16 : tie.Need-add-t16
+add-t16 c = search (needs, laws)
 
 returns-2 : tie.Need-returns-2
 returns-2 c = search (needs, laws)
@@ -37,6 +43,8 @@ read-body-spec =
     returns
     read-decimal-requires
     enum-known-number
-    enum-told
+    enum-known-fault
+    sub-t15
+    add-t16
     returns-2
     returns-3)
