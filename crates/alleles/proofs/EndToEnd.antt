@@ -17,4 +17,5 @@ reads-back as′ major minor out at k w out′ g done row r row′ fits h =
     let s = alleles-writer as′ major minor out at w out′ g in
     let m = round-trip major minor as′ out at k (g .small) (sym (s .0) ∙ done) in
     let e : readingOf (take k (drop at out′)) ≡ list as′ = reads-means _ _ .1 (rw (s .1) m) in
-    (rw (e, answer-list (length row) as′ fits) at (h .answer), rw (e, answer-list (length row) as′ fits) at (h .records))
+    let l = answer-list (take k (drop at out′)) (length row) as′ fits in
+    (rw (e, l) at (h .answer), rw (e, l) at (h .records))

@@ -88,7 +88,7 @@ module _ (t : List ℕ) (row : List Allele) where
   row-laid : (x : Read) → ((count : ℕ) → x ≡ R.Done count → Fits (readingOf t) (length row) count) → filledRow t x row ≡ laid (readPaper x) (listOf (readingOf t)) row
   row-laid (R.Done count) f = row-laid-done count (f count refl)
   row-laid R.Empty f = row-other R.Empty (hit others 1 tt)
-  row-laid (R.Bad k) f = row-other (R.Bad k) (hit others 2 tt)
+  row-laid (R.Bad k o) f = row-other (R.Bad k o) (hit others 2 tt)
   row-laid R.Lengths f = row-other R.Lengths (hit others 3 tt)
   row-laid R.Short f = row-other R.Short (hit others 4 tt)
   row-laid (R.Above k) f = row-other (R.Above k) (hit others 5 tt)

@@ -35,7 +35,7 @@ module _ (t : List ℕ) (at : ℕ) where
   first-none S.Beyond e h = let f = step-means t at S.Beyond e in rw (drop-of-length-le t {i = at} (omega arith))
   first-none S.Nothing e h = let f = step-means t at S.Nothing e in rw (drop-of-length-le t {i = at} (omega arith))
   first-none S.Empty e h = let f = step-means t at S.Empty e in rw (drop-of-length-le t {i = at} (omega arith))
-  first-none S.Bad e h = let f = step-means t at S.Bad e in rw (here t at (f .before)) (f .first)
+  first-none (S.Bad fault) e h = let f = step-means t at (S.Bad fault) e in rw (here t at (f .before)) (f .first)
 
 -- ---- the turns
 
@@ -48,7 +48,7 @@ pub other-lays : (x : Read) (n i : ℕ) → OneOf (1 ∷ 2 ∷ 3 ∷ 4 ∷ 5 ∷
 unfolding lays
 other-lays (R.Done count) n i h = absurd (miss (1 ∷ 2 ∷ 3 ∷ 4 ∷ 5 ∷ []) 0 tt h)
 other-lays R.Empty n i h = refl
-other-lays (R.Bad k) n i h = refl
+other-lays (R.Bad k fault) n i h = refl
 other-lays R.Lengths n i h = refl
 other-lays R.Short n i h = refl
 other-lays (R.Above k) n i h = refl

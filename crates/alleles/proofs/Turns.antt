@@ -24,7 +24,7 @@ lays-room : (x : Read) (n i : ℕ) → lays x n i ≡ true → i < n
 unfolding lays
 lays-room (R.Done count) n i e = ltb-true i n (both (ltb i count) (ltb i n) e)
 lays-room R.Empty n i e = absurd (false≢true e)
-lays-room (R.Bad k) n i e = absurd (false≢true e)
+lays-room (R.Bad k fault) n i e = absurd (false≢true e)
 lays-room R.Lengths n i e = absurd (false≢true e)
 lays-room R.Short n i e = absurd (false≢true e)
 lays-room (R.Above k) n i e = absurd (false≢true e)

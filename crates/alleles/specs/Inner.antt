@@ -29,7 +29,7 @@ laidTurn (some a) next = record { done = false; allele = a; next = next }
 unfoldable pub lays : Read → ℕ → ℕ → Bool
 lays (R.Done count) n i = ltb i count && ltb i n
 lays R.Empty n i = false
-lays (R.Bad k) n i = false
+lays (R.Bad k fault) n i = false
 lays R.Lengths n i = false
 lays R.Short n i = false
 lays (R.Above k) n i = false

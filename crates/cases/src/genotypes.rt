@@ -13,6 +13,7 @@ use crate::parts::front;
 use crate::parts::front_numbers;
 use crate::parts::part;
 use crate::words::Decoded;
+use crate::words::Numeral;
 use crate::words::Pairs;
 use crate::words::Placed;
 use crate::words::Text;
@@ -22,7 +23,6 @@ use crate::words::decode_two;
 use crate::words::index_in;
 use crate::words::number;
 use crate::words::word;
-use decimal::read::Number;
 use genotype::allele::Allele;
 use genotype::read::Read;
 use genotype::read::read_checked;
@@ -63,7 +63,7 @@ fn takes(verb: usize) -> usize {
 }
 
 fn answer_read(case: &[u8], text: &mut Text, out: &mut Buffer, at: Place) -> Answer {
-    let Number::Value(n) = number(case, 1, ROW) else {
+    let Numeral::Of(n) = number(case, 1, ROW) else {
         return Answer::NoCase;
     };
     let Decoded::Upto(end) = decode(case, 2, text, 0) else {
@@ -100,7 +100,7 @@ fn put_read(
 }
 
 fn answer_readalt(case: &[u8], text: &mut Text, out: &mut Buffer, at: Place) -> Answer {
-    let Number::Value(n) = number(case, 1, ROW) else {
+    let Numeral::Of(n) = number(case, 1, ROW) else {
         return Answer::NoCase;
     };
     let Pairs::Upto(middle, end) = decode_two(case, 2, text) else {
@@ -143,7 +143,7 @@ pub fn said(read: Read) -> Said {
     match read {
         Read::Done(n) => Said::With(0, n as u64),
         Read::Empty => Said::Alone(11),
-        Read::Bad(k) => Said::With(12, k as u64),
+        Read::Bad(k, fault) => Said::WithTwo(12, k as u64, fault as u64),
         Read::Lengths => Said::Alone(16),
         Read::Short => Said::Alone(17),
         Read::Above(k) => Said::With(20, k as u64),
@@ -187,13 +187,13 @@ fn as_mark(b: bool) -> u8 {
 }
 
 fn answer_unequal(case: &[u8], text: &mut Text, out: &mut Buffer, at: Place) -> Answer {
-    let Number::Value(n) = number(case, 1, ROW) else {
+    let Numeral::Of(n) = number(case, 1, ROW) else {
         return Answer::NoCase;
     };
-    let Number::Value(m) = number(case, 2, ROW) else {
+    let Numeral::Of(m) = number(case, 2, ROW) else {
         return Answer::NoCase;
     };
-    let Number::Value(p) = number(case, 3, ROW) else {
+    let Numeral::Of(p) = number(case, 3, ROW) else {
         return Answer::NoCase;
     };
     let Decoded::Upto(end) = decode(case, 4, text, 0) else {
@@ -276,6 +276,6 @@ fn put_step(step: Step, out: &mut Buffer, at: Place) -> Place {
         Step::Beyond => put_number(out, at, 6),
         Step::Nothing => put_number(out, at, 10),
         Step::Empty => put_number(out, at, 11),
-        Step::Bad => put_number(out, at, 12),
+        Step::Bad(fault) => put_said(out, at, Said::With(12, fault as u64)),
     }
 }

@@ -10,6 +10,7 @@ use crate::parts::front;
 use crate::parts::part;
 use crate::words::Counted;
 use crate::words::Decoded;
+use crate::words::Numeral;
 use crate::words::ROOM;
 use crate::words::Row;
 use crate::words::Text;
@@ -18,7 +19,6 @@ use crate::words::index_in;
 use crate::words::number;
 use crate::words::numbers;
 use crate::words::word;
-use decimal::read::Number;
 use join::columns::Joined;
 use join::columns::join;
 use lists::alternate_bases::write_alts;
@@ -68,10 +68,10 @@ fn answer_entries(
     out: &mut Buffer,
     at: Place,
 ) -> Answer {
-    let Number::Value(room) = number(case, 1, ROOM) else {
+    let Numeral::Of(room) = number(case, 1, ROOM) else {
         return Answer::NoCase;
     };
-    let Number::Value(from) = number(case, 2, u64::MAX) else {
+    let Numeral::Of(from) = number(case, 2, u64::MAX) else {
         return Answer::NoCase;
     };
     let mut space = [0xEEu8; 4096];

@@ -8,6 +8,7 @@ use crate::output::then_hex;
 use crate::parts::front;
 use crate::parts::part;
 use crate::words::Decoded;
+use crate::words::Numeral;
 use crate::words::ROOM;
 use crate::words::Text;
 use crate::words::decode;
@@ -83,15 +84,15 @@ fn decimal(s: &[u8]) -> Said {
     let read = read_decimal(s);
     match read {
         Number::Value(n) => Said::With(0, n),
-        Number::Bad => Said::Alone(12),
+        Number::Bad(fault) => Said::With(12, fault as u64),
     }
 }
 
 fn answer_print(case: &[u8], out: &mut Buffer, at: Place) -> Answer {
-    let Number::Value(room) = number(case, 1, ROOM) else {
+    let Numeral::Of(room) = number(case, 1, ROOM) else {
         return Answer::NoCase;
     };
-    let Number::Value(n) = number(case, 2, u64::MAX) else {
+    let Numeral::Of(n) = number(case, 2, u64::MAX) else {
         return Answer::NoCase;
     };
     let mut space = [0xEEu8; 4096];

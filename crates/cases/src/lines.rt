@@ -9,6 +9,7 @@ use crate::output::then_bytes;
 use crate::output::then_range;
 use crate::parts::part;
 use crate::words::Decoded;
+use crate::words::Numeral;
 use crate::words::Placed;
 use crate::words::Text;
 use crate::words::decode;
@@ -16,7 +17,6 @@ use crate::words::decode_and_number;
 use crate::words::index_in;
 use crate::words::number;
 use crate::words::word;
-use decimal::read::Number;
 use fields::field;
 use fields::field::field;
 use fields::field::place_in;
@@ -73,7 +73,7 @@ fn pos(s: &[u8], out: &mut Buffer, at: Place) -> Place {
             let next = put_number(out, at, 0);
             then_bytes(out, next, b"none")
         }
-        Position::Bad => put_number(out, at, 21),
+        Position::Bad(fault) => put_said(out, at, Said::With(21, fault as u64)),
     }
 }
 
@@ -171,7 +171,7 @@ fn answer_place(case: &[u8], text: &mut Text, out: &mut Buffer, at: Place) -> An
     let Placed::At(end, start) = decode_and_number(case, 1, text) else {
         return Answer::NoCase;
     };
-    let Number::Value(len) = number(case, 3, u64::MAX) else {
+    let Numeral::Of(len) = number(case, 3, u64::MAX) else {
         return Answer::NoCase;
     };
     Answer::Given(place(part(text, 0, end), start, len as usize, out, at))

@@ -114,10 +114,11 @@ pub fn then_hex(out: &mut Buffer, at: Place, s: &[u8]) -> Place {
     put_hex(out, next, s)
 }
 
-// An answer's number, alone or with the value that comes with it.
+// An answer's number, alone or with the value or the two values that come with it.
 pub enum Said {
     Alone(u64),
     With(u64, u64),
+    WithTwo(u64, u64, u64),
 }
 
 pub fn put_said(out: &mut Buffer, at: Place, said: Said) -> Place {
@@ -126,6 +127,11 @@ pub fn put_said(out: &mut Buffer, at: Place, said: Said) -> Place {
         Said::With(n, value) => {
             let next = put_number(out, at, n);
             then_number(out, next, value)
+        }
+        Said::WithTwo(n, first, second) => {
+            let next = put_number(out, at, n);
+            let next = then_number(out, next, first);
+            then_number(out, next, second)
         }
     }
 }

@@ -18,6 +18,7 @@ use crate::spellings::Room;
 use crate::spellings::allele_of;
 use crate::spellings::terms;
 use crate::words::Decoded;
+use crate::words::Numeral;
 use crate::words::Pairs;
 use crate::words::Text;
 use crate::words::decode;
@@ -29,7 +30,6 @@ use alleles::own_read::Filled;
 use alleles::own_read::read_own;
 use alleles::own_read::read_own_checked;
 use alleles::own_write::write_own;
-use decimal::read::Number;
 use genotype::allele::Allele;
 use text::same::same_bytes;
 
@@ -78,7 +78,7 @@ fn answer_alleles(
     if arguments != 2 {
         return Answer::NoCase;
     }
-    let Number::Value(n) = number(case, 1, ROW) else {
+    let Numeral::Of(n) = number(case, 1, ROW) else {
         return Answer::NoCase;
     };
     let Decoded::Upto(end) = decode(case, 2, text, 0) else {
@@ -101,7 +101,7 @@ fn answer_allelesalt(
     if arguments != 3 {
         return Answer::NoCase;
     }
-    let Number::Value(n) = number(case, 1, ROW) else {
+    let Numeral::Of(n) = number(case, 1, ROW) else {
         return Answer::NoCase;
     };
     let Pairs::Upto(middle, end) = decode_two(case, 2, text) else {

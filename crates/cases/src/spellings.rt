@@ -10,13 +10,13 @@ use crate::parts::first_numbers;
 use crate::parts::front;
 use crate::parts::part;
 use crate::words::Counted;
+use crate::words::Numeral;
 use crate::words::ROOM;
 use crate::words::between;
 use crate::words::index_in;
 use crate::words::number;
 use crate::words::number_of;
 use crate::words::word;
-use decimal::read::Number;
 use pieces::count::count_byte;
 use spelling::write::Write;
 use spelling::write::write_genotype;
@@ -36,16 +36,16 @@ fn answer_unequal(case: &[u8], arguments: usize, out: &mut Buffer, at: Place) ->
     if arguments != 4 {
         return Answer::NoCase;
     }
-    let Number::Value(n) = number(case, 1, ROW) else {
+    let Numeral::Of(n) = number(case, 1, ROW) else {
         return Answer::NoCase;
     };
-    let Number::Value(m) = number(case, 2, ROW) else {
+    let Numeral::Of(m) = number(case, 2, ROW) else {
         return Answer::NoCase;
     };
-    let Number::Value(p) = number(case, 3, ROW) else {
+    let Numeral::Of(p) = number(case, 3, ROW) else {
         return Answer::NoCase;
     };
-    let Number::Value(room) = number(case, 4, ROOM) else {
+    let Numeral::Of(room) = number(case, 4, ROOM) else {
         return Answer::NoCase;
     };
     let numbers = [0u64; 64];
@@ -134,16 +134,16 @@ pub enum Asked {
 }
 
 pub fn terms(case: &[u8]) -> Asked {
-    let Number::Value(major) = number(case, 1, VERSION) else {
+    let Numeral::Of(major) = number(case, 1, VERSION) else {
         return Asked::Bad;
     };
-    let Number::Value(minor) = number(case, 2, VERSION) else {
+    let Numeral::Of(minor) = number(case, 2, VERSION) else {
         return Asked::Bad;
     };
-    let Number::Value(size) = number(case, 3, ROOM) else {
+    let Numeral::Of(size) = number(case, 3, ROOM) else {
         return Asked::Bad;
     };
-    let Number::Value(from) = number(case, 4, u64::MAX) else {
+    let Numeral::Of(from) = number(case, 4, u64::MAX) else {
         return Asked::Bad;
     };
     Asked::For(
@@ -234,13 +234,13 @@ pub fn allele_of(s: &[u8], most: u64) -> Listed {
     if count_byte(s, b':') != 2 {
         return Listed::Bad;
     }
-    let Number::Value(n) = number_of(between(s, b':', 0), u64::MAX) else {
+    let Numeral::Of(n) = number_of(between(s, b':', 0), u64::MAX) else {
         return Listed::Bad;
     };
-    let Number::Value(missing) = number_of(between(s, b':', 1), most) else {
+    let Numeral::Of(missing) = number_of(between(s, b':', 1), most) else {
         return Listed::Bad;
     };
-    let Number::Value(phased) = number_of(between(s, b':', 2), most) else {
+    let Numeral::Of(phased) = number_of(between(s, b':', 2), most) else {
         return Listed::Bad;
     };
     Listed::Of(n, missing, phased)

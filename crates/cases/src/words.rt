@@ -67,29 +67,35 @@ pub fn index_in(names: &[u8], n: usize, s: &[u8]) -> usize {
     n
 }
 
+// The number that a word is, or that it is none.
+pub enum Numeral {
+    Of(u64),
+    Bad,
+}
+
 // Word k of a case as a number of at most `most`.
-pub fn number(case: &[u8], k: usize, most: u64) -> Number {
+pub fn number(case: &[u8], k: usize, most: u64) -> Numeral {
     number_of(word(case, k), most)
 }
 
 // The reader takes a plus sign and leading zeros too, which a case may not have.
-pub fn number_of(s: &[u8], most: u64) -> Number {
+pub fn number_of(s: &[u8], most: u64) -> Numeral {
     if s.len() == 0 {
-        return Number::Bad;
+        return Numeral::Bad;
     }
     if s[0] == b'+' {
-        return Number::Bad;
+        return Numeral::Bad;
     }
     if s[0] == b'0' && s.len() > 1 {
-        return Number::Bad;
+        return Numeral::Bad;
     }
     let Number::Value(n) = read_decimal(s) else {
-        return Number::Bad;
+        return Numeral::Bad;
     };
     if n > most {
-        return Number::Bad;
+        return Numeral::Bad;
     }
-    Number::Value(n)
+    Numeral::Of(n)
 }
 
 // The most numbers that a row of a case may have.
@@ -120,7 +126,7 @@ fn split_numbers(s: &[u8], row: &mut Row) -> Counted {
     let mut n = 0;
     while n < MOST {
         let end = mark_from(s, b',', at);
-        let Number::Value(value) = number_of(part(s, at, end), u64::MAX) else {
+        let Numeral::Of(value) = number_of(part(s, at, end), u64::MAX) else {
             return Counted::Bad;
         };
         row[n] = value as usize;
@@ -235,7 +241,7 @@ pub fn decode_and_number(case: &[u8], k: usize, text: &mut Text) -> Placed
     let Decoded::Upto(end) = decode(case, k, text, 0) else {
         return Placed::Bad;
     };
-    let Number::Value(n) = number(case, k + 1, u64::MAX) else {
+    let Numeral::Of(n) = number(case, k + 1, u64::MAX) else {
         return Placed::Bad;
     };
     Placed::At(end, n as usize)

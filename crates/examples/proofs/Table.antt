@@ -30,12 +30,12 @@ unfolding
     T.table T.bytes T.answerTo T.questionOf T.replyOf T.entryReply T.bytesAt T.readReply T.spelledReply T.filtersReply
     U.charsOf U.charsFrom U.charSize U.leadOf U.leadIn U.table U.sizeBy U.follows U.second U.before
     P.anySpace P.isSpace P.inAny P.spaces P.codePoint same firstWhere B.isEmpty B.endsIn cut roomAnswer
-    D.valueOf D.isDigit shortest
+    D.valueOf D.faultOf D.isDigit shortest
     C.split C.longer C.joined C.countOf C.lacks
     L.posAnswer L.positive
     J.entryAnswer J.charsAnswer J.fine J.altFine J.filterFine J.symbolFine J.insideFine F.entriesAnswer
     R.readingOf R.listOf R.partsOf R.impliedOf R.impliedBy R.piecesOf R.isMark R.headOf K.beforeEither R.markedPieces R.numbered R.bodied
-    R.alleleIn R.with R.gathered A.readAnswer allPhased
+    R.alleleIn R.with R.gathered R.faultAt R.faultIn R.pieceFault A.readAnswer allPhased
     S.spell M.from44 S.judged S.shaped N.firstUnsound N.isSound S.listText S.alleleText S.bodyText W.spelledAnswer W.textOf
     I.stepAnswer I.firstAnswer I.pairOf I.pairIn
 holds = refl

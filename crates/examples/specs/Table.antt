@@ -104,7 +104,8 @@ phased n = record { number = n; missing = false; phased = true }
 abbrev pub unphased : ℕ → Allele
 unphased n = record { number = n; missing = false; phased = false }
 
--- an entry's answer has the next place, then start and length of the key and of the value; 12 and 14 have an index
+-- an entry's answer has the next place, then start and length of the key and of the value; 12 and 14 have an index, and 12 then the
+-- place of the byte at fault
 unfoldable pub table : List (List Example)
 table =
     -- 1. the key, and an empty value
@@ -123,10 +124,10 @@ table =
     ∷ (genotype "|0/1" gives alleles (says 0 (2 ∷ [])) (phased 0 ∷ unphased 1 ∷ []) ∷ [])
     -- 8. an allele alone is phased
     ∷ (genotype "0" gives alleles (says 0 (1 ∷ [])) (phased 0 ∷ []) ∷ [])
-    -- 9. 12 at index 1
-    ∷ (genotype "0//1" gives alleles (says 12 (1 ∷ [])) [] ∷ [])
-    -- 10. one more than the greatest number
-    ∷ (genotype "18446744073709551616" gives alleles (says 12 (0 ∷ [])) [] ∷ [])
+    -- 9. 12 at index 1: a digit is missing at byte 2
+    ∷ (genotype "0//1" gives alleles (says 12 (1 ∷ 2 ∷ [])) [] ∷ [])
+    -- 10. one more than the greatest number, which its last digit passes
+    ∷ (genotype "18446744073709551616" gives alleles (says 12 (0 ∷ 19 ∷ [])) [] ∷ [])
     -- 11. one unphased 0, at 4.4 and at 4.3
     ∷ (spelling 4 4 (unphased 0 ∷ []) gives written (says 0 (2 ∷ [])) (bytes "/0") ∷ spelling 4 3 (unphased 0 ∷ []) gives written (says 13 []) [] ∷ [])
     -- 12. valid, and 15

@@ -5,6 +5,7 @@ use crate::told::size;
 use crate::told::tell;
 use crate::told::tell_none;
 use crate::told::tell_one;
+use crate::told::tell_two;
 use genotype::allele::Allele;
 use genotype::read::Read;
 use genotype::read::judge;
@@ -48,12 +49,12 @@ fn tell_step(step: Step, values: &mut [u64; VALUES]) -> u64
         Step::Beyond => tell_none(6, values),
         Step::Nothing => tell_none(10, values),
         Step::Empty => tell_none(11, values),
-        Step::Bad => tell_none(12, values),
+        Step::Bad(fault) => tell_one(12, fault, values),
     }
 }
 
 // The allele at the place `at`, as the first of the text from there on: 0, 6, 10, 11 or 12. Four values at most: the next place, and
-// the allele's number, missing mark and phasing.
+// the allele's number, missing mark and phasing; or with 12 the place, in the text, of the byte at fault.
 #[no_mangle]
 pub extern "C" fn bruncadorza_genotype_step(
     text: &[u8],
@@ -71,15 +72,15 @@ fn tell_read(read: Read, values: &mut [u64; VALUES]) -> u64
     match read {
         Read::Done(n) => tell_one(0, n, values),
         Read::Empty => tell_none(11, values),
-        Read::Bad(k) => tell_one(12, k, values),
+        Read::Bad(k, fault) => tell_two(12, k, fault, values),
         Read::Lengths => tell_none(16, values),
         Read::Short => tell_none(17, values),
         Read::Above(k) => tell_one(20, k, values),
     }
 }
 
-// What reading the text into slices of the length `room` answers: 0, 11, 12 or 17. One value at most: how many alleles there are, or
-// the index of the first piece that is none.
+// What reading the text into slices of the length `room` answers: 0, 11, 12 or 17. Two values at most: how many alleles there are, or
+// with 12 the index of the first piece that is none, and then the place, in the text, of the byte at fault.
 #[no_mangle]
 pub extern "C" fn bruncadorza_genotype_judge(
     text: &[u8],
@@ -104,8 +105,9 @@ pub extern "C" fn bruncadorza_genotype_judge_checked(
     tell_read(judge_checked(text, alt, room), values)
 }
 
-// Reads a genotype: 0, 11, 12, 16 where the slices' lengths differ, or 17 where they are too short. One value at most: how many
-// alleles were read, or the index of the first piece that is none. Only 0 changes the slices, and only their first entries.
+// Reads a genotype: 0, 11, 12, 16 where the slices' lengths differ, or 17 where they are too short. Two values at most: how many
+// alleles were read, or with 12 the index of the first piece that is none, and then the place, in the text, of the byte at fault.
+// Only 0 changes the slices, and only their first entries.
 #[no_mangle]
 pub extern "C" fn bruncadorza_read_genotype(
     text: &[u8],

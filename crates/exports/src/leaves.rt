@@ -50,11 +50,11 @@ fn tell_number(number: Number, values: &mut [u64; VALUES]) -> u64
 {
     match number {
         Number::Value(n) => tell_one(0, size(n), values),
-        Number::Bad => tell_none(12, values),
+        Number::Bad(fault) => tell_one(12, fault, values),
     }
 }
 
-// What a decimal text is worth: 0, or 12. One value at most.
+// Reads a decimal text: 0, or 12. One value: what it is worth, or the place of the byte at fault.
 #[no_mangle]
 pub extern "C" fn bruncadorza_read_decimal(text: &[u8], values: &mut [u64; VALUES]) -> u64
     ensures { λ r. ⌜ ReadsDecimal (now (text .entry)) (now (values .entry)) r (now (values .exit)) ⌝ }

@@ -154,11 +154,12 @@ fn tell_position(position: Position, values: &mut [u64; VALUES]) -> u64
     match position {
         Position::At(n) => tell_one(0, size(n), values),
         Position::Nowhere => tell_none(0, values),
-        Position::Bad => tell_none(21, values),
+        Position::Bad(fault) => tell_one(21, fault, values),
     }
 }
 
-// What a POS text says: 0, or 21. One value at most: the position, none where the text is `0`.
+// What a POS text says: 0, or 21. One value at most: the position, none where the text is `0`, or with 21 the place of the byte at
+// fault.
 #[no_mangle]
 pub extern "C" fn bruncadorza_read_pos(text: &[u8], values: &mut [u64; VALUES]) -> u64
     ensures { λ r. ⌜ ReadsPos (now (text .entry)) (now (values .entry)) r (now (values .exit)) ⌝ }

@@ -55,11 +55,18 @@ pub(crate) fn tell_one(number: u64, a: usize, values: &mut [u64]) -> u64
     tell(number, &vs, values)
 }
 
+pub(crate) fn tell_two(number: u64, a: usize, b: usize, values: &mut [u64]) -> u64
+    requires { ⌜ 2 < length (now values) ⌝ }
+    ensures { λ r. ⌜ Tells (says number (a ∷ b ∷ [])) (now (values .entry)) r (now (values .exit)) ⌝ }
+{
+    let vs = [a, b];
+    tell(number, &vs, values)
+}
+
 // A place is two values: where it starts, and how many bytes long it is.
 pub(crate) fn tell_place(number: u64, place: Range, values: &mut [u64]) -> u64
     requires { ⌜ 2 < length (now values) ⌝ }
     ensures { λ r. ⌜ Tells (says number (place .start ∷ place .len ∷ [])) (now (values .entry)) r (now (values .exit)) ⌝ }
 {
-    let vs = [place.start, place.len];
-    tell(number, &vs, values)
+    tell_two(number, place.start, place.len, values)
 }
