@@ -10,3 +10,4 @@ pub mod Lead
 pub mod CaseLaws
 pub mod Blame
 pub mod FirstFault
+pub mod Impostors

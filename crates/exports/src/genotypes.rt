@@ -79,8 +79,8 @@ fn tell_read(read: Read, values: &mut [u64; VALUES]) -> u64
     }
 }
 
-// What reading the text into slices of the length `room` answers: 0, 11, 12 or 17. Two values at most: how many alleles there are, or
-// with 12 the index of the first piece that is none, and then the place, in the text, of the byte at fault.
+// What reading the text into slices of the length `room` answers: 0, 11, 12 or 17. Two values at most: how many alleles there are,
+// or with 12 the index of the first piece that is none, and then the place, in the text, of the byte at fault.
 #[no_mangle]
 pub extern "C" fn bruncadorza_genotype_judge(
     text: &[u8],

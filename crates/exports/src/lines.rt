@@ -158,7 +158,7 @@ fn tell_position(position: Position, values: &mut [u64; VALUES]) -> u64
     }
 }
 
-// What a POS text says: 0, or 21. One value at most: the position, none where the text is `0`, or with 21 the place of the byte at
+// What a POS text says: 0, or 21. One value at most: the position, none where the text is `0`; or with 21 the place of the byte at
 // fault.
 #[no_mangle]
 pub extern "C" fn bruncadorza_read_pos(text: &[u8], values: &mut [u64; VALUES]) -> u64

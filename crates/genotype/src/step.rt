@@ -85,7 +85,11 @@ fn read_body(body: &[u8], phased: bool, next: usize) -> Step
             },
             next,
         ),
-        Number::Bad(fault) => Step::Bad(next - body.len() + fault),
+        Number::Bad(fault) => {
+            let len = body.len();
+            let start = next - len;
+            Step::Bad(start + fault)
+        }
     }
 }
 

@@ -22,8 +22,8 @@ enum-known-number c = search (needs, laws)
 enum-known-fault : tie.Need-enum-known-fault
 enum-known-fault c = search (needs, laws)
 
-sub-t15 : tie.Need-sub-t15
-sub-t15 c = search (needs, laws)
+sub-start : tie.Need-sub-start
+sub-start c = search (needs, laws)
 
 add-t16 : tie.Need-add-t16
 add-t16 c = search (needs, laws)
@@ -44,7 +44,7 @@ read-body-spec =
     read-decimal-requires
     enum-known-number
     enum-known-fault
-    sub-t15
+    sub-start
     add-t16
     returns-2
     returns-3)
