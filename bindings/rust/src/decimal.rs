@@ -7,9 +7,12 @@ use crate::ffi::{self, size};
 pub enum Number {
     /// 0: what it is worth.
     Value(u64),
-    /// 12: no decimal, or one that is worth too much. The offset of the first byte that is not allowed, or of the digit at which
-    /// the value passes `u64::MAX`, whichever comes first; where a digit is missing, the text's length.
-    Bad(usize),
+    /// 12: no decimal, or one that is worth too much.
+    Bad {
+        /// Of the first byte that is not allowed, or of the digit at which the value passes `u64::MAX`, whichever comes first;
+        /// where a digit is missing, the text's length.
+        offset: usize,
+    },
 }
 
 impl Number {
@@ -17,7 +20,7 @@ impl Number {
     pub fn number(self) -> u64 {
         match self {
             Number::Value(_) => 0,
-            Number::Bad(_) => 12,
+            Number::Bad { .. } => 12,
         }
     }
 }
@@ -27,7 +30,9 @@ pub fn read_decimal(text: &[u8]) -> Number {
     let told = ffi::read_decimal(text);
     match (told.number, told.values()) {
         (0, &[n]) => Number::Value(n),
-        (12, &[offset]) => Number::Bad(size(offset)),
+        (12, &[offset]) => Number::Bad {
+            offset: size(offset),
+        },
         _ => told.excluded("0 with the value, or 12 with the offset"),
     }
 }

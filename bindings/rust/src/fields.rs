@@ -53,9 +53,12 @@ pub enum Position {
     At(u64),
     /// 0: none, `0`.
     Nowhere,
-    /// 21: it is bad. The offset as of [`Number::Bad`](crate::decimal::Number::Bad); the text's length where the number is 0 in
-    /// another spelling than `0`.
-    Bad(usize),
+    /// 21: it is bad.
+    Bad {
+        /// As of [`Number::Bad`](crate::decimal::Number::Bad); the text's length where the number is 0 in another spelling than
+        /// `0`.
+        offset: usize,
+    },
 }
 
 impl Position {
@@ -63,7 +66,7 @@ impl Position {
     pub fn number(self) -> u64 {
         match self {
             Position::At(_) | Position::Nowhere => 0,
-            Position::Bad(_) => 21,
+            Position::Bad { .. } => 21,
         }
     }
 }
@@ -74,7 +77,9 @@ pub fn read_pos(text: &[u8]) -> Position {
     match (told.number, told.values()) {
         (0, &[n]) => Position::At(n),
         (0, []) => Position::Nowhere,
-        (21, &[offset]) => Position::Bad(size(offset)),
+        (21, &[offset]) => Position::Bad {
+            offset: size(offset),
+        },
         _ => told.excluded("0 with a position or none, or 21 with the offset"),
     }
 }

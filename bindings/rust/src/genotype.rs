@@ -26,9 +26,12 @@ pub enum Step {
     Nothing,
     /// 11: the text is empty.
     Empty,
-    /// 12: what stands there is no allele. The offset as of [`Number::Bad`](crate::decimal::Number::Bad), from the start of the
-    /// text and not from the place; where a digit is missing, the end of the piece.
-    Bad(usize),
+    /// 12: what stands there is no allele.
+    Bad {
+        /// As of [`Number::Bad`](crate::decimal::Number::Bad), from the start of the text and not from the place; where a digit
+        /// is missing, the end of the piece.
+        offset: usize,
+    },
 }
 
 impl Step {
@@ -39,7 +42,7 @@ impl Step {
             Step::Beyond => 6,
             Step::Nothing => 10,
             Step::Empty => 11,
-            Step::Bad(_) => 12,
+            Step::Bad { .. } => 12,
         }
     }
 }
@@ -59,7 +62,9 @@ pub fn step_at(text: &[u8], at: usize) -> Step {
         (6, []) => Step::Beyond,
         (10, []) => Step::Nothing,
         (11, []) => Step::Empty,
-        (12, &[offset]) => Step::Bad(size(offset)),
+        (12, &[offset]) => Step::Bad {
+            offset: size(offset),
+        },
         _ => told.excluded(
             "0 with the next place, a number and two marks, 12 with the offset, or 6, 10 or 11",
         ),
@@ -73,8 +78,13 @@ pub enum Read {
     Done(usize),
     /// 11: the text is empty.
     Empty,
-    /// 12: the piece with this index is no allele. Then the offset, as of [`Step::Bad`].
-    Bad(usize, usize),
+    /// 12: a piece is no allele.
+    Bad {
+        /// Which piece is the first such one, from 0.
+        index: usize,
+        /// As of [`Step::Bad`].
+        offset: usize,
+    },
     /// 16: the slices' lengths differ.
     Lengths,
     /// 17: the row is too short.
@@ -89,7 +99,7 @@ impl Read {
         match self {
             Read::Done(_) => 0,
             Read::Empty => 11,
-            Read::Bad(..) => 12,
+            Read::Bad { .. } => 12,
             Read::Lengths => 16,
             Read::Short => 17,
             Read::Above(_) => 20,
@@ -101,7 +111,10 @@ fn read_of(told: ffi::Told) -> Read {
     match (told.number, told.values()) {
         (0, &[count]) => Read::Done(size(count)),
         (11, []) => Read::Empty,
-        (12, &[index, offset]) => Read::Bad(size(index), size(offset)),
+        (12, &[index, offset]) => Read::Bad {
+            index: size(index),
+            offset: size(offset),
+        },
         (16, []) => Read::Lengths,
         (17, []) => Read::Short,
         (20, &[index]) => Read::Above(size(index)),

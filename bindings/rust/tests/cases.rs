@@ -309,7 +309,7 @@ fn read_decimal(s: &[u8]) -> String {
     let read = decimal::read_decimal(s);
     match read {
         decimal::Number::Value(n) => format!("{} {n}", read.number()),
-        decimal::Number::Bad(offset) => said(read.number(), Some(offset)),
+        decimal::Number::Bad { offset } => said(read.number(), Some(offset)),
     }
 }
 
@@ -379,7 +379,7 @@ fn pos(s: &[u8]) -> String {
     match read {
         fields::Position::At(n) => format!("{} {n}", read.number()),
         fields::Position::Nowhere => format!("{} none", read.number()),
-        fields::Position::Bad(offset) => said(read.number(), Some(offset)),
+        fields::Position::Bad { offset } => said(read.number(), Some(offset)),
     }
 }
 
@@ -459,7 +459,7 @@ fn said_read(read: genotype::Read) -> String {
     let number = read.number();
     match read {
         genotype::Read::Done(n) | genotype::Read::Above(n) => said(number, Some(n)),
-        genotype::Read::Bad(index, offset) => format!("{number} {index} {offset}"),
+        genotype::Read::Bad { index, offset } => format!("{number} {index} {offset}"),
         genotype::Read::Empty | genotype::Read::Lengths | genotype::Read::Short => {
             said(number, None)
         }
@@ -512,7 +512,9 @@ fn held_by_steps(
             ended && above.is_none() && steps.len() == n && rows.take(n).eq(steps.iter().map(of))
         }
         genotype::Read::Empty => last == genotype::Step::Empty && steps.is_empty(),
-        genotype::Read::Bad(k, offset) => last == genotype::Step::Bad(offset) && steps.len() == k,
+        genotype::Read::Bad { index, offset } => {
+            last == genotype::Step::Bad { offset } && steps.len() == index
+        }
         genotype::Read::Lengths => false,
         genotype::Read::Short => ended && above.is_none() && steps.len() > room,
         genotype::Read::Above(k) => ended && above == Some(k),
@@ -526,7 +528,7 @@ fn genotype_step(s: &[u8], at: usize) -> String {
             let row = rows_of([(a.number, a.missing, a.phased)].into_iter());
             format!("{} {row}", said(step.number(), Some(next)))
         }
-        genotype::Step::Bad(offset) => said(step.number(), Some(offset)),
+        genotype::Step::Bad { offset } => said(step.number(), Some(offset)),
         _ => said(step.number(), None),
     }
 }
