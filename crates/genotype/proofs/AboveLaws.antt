@@ -7,6 +7,7 @@ use types.Run.{OneOf}
 use denote.Enum.Declared.{tagOf}
 use borrow.Author.Tests.{lt-ltb, le-ltb}
 use Rattle.text.specs.Answer.{numberOf}
+use Rattle.text.specs.Over.{roomFor}
 use Rattle.text.proofs.FirstLaws.{where-none, where-here, where-later}
 use Rattle.lists.specs.AlternateBases.{altCount}
 use Rattle.genotype.specs.Reading.{Reading, list, bad, empty, readingOf, stepAnswer, listOf}
@@ -19,11 +20,11 @@ use Rattle.genotype.specs.declared.read.Read.{Read}
 use Rattle.genotype.specs.declared.read.Read.the-variants as R
 use Rattle.genotype.specs.declared.read.Above.{Above}
 use Rattle.genotype.specs.declared.read.Above.the-variants as O
-use Rattle.genotype.specs.Inner.{ListMeant, wholeAnswer, fitAnswer, abovePaper}
+use Rattle.genotype.specs.Inner.{ListMeant, wholeAnswer, abovePaper}
 use Rattle.genotype.proofs.step.Step as T
 use Rattle.genotype.proofs.read.Read as D
 use Rattle.genotype.proofs.StepLaws.{found-less}
-use Rattle.genotype.proofs.JudgeLaws.{other-number, fit-other, judge-fits}
+use Rattle.genotype.proofs.JudgeLaws.{other-number, judge-fits, judge-other}
 use Rattle.genotype.proofs.Ahead.{leftOf, Ahead, ahead-first, left-first, ahead-turn, left-turn, left-end}
 
 -- ---- the first above
@@ -73,17 +74,16 @@ module _ (t alt : List ℕ) (room : ℕ) (x : Read) (e : readPaper x ≡ wholeAn
   pub check-other : OneOf (1 ∷ 2 ∷ 3 ∷ 4 ∷ 5 ∷ []) (tagOf D.the-type x) → readPaper x ≡ checkedText t alt room
   unfolding checkedAnswer aboveAnswer
   check-other h =
-      rw (other-above (altCount alt) t (readingOf t) (λ z. other-number x h (rw e z)))
-      (judge-fits t room x x e (fit-other x room h))
+      rw (other-above (altCount alt) t (readingOf t) (λ z. other-number x h (rw e z))) (judge-other t room x e h)
 
   module _ (count : ℕ) (y : Above) (c : count ≡ altCount alt) (f : abovePaper y ≡ firstAbove count 0 (listOf (readingOf t))) where
     pub check-above : {k : ℕ} → y ≡ O.At k → readPaper (R.Above k) ≡ checkedText t alt room
     unfolding checkedAnswer aboveAnswer readPaper abovePaper
     check-above q = rw (← c, ← f, q)
 
-    pub check-fits : (z : Read) → y ≡ O.Nothing → readPaper z ≡ fitAnswer (readPaper x) room → readPaper z ≡ checkedText t alt room
+    pub check-fits : {n : ℕ} (z : Read) → y ≡ O.Nothing → x ≡ R.Done n → readPaper z ≡ roomFor n room → readPaper z ≡ checkedText t alt room
     unfolding checkedAnswer aboveAnswer abovePaper
-    check-fits z q h = rw (← c, ← f, q) (judge-fits t room x z e h)
+    check-fits z q d h = rw (← c, ← f, q) (judge-fits t room x e z d h)
 
 pub check-meant : (t : List ℕ) (x : Read) {n : ℕ} → readPaper x ≡ wholeAnswer t (readingOf t) → x ≡ R.Done n → ListMeant t
 check-meant t x {n} e q = record { is = whole-list t (readingOf t) n (rw q at e) }

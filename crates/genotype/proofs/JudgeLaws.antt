@@ -9,6 +9,7 @@ use denote.Enum.Declared.{tagOf}
 use lib.ListN.{length, drop}
 use borrow.Author.Tests.{lt-leb, le-leb}
 use Rattle.text.specs.Answer.{Answer, says, numberOf}
+use Rattle.text.specs.Over.{roomFor}
 use Rattle.genotype.specs.Reading.{Reading, list, bad, empty, with, gathered, readingOf, listOf, partsOf, faultAt, stepAnswer}
 use Rattle.genotype.specs.Answers.{readAnswer, textAnswer}
 use Rattle.genotype.specs.Paper.{stepPaper, readPaper}
@@ -17,7 +18,7 @@ use Rattle.genotype.specs.declared.step.Step.{Step}
 use Rattle.genotype.specs.declared.step.Step.the-variants as S
 use Rattle.genotype.specs.declared.read.Read.{Read}
 use Rattle.genotype.specs.declared.read.Read.the-variants as R
-use Rattle.genotype.specs.Inner.{wholeAnswer, fitAnswer}
+use Rattle.genotype.specs.Inner.{wholeAnswer}
 use Rattle.genotype.proofs.step.Step as T
 use Rattle.genotype.proofs.read.Read as D
 use Rattle.genotype.proofs.PieceLaws.{parts-end}
@@ -136,31 +137,34 @@ other-number R.Lengths h e = omega arith
 other-number R.Short h e = omega arith
 other-number (R.Above k) h e = omega arith
 
-pub fit-short : (x : Read) {n room : ℕ} → x ≡ R.Done n → room < n → readPaper R.Short ≡ fitAnswer (readPaper x) room
-unfolding readPaper fitAnswer
-fit-short x e h = rw (e, lt-leb _ _ h)
+module _ {n room : ℕ} where
+  pub fit-short : room < n → readPaper R.Short ≡ roomFor n room
+  unfolding readPaper
+  fit-short h = rw (lt-leb _ _ h)
 
-pub fit-done : (x : Read) {n room : ℕ} → x ≡ R.Done n → n ≤ room → readPaper (R.Done n) ≡ fitAnswer (readPaper x) room
-unfolding readPaper fitAnswer
-fit-done x e h = rw (e, le-leb _ _ h)
+  pub fit-done : n ≤ room → readPaper (R.Done n) ≡ roomFor n room
+  unfolding readPaper
+  fit-done h = rw (le-leb _ _ h)
 
-pub fit-other : (x : Read) (room : ℕ) → OneOf (1 ∷ 2 ∷ 3 ∷ 4 ∷ 5 ∷ []) (tagOf D.the-type x) → readPaper x ≡ fitAnswer (readPaper x) room
-unfolding readPaper fitAnswer
-fit-other (R.Done n) room h = absurd (miss (1 ∷ 2 ∷ 3 ∷ 4 ∷ 5 ∷ []) 0 tt h)
-fit-other R.Empty room h = refl
-fit-other (R.Bad k fault) room h = refl
-fit-other R.Lengths room h = refl
-fit-other R.Short room h = refl
-fit-other (R.Above k) room h = refl
+-- a count is that of a list, and only room is left to be judged
+whole-count : (t : List ℕ) (r : Reading) (n room : ℕ) → readPaper (R.Done n) ≡ wholeAnswer t r → roomFor n room ≡ readAnswer t r room
+unfolding readPaper wholeAnswer readAnswer
+whole-count t (list as′) n room e = let z : n ≡ length as′ = cc in rw z
+whole-count t (bad k) n room e = cc
+whole-count t empty n room e = cc
 
-fit-whole : (t : List ℕ) (r : Reading) (room : ℕ) → fitAnswer (wholeAnswer t r) room ≡ readAnswer t r room
-unfolding fitAnswer wholeAnswer readAnswer
-fit-whole t (list as′) room = refl
-fit-whole t (bad k) room = refl
-fit-whole t empty room = refl
+-- any other answer stands whatever the room
+whole-other : (t : List ℕ) (r : Reading) (room : ℕ) → (numberOf (wholeAnswer t r) ≡ 0 → ⊥) → wholeAnswer t r ≡ readAnswer t r room
+unfolding wholeAnswer readAnswer
+whole-other t (list as′) room n = absurd (n refl)
+whole-other t (bad k) room n = refl
+whole-other t empty room n = refl
 
-pub judge-fits : (t : List ℕ) (room : ℕ) (x y : Read) → readPaper x ≡ wholeAnswer t (readingOf t) → readPaper y ≡ fitAnswer (readPaper x) room
-    → readPaper y ≡ textAnswer t room
-judge-fits t room x y e f = f ∙ (rw e (fit-whole t (readingOf t) room))
+module _ (t : List ℕ) (room : ℕ) (x : Read) (e : readPaper x ≡ wholeAnswer t (readingOf t)) where
+  pub judge-fits : {n : ℕ} (y : Read) → x ≡ R.Done n → readPaper y ≡ roomFor n room → readPaper y ≡ textAnswer t room
+  judge-fits {n} y q f = f ∙ whole-count t (readingOf t) n room (rw q at e)
 
-pub ruleset laws = (judge-empty, judge-first, judge-turn, found-less, judge-bad, judge-past, fit-short, fit-done, fit-other, judge-fits)
+  pub judge-other : OneOf (1 ∷ 2 ∷ 3 ∷ 4 ∷ 5 ∷ []) (tagOf D.the-type x) → readPaper x ≡ textAnswer t room
+  judge-other h = e ∙ whole-other t (readingOf t) room (λ z. other-number x h (rw e z))
+
+pub ruleset laws = (judge-empty, judge-first, judge-turn, found-less, judge-bad, judge-past, fit-short, fit-done, judge-fits, judge-other)

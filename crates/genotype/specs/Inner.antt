@@ -1,11 +1,10 @@
 -- What the private functions of this crate promise each other. Assumes nothing.
-use Prim.Native.Nat.{ℕ, zero, suc, _≤_}
+use Prim.Native.Nat.{ℕ, _≤_}
 use mathlib.Core.Path.{_≡_}
 use mathlib.Core.List.{List, [], _∷_}
 use mathlib.Core.Option.{Option, some, none}
 use lib.ListN.{length}
 use Rattle.text.specs.Answer.{Answer, says}
-use Rattle.text.specs.Over.{roomFor}
 use Rattle.genotype.specs.Reading.{Reading, list, bad, empty, readingOf, listOf, faultAt}
 use Rattle.genotype.specs.declared.read.Read.{Read}
 use Rattle.genotype.specs.declared.read.Read.the-variants as R
@@ -22,12 +21,6 @@ unfoldable pub wholeAnswer : List ℕ → Reading → Answer
 wholeAnswer t (list as′) = says 0 (length as′ ∷ [])
 wholeAnswer t (bad k) = says 12 (k ∷ faultAt t k ∷ [])
 wholeAnswer t empty = says 11 []
-
--- such an answer, with room for so many
-unfoldable pub fitAnswer : Answer → ℕ → Answer
-fitAnswer (says zero []) room = says 0 []
-fitAnswer (says zero (count ∷ vs)) room = roomFor count room
-fitAnswer (says (suc n) vs) room = says (suc n) vs
 
 -- an index, or none
 unfoldable pub abovePaper : Above → Option ℕ

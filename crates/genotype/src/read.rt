@@ -5,14 +5,14 @@ use crate::step::step_at;
 use lists::alternate_bases::alt_count;
 ghost use mathlib.Core.Path.{_≡_};
 ghost use lib.ListN.{length};
-ghost use Rattle.text.specs.Over.{over};
+ghost use Rattle.text.specs.Over.{over, roomFor};
 ghost use Rattle.text.specs.Pick.{oneIf};
 ghost use Rattle.genotype.specs.Reading.{readingOf, listOf};
 ghost use Rattle.genotype.specs.Row.{numbersOf, missingOf, phasedOf};
 ghost use Rattle.genotype.specs.Answers.{firstAbove, oneLength, Reads, ReadsText, ReadsChecked};
 ghost use Rattle.genotype.specs.Promises.{Judges, JudgesChecked};
 ghost use Rattle.genotype.specs.Paper.{readPaper};
-ghost use Rattle.genotype.specs.Inner.{ListMeant, wholeAnswer, fitAnswer, Room, Fillable, abovePaper};
+ghost use Rattle.genotype.specs.Inner.{ListMeant, wholeAnswer, Room, Fillable, abovePaper};
 
 // The answer of a reader.
 pub enum Read {
@@ -51,23 +51,25 @@ fn judge_whole(text: &[u8]) -> Read
     }
 }
 
-// Room is judged last.
-fn fitted(read: Read, room: usize) -> Read
-    ensures { λ r. ⌜ readPaper r ≡ fitAnswer (readPaper read) room ⌝ }
+// So many alleles, where the row holds them: room is judged last.
+fn fitted(n: usize, room: usize) -> Read
+    ensures { λ r. ⌜ readPaper r ≡ roomFor n room ⌝ }
 {
-    if let Read::Done(n) = read {
-        if n > room {
-            return Read::Short;
-        }
+    if n > room {
+        return Read::Short;
     }
-    read
+    Read::Done(n)
 }
 
 // What reading the text into a row of `room` records answers.
 pub fn judge(text: &[u8], room: usize) -> Read
     ensures { λ r. ⌜ Judges (now (text .entry)) room r ⌝ }
 {
-    fitted(judge_whole(text), room)
+    let whole = judge_whole(text);
+    let Read::Done(n) = whole else {
+        return whole;
+    };
+    fitted(n, room)
 }
 
 // The first allele whose number is above a count.
@@ -101,13 +103,13 @@ pub fn judge_checked(text: &[u8], alt: &[u8], room: usize) -> Read
     ensures { λ r. ⌜ JudgesChecked (now (text .entry)) (now (alt .entry)) room r ⌝ }
 {
     let whole = judge_whole(text);
-    let Read::Done(_) = whole else {
+    let Read::Done(n) = whole else {
         return whole;
     };
     let count = alt_count(alt);
     match find_above(text, count as u64) {
         Above::At(k) => Read::Above(k),
-        Above::Nothing => fitted(whole, room),
+        Above::Nothing => fitted(n, room),
     }
 }
 

@@ -7,11 +7,18 @@ use Rattle.genotype.proofs.read.judge.Tie as tie
 judge-whole-requires : tie.Need-judge-whole-requires
 judge-whole-requires c κs = search (needs, laws)
 
-fitted-requires : tie.Need-fitted-requires
-fitted-requires c κs = search (needs, laws)
+enum-known-whole : tie.Need-enum-known-whole
+enum-known-whole c = search (needs, laws)
 
 returns : tie.Need-returns
 returns c = search (needs, laws)
 
+fitted-requires : tie.Need-fitted-requires
+fitted-requires c κs = search (needs, laws)
+
+returns-2 : tie.Need-returns-2
+returns-2 c = search (needs, laws)
+
 pub judge-spec : {M : Type 1} → statement M
-judge-spec = tie.close (tie.spec judge-whole-requires fitted-requires returns)
+judge-spec =
+    tie.close (tie.spec judge-whole-requires enum-known-whole returns fitted-requires returns-2)

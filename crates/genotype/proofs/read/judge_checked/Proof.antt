@@ -7,8 +7,8 @@ use Rattle.genotype.proofs.read.judge_checked.Tie as tie
 judge-whole-requires : tie.Need-judge-whole-requires
 judge-whole-requires c κs = search (needs, laws)
 
-enum-told : tie.Need-enum-told
-enum-told c = search (needs, laws)
+enum-known-whole : tie.Need-enum-known-whole
+enum-known-whole c = search (needs, laws)
 
 returns : tie.Need-returns
 returns c = search (needs, laws)
@@ -22,8 +22,8 @@ find-above-requires c κs = search (needs, laws)
 enum-known-k : tie.Need-enum-known-k
 enum-known-k c = search (needs, laws)
 
-enum-told-2 : tie.Need-enum-told-2
-enum-told-2 c = search (needs, laws)
+enum-told : tie.Need-enum-told
+enum-told c = search (needs, laws)
 
 fitted-requires : tie.Need-fitted-requires
 fitted-requires c κs = search (needs, laws)
@@ -39,12 +39,12 @@ judge-checked-spec =
     tie.close
     (tie.spec
     judge-whole-requires
-    enum-told
+    enum-known-whole
     returns
     alt-count-requires
     find-above-requires
     enum-known-k
-    enum-told-2
+    enum-told
     fitted-requires
     returns-2
     returns-3)
