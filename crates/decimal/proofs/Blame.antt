@@ -1,13 +1,13 @@
 -- Where a text has its first fault, over any relation of what can be read: there is one such place at most, and an answer that is
 -- made of a value and that place is all that can be asked. Assumes nothing.
 use Prim.Native.Nat.{ℕ, _+_, _≤_, _<_}
-use mathlib.Core.Path.{_≡_, refl, sym, ap, _∙_}
+use mathlib.Core.Path.{_≡_, refl, sym, _∙_}
 use mathlib.Core.Logic.{_↔_}
 use mathlib.Core.List.{List, [], _∷_, _++_, append-assoc}
 use mathlib.Core.Option.{Option, some, none}
 use native.Mathlib.Omega.{arith}
 use native.Mathlib.Decide.{decLt}
-use lib.ListN.{length, take, drop, take-append-drop}
+use lib.ListN.{take, drop, take-append-drop}
 use lib.Seq.{take-take}
 use Rattle.text.specs.Answer.{Answer, says}
 use Rattle.decimal.specs.Decimal.{valueAnswer}

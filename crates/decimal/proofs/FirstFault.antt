@@ -1,15 +1,15 @@
 -- The place that the rule of three cases gives is that of the first fault: digits before it that are not too much go on with
 -- nothing or a zero, and a byte at which the rule stops is in every text that begins so. Assumes nothing.
-use Prim.Native.Nat.{ℕ, zero, suc, _+_, _-_, _*_, _≤_, _<_}
-use mathlib.Core.Path.{_≡_, refl, sym, ap, _∙_}
+use Prim.Native.Nat.{ℕ, zero, suc, _+_, _≤_, _<_}
+use mathlib.Core.Path.{_≡_, refl, sym, _∙_}
 use mathlib.Core.Bool.{Bool, true, false, not, _||_, and-eq-true-iff, false≢true}
 use mathlib.Core.List.{List, [], _∷_, _++_, append-assoc, append-nil}
 use native.Mathlib.Omega.{arith}
-use native.Mathlib.Decide.{decLt, ℕ-discrete}
-use native.Mathlib.Nat.{le-trans, le-refl}
+use native.Mathlib.Decide.{ℕ-discrete}
+use native.Mathlib.Nat.{le-refl}
 use native.Mathlib.Numerals.{add-one}
 use lib.ListN.{length, getD, take}
-use lib.Seq.{take-suc}
+use lib.Seq.{length-take-le, take-suc}
 use lib.Dec.{ltb}
 use borrow.Author.Tests.{ltb-true, ltb-false, eq-eqb, ne-eqb}
 use Rattle.text.specs.Pick.{pick}
@@ -17,7 +17,7 @@ use Rattle.text.proofs.Lists.{by-snoc}
 use Rattle.decimal.specs.Decimal.{isDigit, allDigits, worth, digitsValue, valueOf, stopsAt, firstPlace, digitsFault, faultOf, digitsAnswer, decimalAnswer}
 use Rattle.decimal.specs.Demands.{Alone, Decimal, bare, signed, ReadsDecimals, Readable, Begun, FaultAt, Meets, OneReader}
 use Rattle.decimal.proofs.Digits.{digit-range, digits-cons, digits-snoc, worth-snoc}
-use Rattle.decimal.proofs.Value.{digits-are, decimal-value}
+use Rattle.decimal.proofs.Value.{digits-are}
 use Rattle.decimal.proofs.Demands.{reads-decimals, reads-alone}
 use Rattle.decimal.proofs.FaultLaws.{fault-within}
 use Rattle.decimal.proofs.Blame.{value-meets, meets-one}
@@ -122,17 +122,11 @@ zero-alone = digits-are (48 ∷ []) 0 refl
 digits-begun : (s : List ℕ) (k : ℕ) → k ≤ length s → Front s k → Begun (Readable Alone) (take k s)
 digits-begun s zero h f = record { rest = 48 ∷ []; read = record { value = 0; is = zero-alone } }
 digits-begun s (suc k) h f =
+    let l = length-take-le (suc k) s h in
     record {
       rest = [];
-      read = rw append-nil (record { value = worth (take (suc k) s); is = (record { one = length-some; digits = f .digits; value = refl }, f .small) });
+      read = rw append-nil (record { value = worth (take (suc k) s); is = (record { one = omega arith; digits = f .digits; value = refl }, f .small) });
     }
-  where
-    length-some : 0 < length (take (suc k) s)
-    length-some = by s h
-      where
-        by : (s : List ℕ) → suc k ≤ length s → 0 < length (take (suc k) s)
-        by [] h = absurd (omega arith)
-        by (b ∷ t) h = omega arith
 
 pub digits-fault : (s : List ℕ) → FaultAt (Readable Alone) s (digitsFault s)
 digits-fault s =
