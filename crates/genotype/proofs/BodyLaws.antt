@@ -60,11 +60,11 @@ body-bodied dot = rw (same-self (46 ∷ []))
 body-bodied (number {t} {n} d) = rw (same-not t (46 ∷ []) (decimal-no-dot d), decimal-value t d)
 
 -- a body, read with a phasing
-record Bodied (p : Bool) (t : List ℕ) (a : Allele) : Type 0 where
-  body : Body t a
-  phasing : a .phased ≡ p
+pub record Bodied (p : Bool) (t : List ℕ) (a : Allele) : Type 0 where
+  pub body : Body t a
+  pub phasing : a .phased ≡ p
 
-bodied-body : (p : Bool) (t : List ℕ) (a : Allele) → bodied p t ≡ some a → Bodied p t a
+pub bodied-body : (p : Bool) (t : List ℕ) (a : Allele) → bodied p t ≡ some a → Bodied p t a
 unfolding bodied numbered
 bodied-body p t a e = by (same t (46 ∷ [])) refl e
   where

@@ -108,11 +108,11 @@ quiet-slash : {t : List ℕ} → Quiet t → Free 47 t
 quiet-slash C.none = free-nil
 quiet-slash (C.more {b} m q) = free-cons (no-slash b m) (quiet-slash q)
 
-bad-quiet : {t rest : List ℕ} {o : ℕ} → Bad t rest o → Quiet t
+pub bad-quiet : {t rest : List ℕ} {o : ℕ} → Bad t rest o → Quiet t
 bad-quiet {t} g = free-quiet t (g .no-bar) (g .no-slash)
 
 -- bytes before a mark or the end that do not read as an allele
-quiet-bad : (p : Bool) (t : List ℕ) {rest : List ℕ} → Quiet t → Ends rest → bodied p t ≡ none → Bad t rest (faultOf t)
+pub quiet-bad : (p : Bool) (t : List ℕ) {rest : List ℕ} → Quiet t → Ends rest → bodied p t ≡ none → Bad t rest (faultOf t)
 quiet-bad p t q h e = record { no-bar = quiet-bar q; no-slash = quiet-slash q; ends = h; no-body = none-body p t e; fault = decimal-fault t }
 
 -- and the place of their fault

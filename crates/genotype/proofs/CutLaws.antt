@@ -1,8 +1,9 @@
 -- How a text is cut: bytes that are no marks stay together, up to what begins with a mark. Assumes nothing.
-use Prim.Native.Nat.{ℕ}
+use Prim.Native.Nat.{ℕ, zero, suc}
 use mathlib.Core.Path.{_≡_, refl, sym, ap, _∙_}
 use mathlib.Core.Bool.{Bool, true, false, false≢true}
 use mathlib.Core.List.{List, [], _∷_, _++_}
+use lib.ListN.{take}
 use Rattle.pieces.specs.Pieces.{lacks}
 use Rattle.pieces.proofs.CountLaws.{lacks-other}
 use Rattle.genotype.specs.Reading.{isMark, headOf, markedPieces}
@@ -18,6 +19,15 @@ no-bar b m e = false≢true (sym m ∙ mark-bar b e)
 
 pub no-slash : (b : ℕ) → isMark b ≡ false → b ≡ 47 → ⊥
 no-slash b m e = false≢true (sym m ∙ mark-slash b e)
+
+pub quiet-append : {s t : List ℕ} → Quiet s → Quiet t → Quiet (s ++ t)
+quiet-append none r = r
+quiet-append (more m q) r = more m (quiet-append q r)
+
+pub quiet-take : (n : ℕ) {s : List ℕ} → Quiet s → Quiet (take n s)
+quiet-take zero q = none
+quiet-take (suc n) none = none
+quiet-take (suc n) (more m q) = more m (quiet-take n q)
 
 pub head-quiet : (t : List ℕ) {s : List ℕ} → Quiet s → headOf t ≡ [] → headOf (s ++ t) ≡ s
 head-quiet t none e = e

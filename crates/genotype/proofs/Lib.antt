@@ -21,6 +21,7 @@ pub mod Exact
 pub mod Refusals
 pub mod Visits
 pub mod Steps
+pub mod Blames
 pub mod Impostors
 pub mod Nearest
 pub mod ReaderLaws

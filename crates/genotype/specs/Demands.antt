@@ -4,9 +4,10 @@ use Prim.Native.Nat.{ℕ, _+_, _≤_, _<_}
 use mathlib.Core.Path.{_≡_}
 use mathlib.Core.Logic.{_↔_}
 use mathlib.Core.List.{List, [], _∷_}
-use lib.ListN.{length, drop}
+use lib.ListN.{length, getD, drop}
 use Rattle.text.specs.Answer.{Answer, says, numberOf}
 use Rattle.text.specs.Over.{over}
+use Rattle.decimal.specs.Demands.{FaultAt}
 use Rattle.genotype.specs.Reading.{Reading, list, bad, foundAnswer}
 use Rattle.genotype.specs.Row.{rowOf}
 use Rattle.genotype.specs.Paper.{readPaper}
@@ -88,6 +89,16 @@ pub record RefusedAt (t : List ℕ) (row : List Allele) (a : Answer) : Type 0 wh
 
 unfoldable pub Refusals : Reader → Type 0
 Refusals read = (t : List ℕ) (row : List Allele) → RefusedAt t row (read t row .answer)
+
+-- the text means some list
+pub record Meant (t : List ℕ) : Type 0 where
+  pub list : List Allele
+  pub means : Means t list
+
+-- a byte at fault that is no `.` is the text's first fault: the bytes before it begin a text that means a list, and with it they begin
+-- none. (A `.` that bytes follow up to the next mark is at fault, though alone it would be an allele.)
+unfoldable pub Blames : Reader → Type 0
+Blames read = (t : List ℕ) (row : List Allele) (k o : ℕ) → read t row .answer ≡ says 12 (k ∷ o ∷ []) → (getD t o 0 ≡ 46 → ⊥) → FaultAt Meant t o
 
 pub record Meets (read : Reader) : Type 0 where
   pub exact : Exact read
