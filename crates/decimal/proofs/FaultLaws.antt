@@ -1,7 +1,7 @@
 -- The first place at which a decimal stops, place by place: by the definition; and what the digits up to a place are worth. Assumes nothing.
 use Prim.Native.Nat.{ℕ, zero, suc, _+_, _-_, _*_, _≤_, _<_}
 use mathlib.Core.Path.{_≡_, sym, _∙_}
-use mathlib.Core.Bool.{Bool, true, false, or-true}
+use mathlib.Core.Bool.{Bool, true, false, not, or-true}
 use mathlib.Core.List.{List}
 use native.Mathlib.Omega.{arith}
 use native.Mathlib.Numerals.{add-one}
@@ -50,7 +50,7 @@ module _ (s : List ℕ) (i : ℕ) where
 
   pub stops-over : 18446744073709551615 < worth (take (i + 1) s) → stopsAt s i ≡ true
   unfolding stopsAt
-  stops-over h = rw (lt-ltb _ _ h, or-true)
+  stops-over h = rw (lt-ltb _ _ h) (or-true (not (isDigit (getD s i 0))))
 
   pub stops-not : isDigit (getD s i 0) ≡ true → worth (take (i + 1) s) ≤ 18446744073709551615 → stopsAt s i ≡ false
   unfolding stopsAt
