@@ -88,15 +88,19 @@ dot-free : (kind : Kind) → Free (separatorOf kind) (46 ∷ [])
 dot-free K.Filters = free-cons (λ e. omega arith) free-nil
 dot-free K.Alts = free-cons (λ e. omega arith) free-nil
 
--- entries free of the separator come back, but for a single `.`
+-- entries free of the separator, that are not a single `.`, joined are none
+pub joined-not-dot : (kind : Kind) (es : List (List ℕ)) → split (separatorOf kind) (joined (separatorOf kind) es) ≡ es → (es ≡ (46 ∷ []) ∷ [] → ⊥)
+    → joined (separatorOf kind) es ≡ 46 ∷ [] → ⊥
+joined-not-dot kind es s n e = n (sym s ∙ ap (split (separatorOf kind)) e ∙ split-whole (46 ∷ []) (dot-free kind))
+
+-- they come back
 comes-back : (kind : Kind) (es : List (List ℕ)) → ((i : ℕ) → i < length es → Free (separatorOf kind) (getD es i [])) → (es ≡ (46 ∷ []) ∷ [] → ⊥)
     → entriesOf kind (listText kind es) ≡ es
 unfolding entriesOf listText
 comes-back kind [] h n = rw (same-self (46 ∷ []))
 comes-back kind (e ∷ es) h n =
     let s = split-back (separatorOf kind) (e ∷ es) (omega arith) h in
-    let d : joined (separatorOf kind) (e ∷ es) ≡ 46 ∷ [] → ⊥ = λ f. n (sym s ∙ ap (split (separatorOf kind)) f ∙ split-whole (46 ∷ []) (dot-free kind)) in
-    rw (same-not _ (46 ∷ []) d) s
+    rw (same-not _ (46 ∷ []) (joined-not-dot kind (e ∷ es) s n)) s
 
 pub gives-back : GivesBack listText
 gives-back =

@@ -3,6 +3,7 @@ pub mod JudgeLaws
 pub mod WriteLaws
 pub mod ValidLaws
 pub mod Demands
+pub mod Counts
 pub mod PaperLaws
 pub mod Determined
 pub mod CaseLaws

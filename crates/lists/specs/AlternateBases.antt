@@ -1,9 +1,12 @@
 -- The ALT column (docs/RULES.md, "Genotypes"). Assumes nothing.
-use Prim.Native.Nat.{ℕ}
-use mathlib.Core.List.{List}
-use lib.ListN.{length}
-use Rattle.pieces.specs.Pieces.{split}
+use Prim.Native.Nat.{ℕ, _+_}
+use mathlib.Core.Bool.{_||_}
+use mathlib.Core.List.{List, [], _∷_}
+use Rattle.text.specs.Pick.{pick}
+use Rattle.text.specs.Same.{same}
+use Rattle.text.specs.Bytes.{isEmpty}
+use Rattle.pieces.specs.Pieces.{countOf}
 
--- the commas plus one: as many as the texts between them
+-- 0 where the column is `.` or empty, else the commas in it plus one
 unfoldable pub altCount : List ℕ → ℕ
-altCount column = length (split 44 column)
+altCount column = pick (same column (46 ∷ []) || isEmpty column) 0 (countOf 44 column + 1)

@@ -1,5 +1,5 @@
--- What is asked of any judge of an entry and of any writer of a list, as functions on lists (docs/RULES.md, "Filters and ALT";
--- docs/STATEMENTS.md). Assumes nothing.
+-- What is asked of any judge of an entry, of any writer of a list and of any count of ALT, as functions on lists (docs/RULES.md,
+-- "Genotypes", "Filters and ALT"; docs/STATEMENTS.md). Assumes nothing.
 use Prim.Native.Nat.{ℕ, _<_}
 use mathlib.Core.Path.{_≡_}
 use mathlib.Core.Bool.{false}
@@ -12,7 +12,7 @@ use Rattle.text.specs.Same.{same}
 use Rattle.text.specs.Space.{codePoint, isSpace}
 use Rattle.text.specs.Demands.{Characters}
 use Rattle.pieces.specs.Pieces.{split}
-use Rattle.pieces.specs.Demands.{Free}
+use Rattle.pieces.specs.Demands.{Free, Cut}
 use Rattle.lists.specs.Kind.{separatorOf, invalidOf}
 use Rattle.lists.specs.declared.write.Kind.{Kind}
 use Rattle.lists.specs.declared.write.Kind.the-variants as K
@@ -66,3 +66,20 @@ entriesOf kind t = pick (same t (46 ∷ [])) [] (split (separatorOf kind) t)
 pub record GivesBack (write : Kind → List (List ℕ) → List ℕ) : Type 0 where
   pub filters : (es : List (List ℕ)) → ((i : ℕ) → i < length es → FilterValid (getD es i [])) → entriesOf K.Filters (write K.Filters es) ≡ es
   pub alts : (es : List (List ℕ)) → ((i : ℕ) → i < length es → AltValid (getD es i [])) → (es ≡ (46 ∷ []) ∷ [] → ⊥) → entriesOf K.Alts (write K.Alts es) ≡ es
+
+-- ---- the ALT count
+
+-- `.` and the empty column have none; any other has as many as the texts without a comma that, joined by commas, are the column
+pub record Counts (count : List ℕ → ℕ) : Type 0 where
+  pub dot : count (46 ∷ []) ≡ 0
+  pub empty : count [] ≡ 0
+  pub other : (t : List ℕ) (es : List (List ℕ)) → (t ≡ 46 ∷ [] → ⊥) → (t ≡ [] → ⊥) → Cut 44 t es → count t ≡ length es
+
+-- two that do so give every column one count
+unfoldable pub OneCount : Type 0
+OneCount = (count other : List ℕ → ℕ) → Counts count → Counts other → (t : List ℕ) → count t ≡ other t
+
+-- what is written of valid ALT entries counts these, for every list but that of a single `.`
+unfoldable pub CountsWritten : (List ℕ → ℕ) → (Kind → List (List ℕ) → List ℕ) → Type 0
+CountsWritten count write = (es : List (List ℕ)) → ((i : ℕ) → i < length es → AltValid (getD es i [])) → (es ≡ (46 ∷ []) ∷ [] → ⊥)
+    → count (write K.Alts es) ≡ length es

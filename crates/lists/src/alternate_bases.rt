@@ -4,6 +4,8 @@ use crate::write::Verdict;
 use crate::write::Write;
 use crate::write::write_list;
 use pieces::count::count_byte;
+use pieces::count::count_pieces;
+use text::same::same_bytes;
 use text::space::Space;
 use text::space::find_space;
 ghost use mathlib.Core.Path.{_≡_};
@@ -12,11 +14,14 @@ ghost use Rattle.lists.specs.Write.{WritesListAt};
 ghost use Rattle.lists.specs.Promises.{CountsAlts, JudgesEntry};
 ghost use Rattle.lists.specs.declared.write.Kind.the-variants.{Alts};
 
-// How many alternate alleles an ALT column has: its commas plus one.
+// How many alternate alleles an ALT column has: none where it is `.` or empty, else its commas plus one.
 pub fn alt_count(column: &[u8]) -> usize
     ensures { λ r. ⌜ CountsAlts (now (column .entry)) r ⌝ }
 {
-    count_byte(column, b',') + 1
+    if same_bytes(column, b".") {
+        return 0;
+    }
+    count_pieces(column, b',')
 }
 
 // Whether the inside of `<` and `>` is not empty and holds neither.
