@@ -15,7 +15,7 @@ use Rattle.decimal.specs.Decimal.{faultOf}
 use Rattle.decimal.proofs.FirstFault.{decimal-fault}
 use Rattle.genotype.specs.Reading.{foundAnswer, stepAnswer}
 use Rattle.genotype.specs.Means.{none, more, Means, bare, at-end, without, bad-here, Broken, bad-after}
-use Rattle.genotype.specs.Demands.{Reader, reader, Stands, ExactAt, Exact, Refusals, Stepper, Walk, next, Visits, Steps, OneStepper}
+use Rattle.genotype.specs.Demands.{Reader, reader, Stands, ExactAt, Exact, Longer, Refusals, FirstAbove, here, MeansAbove, Checked, Stepper, Walk, next, Visits, Steps, OneStepper}
 use Rattle.genotype.specs.declared.allele.Allele.{Allele}
 use Rattle.genotype.proofs.PhasedLaws.{phased-none, phased-more}
 use Rattle.genotype.proofs.MeansLaws.{means-one}
@@ -118,6 +118,33 @@ invented-offset read f x =
     let b = x _ [] .broken 1 2 .1 cut-broken in
     let z : _≡_ {A = ℕ} 3 2 = cc in
     omega arith
+
+-- ---- readers checked against a count
+
+-- `1` has a number above 0
+one-above : MeansAbove 0 (49 ∷ []) 0
+one-above = record { list = lone 1 ∷ []; means = digit-means 1 (omega arith); first = here {a = lone 1} (omega arith) }
+
+-- one that never answers 20
+pub unchecked : (read : Reader) → ((t : List ℕ) (row : List Allele) → numberOf (read t row .answer) ≡ 20 → ⊥) → Checked 0 read → ⊥
+unchecked read n x = n _ [] (ap numberOf (x .above _ [] 0 .1 one-above))
+
+-- one that takes a site with no ALT for a site with one
+pub one-too-many : (read : Reader) → Checked 1 read → Checked 0 read → ⊥
+one-too-many read y x = by (y .above _ [] 0 .0 (x .above _ [] 0 .1 one-above))
+  where
+    by : MeansAbove 1 (49 ∷ []) 0 → ⊥
+    by m = first (rw (means-one _ _ _ (m .means) (digit-means 1 (omega arith))) at (m .first))
+      where
+        first : FirstAbove 1 (lone 1 ∷ []) 0 → ⊥
+        first (here h) = omega arith
+
+-- one that judges room before the numbers
+pub room-first : (read : Reader) → ((t : List ℕ) (row : List Allele) → Longer t row → read t row .answer ≡ says 17 []) → Checked 0 read → ⊥
+room-first read f x =
+    let a = f (49 ∷ []) [] (record { list = lone 1 ∷ []; means = digit-means 1 (omega arith); longer = omega arith }) in
+    let b = x .above _ [] 0 .1 one-above in
+    omega (arith, ap numberOf (sym a ∙ b))
 
 -- ---- steppers
 

@@ -19,6 +19,7 @@ pub mod MeansLaws
 pub mod BrokenLaws
 pub mod Exact
 pub mod Refusals
+pub mod Checked
 pub mod Visits
 pub mod Steps
 pub mod Blames

@@ -120,7 +120,7 @@ refusals t row = by (readingOf t) refl
 
 -- ---- one reader
 
-one-outcome : (o o′ : Outcome) → o .answer ≡ o′ .answer → o .row ≡ o′ .row → o ≡ o′
+pub one-outcome : (o o′ : Outcome) → o .answer ≡ o′ .answer → o .row ≡ o′ .row → o ≡ o′
 one-outcome o o′ e f =
     let z : _≡_ {A = Outcome} (record { answer = o .answer; row = o .row }) (record { answer = o′ .answer; row = o′ .row }) = cc in
     z

@@ -1,35 +1,47 @@
--- The reader of three slices answers and leaves what the reader of the demands does with the row that the slices stand for, so what
--- is proved of that holds of it. Assumes nothing.
+-- The readers of three slices answer and leave what the readers of the demands do with the row that the slices stand for, so what is
+-- proved of those holds of them. Assumes nothing.
+use Prim.Native.Nat.{ℕ}
 use mathlib.Core.Path.{_≡_, refl, _∙_}
 use mathlib.Core.Bool.{Bool, true, false}
 use mathlib.Core.List.{List}
 use lib.ListN.{length}
 use lib.Dec.{eqb}
 use Rattle.text.specs.Pick.{pick}
-use Rattle.text.specs.Answer.{numberOf}
-use Rattle.text.specs.Over.{over}
-use Rattle.genotype.specs.Reading.{readingOf, listOf}
+use Rattle.text.specs.Answer.{Answer, numberOf}
+use Rattle.text.specs.Over.{over, laid}
+use Rattle.lists.specs.AlternateBases.{altCount}
 use Rattle.genotype.specs.Row.{numbersOf, missingOf, phasedOf, rowOf}
-use Rattle.genotype.specs.Answers.{textAnswer}
-use Rattle.genotype.specs.Demands.{SlicesReader}
+use Rattle.genotype.specs.Answers.{rowAnswer, Parallel, Reads}
+use Rattle.genotype.specs.Paper.{readPaper}
+use Rattle.genotype.specs.Demands.{SlicesReader, SlicesChecked}
 use Rattle.genotype.specs.declared.allele.Allele.{Allele}
+use Rattle.genotype.specs.declared.read.Read.{Read}
 use Rattle.genotype.proofs.AnswerLaws.{row-even}
-use Rattle.genotype.proofs.ReaderLaws.{reader-answer, reader-row}
+use Rattle.genotype.proofs.ReaderLaws.{reader-answer, reader-row, checked-answer, checked-row}
 use Rattle.genotype.proofs.RowLaws.{row-length, row-over}
+
+-- given slices of one length, whatever the answer: it is given, and what is laid over them is laid over the row
+module _ (a : Answer) (as′ : List Allele) {n m p n′ m′ p′ : List ℕ} {r : Read} (q : Parallel n m p) (g : Reads (rowAnswer n m p a) as′ n m p r n′ m′ p′) where
+  even : Reads a as′ n m p r n′ m′ p′
+  even = rw (row-even n m p a (q .missing) (q .phased)) at g
+
+  row-laid : rowOf n′ m′ p′ ≡ laid a as′ (rowOf n m p)
+  row-laid = rw (even .numbers, even .missing, even .phased) (by (eqb (numberOf a) 0))
+    where
+      by : (done : Bool)
+          → rowOf (pick done (over (numbersOf as′) n) n) (pick done (over (missingOf as′) m) m) (pick done (over (phasedOf as′) p) p)
+          ≡ pick done (over as′ (rowOf n m p)) (rowOf n m p)
+      by true = row-over as′ n m p q
+      by false = refl
 
 pub slices-reader : SlicesReader
 unfolding SlicesReader
 slices-reader t n m p r n′ m′ p′ q g =
-    let k = rw (row-even n m p _ (q .missing) (q .phased)) at g in (
-      k .answer ∙ rw (reader-answer t (rowOf n m p), row-length n m p q),
-      rw (k .numbers, k .missing, k .phased, reader-row t (rowOf n m p), row-length n m p q) (by (eqb (numberOf (textAnswer t (length n))) 0)),
-    )
-  where
-    as′ : List Allele
-    as′ = listOf (readingOf t)
+    rw (reader-answer t (rowOf n m p), reader-row t (rowOf n m p), row-length n m p q) (even _ _ q g .answer, row-laid _ _ q g)
 
-    by : (done : Bool)
-        → rowOf (pick done (over (numbersOf as′) n) n) (pick done (over (missingOf as′) m) m) (pick done (over (phasedOf as′) p) p)
-        ≡ pick done (over as′ (rowOf n m p)) (rowOf n m p)
-    by true = row-over as′ n m p q
-    by false = refl
+pub slices-checked : SlicesChecked
+unfolding SlicesChecked
+slices-checked t alt n m p r n′ m′ p′ q g =
+    rw
+    (checked-answer (altCount alt) t (rowOf n m p), checked-row (altCount alt) t (rowOf n m p), row-length n m p q)
+    (even _ _ q g .answer, row-laid _ _ q g)

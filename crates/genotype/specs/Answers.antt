@@ -87,5 +87,9 @@ ReadsChecked t alt n m p r n′ m′ p′ = Reads (checkedSlices t alt n m p) (l
 abbrev pub rowRead : List ℕ → List Allele → List Allele
 rowRead t row = laid (textAnswer t (length row)) (listOf (readingOf t)) row
 
+-- and with no allele above a count, or above what an ALT column counts
+abbrev pub rowWithin : ℕ → List ℕ → List Allele → List Allele
+rowWithin count t row = laid (checkedAnswer count t (readingOf t) (length row)) (listOf (readingOf t)) row
+
 abbrev pub rowChecked : List ℕ → List ℕ → List Allele → List Allele
-rowChecked t alt row = laid (checkedText t alt (length row)) (listOf (readingOf t)) row
+rowChecked t alt row = rowWithin (altCount alt) t row

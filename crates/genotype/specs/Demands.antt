@@ -1,6 +1,6 @@
--- What demand 3 asks of any genotype reader, and what is asked of any step, as functions on lists (docs/RULES.md, "Genotypes";
--- docs/STATEMENTS.md). Assumes nothing.
-use Prim.Native.Nat.{ℕ, _+_, _≤_, _<_}
+-- What demand 3 asks of any genotype reader, and what is asked of any checked reader and of any step, as functions on lists
+-- (docs/RULES.md, "Genotypes"; docs/STATEMENTS.md). Assumes nothing.
+use Prim.Native.Nat.{ℕ, suc, _+_, _≤_, _<_}
 use mathlib.Core.Path.{_≡_}
 use mathlib.Core.Logic.{_↔_}
 use mathlib.Core.List.{List, [], _∷_}
@@ -8,10 +8,11 @@ use lib.ListN.{length, getD, drop}
 use Rattle.text.specs.Answer.{Answer, says, numberOf}
 use Rattle.text.specs.Over.{over}
 use Rattle.decimal.specs.Demands.{FaultAt}
-use Rattle.genotype.specs.Reading.{Reading, list, bad, foundAnswer}
+use Rattle.lists.specs.AlternateBases.{altCount}
+use Rattle.genotype.specs.Reading.{Reading, list, bad, foundAnswer, readingOf}
 use Rattle.genotype.specs.Row.{rowOf}
 use Rattle.genotype.specs.Paper.{readPaper}
-use Rattle.genotype.specs.Answers.{textAnswer, rowRead, Parallel, ReadsText}
+use Rattle.genotype.specs.Answers.{textAnswer, rowRead, checkedAnswer, rowWithin, Parallel, ReadsText, ReadsChecked}
 use Rattle.genotype.specs.Means.{Means, Begins, Broken}
 use Rattle.genotype.specs.declared.allele.Allele.{Allele}
 use Rattle.genotype.specs.declared.read.Read.{Read}
@@ -109,6 +110,53 @@ pub record Meets (read : Reader) : Type 0 where
 unfoldable pub OneReader : Type 0
 OneReader = (read other : Reader) → Meets read → Meets other → (t : List ℕ) (row : List Allele) → read t row ≡ other t row
 
+-- ---- readers that are checked against a count, whatever the rule that counts
+
+-- ours, over the definitions
+unfoldable pub checkedReader : ℕ → Reader
+checkedReader count t row =
+    record {
+      answer = checkedAnswer count t (readingOf t) (length row);
+      row = rowWithin count t row;
+    }
+
+-- the numbers of a list are all at most the count
+pub data AtMost (count : ℕ) : List Allele → Type 0 where
+  none : AtMost count []
+  more : {a : Allele} {as′ : List Allele} → a .number ≤ count → AtMost count as′ → AtMost count (a ∷ as′)
+
+-- the index of the first that is larger
+pub data FirstAbove (count : ℕ) : List Allele → ℕ → Type 0 where
+  here : {a : Allele} {as′ : List Allele} → count < a .number → FirstAbove count (a ∷ as′) 0
+  later : {a : Allele} {as′ : List Allele} {k : ℕ} → a .number ≤ count → FirstAbove count as′ k → FirstAbove count (a ∷ as′) (suc k)
+
+-- the text means a list of the one kind, or of the other
+pub record MeansAtMost (count : ℕ) (t : List ℕ) : Type 0 where
+  pub list : List Allele
+  pub means : Means t list
+  pub all : AtMost count list
+
+pub record MeansAbove (count : ℕ) (t : List ℕ) (k : ℕ) : Type 0 where
+  pub list : List Allele
+  pub means : Means t list
+  pub first : FirstAbove count list k
+
+-- an accepted text means a list whose numbers are all at most the count; a text that means a list with a larger one, and no other, is
+-- refused with 20 at the first such, whatever the room
+pub record Checked (count : ℕ) (read : Reader) : Type 0 where
+  pub accepted : (t : List ℕ) (row : List Allele) → numberOf (read t row .answer) ≡ 0 → MeansAtMost count t
+  pub above : (t : List ℕ) (row : List Allele) (k : ℕ) → (read t row .answer ≡ says 20 (k ∷ [])) ↔ MeansAbove count t k
+
+-- where no number is larger, it does as any plain reader; and a refusal leaves the row as it was
+pub record MeetsChecked (count : ℕ) (read : Reader) : Type 0 where
+  pub checked : Checked count read
+  pub plain : (other : Reader) → Meets other → (t : List ℕ) (row : List Allele) → ((k : ℕ) → MeansAbove count t k → ⊥) → read t row ≡ other t row
+  pub untouched : Untouched read
+
+-- two that meet these with one count give one answer and leave one row, for every text and row
+unfoldable pub OneChecked : Type 0
+OneChecked = (count : ℕ) (read other : Reader) → MeetsChecked count read → MeetsChecked count other → (t : List ℕ) (row : List Allele) → read t row ≡ other t row
+
 -- ---- steps
 
 -- a stepper is given a text and a place, and answers on paper
@@ -147,9 +195,14 @@ Steps step = (t : List ℕ) (at : ℕ) → StepsAt t at (step t at)
 unfoldable pub OneStepper : Type 0
 OneStepper = (step other : Stepper) → Steps step → Steps other → (t : List ℕ) (at : ℕ) → step t at ≡ other t at
 
--- ---- the reader over slices
+-- ---- the readers over slices
 
 -- given slices of one length, `read_genotype` answers as the reader does and leaves slices that stand for the row that it leaves
 unfoldable pub SlicesReader : Type 0
 SlicesReader = (t n m p : List ℕ) (r : Read) (n′ m′ p′ : List ℕ) → Parallel n m p → ReadsText t n m p r n′ m′ p′
     → (readPaper r ≡ reader t (rowOf n m p) .answer) × (rowOf n′ m′ p′ ≡ reader t (rowOf n m p) .row)
+
+-- and `read_checked` as the checked reader does, with the count of the ALT column that it is lent
+unfoldable pub SlicesChecked : Type 0
+SlicesChecked = (t alt n m p : List ℕ) (r : Read) (n′ m′ p′ : List ℕ) → Parallel n m p → ReadsChecked t alt n m p r n′ m′ p′
+    → (readPaper r ≡ checkedReader (altCount alt) t (rowOf n m p) .answer) × (rowOf n′ m′ p′ ≡ checkedReader (altCount alt) t (rowOf n m p) .row)
