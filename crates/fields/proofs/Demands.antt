@@ -18,7 +18,7 @@ use Rattle.fields.specs.Fields.{dotOf, dotPlaces, fieldAnswer}
 use Rattle.fields.specs.Demands.{ReadsAs, other, dot-itself, dot-empty, dot-absent, Made, Finds, FieldFinds, OneFinder}
 use Rattle.fields.proofs.RecordLaws.{field-reads}
 
-read-recorded : (s : List ℕ) (at next : ℕ) (r : Record) → ReadsLine s at (R.Line r next) → Recorded s at r
+pub read-recorded : (s : List ℕ) (at next : ℕ) (r : Record) → ReadsLine s at (R.Line r next) → Recorded s at r
 read-recorded s at next r m = recorded s at (sym m ∙ read-record refl)
 
 pub finds : Finds fieldAnswer

@@ -4,4 +4,5 @@ pub mod Determined
 pub mod RecordLaws
 pub mod CaseLaws
 pub mod Demands
+pub mod AltCount
 pub mod PosDemands

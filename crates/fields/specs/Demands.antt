@@ -1,11 +1,13 @@
--- What is asked of any function that gives the fields of a line that was read, and of any reader of POS (docs/RULES.md, "A line";
--- docs/STATEMENTS.md). Assumes nothing.
+-- What is asked of any function that gives the fields of a line that was read, what ALT then counts, and what is asked of any reader
+-- of POS (docs/RULES.md, "A line", "Genotypes"; docs/STATEMENTS.md). Assumes nothing.
 use Prim.Native.Nat.{ℕ, _+_, _<_}
 use mathlib.Core.Path.{_≡_}
 use mathlib.Core.Logic.{_↔_}
 use mathlib.Core.List.{List, [], _∷_}
 use lib.ListN.{length, drop}
 use Rattle.text.specs.Answer.{Answer, says}
+use Rattle.text.specs.Range.{cut}
+use Rattle.text.specs.declared.range.Range.{Range}
 use Rattle.decimal.specs.Demands.{Decimal, FirstFault}
 use Rattle.line.specs.Line.{Ending}
 use Rattle.line.specs.Place.{columnOf, columnStart}
@@ -14,10 +16,13 @@ use Rattle.line.specs.Demands.{Begins}
 use Rattle.line.specs.declared.read.Record.{Record}
 use Rattle.line.specs.declared.read.Read.the-variants as R
 use Rattle.line.specs.declared.place.Name.{Name}
+use Rattle.line.specs.declared.place.Name.the-variants as N
+use Rattle.lists.specs.AlternateBases.{altCount}
 use Rattle.fields.specs.Fields.{dotOf, empty, absent, itself}
 use Rattle.fields.specs.Paper.{fieldPaper}
 use Rattle.fields.specs.Promises.{FindsField}
 use Rattle.fields.specs.declared.field.Text.{Text}
+use Rattle.fields.specs.declared.field.Text.the-variants as F
 
 -- it is given a buffer, a record and a name, and answers on paper
 abbrev pub Finder : Type 0
@@ -53,6 +58,19 @@ FieldFinds = (s : List ℕ) (at : ℕ) (r : Record) (cs : List (List ℕ)) → M
 unfoldable pub OneFinder : Type 0
 OneFinder = (find other : Finder) → Finds find → Finds other → (s : List ℕ) (at next : ℕ) (r : Record) → ReadsLine s at (R.Line r next)
     → (n : Name) → find s r n ≡ other s r n
+
+-- ---- ALT
+
+-- it gives a text of the buffer, and this has so many alternate alleles
+pub record HasCount (s : List ℕ) (x : Text) (count : ℕ) : Type 0 where
+  pub range : Range
+  pub at : x ≡ F.At range
+  pub same : altCount (cut range s) ≡ count
+
+-- ALT as it stands in the line, be it `.`, and as `field` gives it, then empty, has one count
+unfoldable pub AltCounted : Type 0
+AltCounted = (s : List ℕ) (at : ℕ) (r : Record) (cs : List (List ℕ)) → Made s at r cs → (x : Text) → FindsField s r N.Alt x
+    → HasCount s x (altCount (columnOf N.Alt cs))
 
 -- ---- POS
 

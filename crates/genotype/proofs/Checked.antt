@@ -15,12 +15,12 @@ use Rattle.text.proofs.FirstLaws.{where-none, where-here, where-later}
 use Rattle.genotype.specs.Reading.{Reading, list, bad, empty, readingOf, listOf}
 use Rattle.genotype.specs.Answers.{readAnswer, firstAbove, aboveAnswer, checkedAnswer, textAnswer}
 use Rattle.genotype.specs.Means.{Means}
-use Rattle.genotype.specs.Demands.{Reader, reader, ExactAt, Exact, RefusedAt, Refusals, Meant, Untouched, checkedReader, AtMost, none, more, FirstAbove, here, later, MeansAtMost, MeansAbove, Checked, MeetsChecked, OneChecked, OneReader}
+use Rattle.genotype.specs.Demands.{reader, Meant, Untouched, checkedReader, AtMost, none, more, FirstAbove, here, later, MeansAtMost, MeansAbove, Checked, MeetsChecked, OneChecked, OneReader}
 use Rattle.genotype.specs.declared.allele.Allele.{Allele}
 use Rattle.genotype.proofs.AnswerLaws.{answer-list, answer-short, answer-bad, answer-empty}
-use Rattle.genotype.proofs.ReaderLaws.{reader-answer, checked-answer, checked-row}
+use Rattle.genotype.proofs.ReaderLaws.{checked-answer, checked-row}
 use Rattle.genotype.proofs.MeansLaws.{reads-means, means-one}
-use Rattle.genotype.proofs.Refusals.{refusals, one-outcome, meets, one-reader}
+use Rattle.genotype.proofs.Refusals.{one-outcome, meets, one-reader}
 
 -- ---- the first above a count
 

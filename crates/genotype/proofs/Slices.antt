@@ -1,10 +1,9 @@
 -- The readers of three slices answer and leave what the readers of the demands do with the row that the slices stand for, so what is
 -- proved of those holds of them. Assumes nothing.
 use Prim.Native.Nat.{ℕ}
-use mathlib.Core.Path.{_≡_, refl, _∙_}
+use mathlib.Core.Path.{_≡_, refl}
 use mathlib.Core.Bool.{Bool, true, false}
 use mathlib.Core.List.{List}
-use lib.ListN.{length}
 use lib.Dec.{eqb}
 use Rattle.text.specs.Pick.{pick}
 use Rattle.text.specs.Answer.{Answer, numberOf}
@@ -12,7 +11,6 @@ use Rattle.text.specs.Over.{over, laid}
 use Rattle.lists.specs.AlternateBases.{altCount}
 use Rattle.genotype.specs.Row.{numbersOf, missingOf, phasedOf, rowOf}
 use Rattle.genotype.specs.Answers.{rowAnswer, Parallel, Reads}
-use Rattle.genotype.specs.Paper.{readPaper}
 use Rattle.genotype.specs.Demands.{SlicesReader, SlicesChecked}
 use Rattle.genotype.specs.declared.allele.Allele.{Allele}
 use Rattle.genotype.specs.declared.read.Read.{Read}

@@ -1,5 +1,5 @@
 -- The ALT count: by whether the column is `.`, and then by whether it is empty. Assumes nothing.
-use Prim.Native.Nat.{ℕ, _+_, _<_}
+use Prim.Native.Nat.{ℕ, _<_}
 use mathlib.Core.Path.{_≡_, sym, _∙_}
 use mathlib.Core.Bool.{Bool, true, false}
 use mathlib.Core.List.{List, [], _∷_}
@@ -9,7 +9,7 @@ use lib.ListN.{length}
 use Rattle.text.specs.Same.{same}
 use Rattle.text.proofs.SameLaws.{same-self, same-not, same-other}
 use Rattle.text.proofs.ByteLaws.{none-empty, some-empty}
-use Rattle.pieces.specs.Pieces.{split, pieces, countOf}
+use Rattle.pieces.specs.Pieces.{split, pieces}
 use Rattle.pieces.proofs.PieceLaws.{split-count, pieces-none, pieces-some}
 use Rattle.lists.specs.AlternateBases.{altCount}
 
