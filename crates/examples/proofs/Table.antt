@@ -6,13 +6,14 @@ use Rattle.text.specs.Space as P
 use Rattle.text.specs.Same.{same}
 use Rattle.text.specs.Bytes as B
 use Rattle.text.specs.Range.{cut}
-use Rattle.text.specs.Over.{roomAnswer}
+use Rattle.text.specs.Over.{over, roomAnswer}
 use Rattle.text.specs.First.{firstWhere}
 use Rattle.decimal.specs.Decimal as D
 use Rattle.decimal.specs.Shortest.{shortest}
 use Rattle.pieces.specs.Before as K
 use Rattle.pieces.specs.Pieces as C
 use Rattle.fields.specs.Pos as L
+use Rattle.lists.specs.AlternateBases.{altCount}
 use Rattle.lists.specs.Judge as J
 use Rattle.lists.specs.Write as F
 use Rattle.genotype.specs.Reading as R
@@ -27,15 +28,15 @@ use Rattle.examples.specs.Table as T
 
 pub holds : T.Holds
 unfolding
-    T.table T.bytes T.answerTo T.questionOf T.replyOf T.entryReply T.bytesAt T.readReply T.spelledReply T.filtersReply
+    T.table T.bytes T.answerTo T.questionOf T.replyOf T.entryReply T.bytesAt T.readReply T.checkedReply T.noAlt T.spelledReply T.filtersReply
     U.charsOf U.charsFrom U.charSize U.leadOf U.leadIn U.table U.sizeBy U.follows U.second U.before
-    P.anySpace P.isSpace P.inAny P.spaces P.codePoint same firstWhere B.isEmpty B.endsIn cut roomAnswer
+    P.anySpace P.isSpace P.inAny P.spaces P.codePoint same firstWhere B.isEmpty B.endsIn cut over roomAnswer
     D.valueOf D.faultOf D.isDigit shortest
     C.split C.longer C.joined C.countOf C.lacks
     L.posAnswer L.positive
-    J.entryAnswer J.charsAnswer J.fine J.altFine J.filterFine J.symbolFine J.insideFine F.entriesAnswer
+    J.entryAnswer J.charsAnswer J.fine J.altFine J.filterFine J.symbolFine J.insideFine F.entriesAnswer altCount
     R.readingOf R.listOf R.partsOf R.impliedOf R.impliedBy R.piecesOf R.isMark R.headOf K.beforeEither R.markedPieces R.numbered R.bodied
-    R.alleleIn R.with R.gathered R.faultAt R.faultIn R.pieceFault A.readAnswer allPhased
+    R.alleleIn R.with R.gathered R.faultAt R.faultIn R.pieceFault A.readAnswer A.firstAbove A.aboveAnswer A.checkedAnswer allPhased
     S.spell M.from44 S.judged S.shaped N.firstUnsound N.isSound S.listText S.alleleText S.bodyText W.spelledAnswer W.textOf
     I.stepAnswer I.firstAnswer I.pairOf I.pairIn
 holds = refl

@@ -1,21 +1,22 @@
--- Fourteen worked examples as one table, and the one statement that the definitions answer as it says (docs/RULES.md, sections
--- 8, 10, 12 and 13). Assumes nothing.
+-- Sixteen worked examples as one table, and the one statement that the definitions answer as it says (docs/RULES.md, section 17).
+-- Assumes nothing.
 use Prim.Native.Nat.{ℕ}
 use Prim.Native.Char.{code}
 use Prim.Native.String as S
 use Prim.Native.String.{String}
 use mathlib.Core.Path.{_≡_}
-use mathlib.Core.Bool.{true, false}
+use mathlib.Core.Bool.{Bool, true, false}
 use mathlib.Core.List.{List, [], _∷_, map}
 use lib.ListN.{length}
 use Rattle.text.specs.Answer.{Answer, says}
+use Rattle.text.specs.Over.{laid}
 use Rattle.text.specs.Range.{cut, rangeAt}
 use Rattle.fields.specs.Pos.{posAnswer}
 use Rattle.lists.specs.Judge.{entryAnswer}
 use Rattle.lists.specs.Write.{listText, entriesAnswer}
 use Rattle.lists.specs.declared.write.Kind.the-variants as K
 use Rattle.genotype.specs.Reading.{readingOf, listOf}
-use Rattle.genotype.specs.Answers.{textAnswer}
+use Rattle.genotype.specs.Answers.{textAnswer, checkedText}
 use Rattle.genotype.specs.declared.allele.Allele.{Allele}
 use Rattle.spelling.specs.Spelling.{Spelled, spell}
 use Rattle.spelling.specs.Permitted.{from44}
@@ -34,6 +35,8 @@ pub data Question : Type 0 where
   infoAt : String → ℕ → Question
   -- what a genotype text reads as
   genotype : String → Question
+  -- and where an ALT column must have its alleles
+  checked : String → String → Question
   -- how a list of alleles is written at a file format, major and minor
   spelling : ℕ → ℕ → List Allele → Question
   -- whether an ALT entry is valid
@@ -48,7 +51,7 @@ pub data Reply : Type 0 where
   plain : Answer → Reply
   -- and the bytes of the key and of the value, if there is one
   entry : Answer → List (List ℕ) → Reply
-  -- and the alleles read
+  -- and the alleles read, none of which is left by a refusal
   alleles : Answer → List Allele → Reply
   -- and the bytes written
   written : Answer → List ℕ → Reply
@@ -70,6 +73,9 @@ entryReply t (says n (next ∷ places)) = entry (says n (next ∷ places)) (byte
 unfoldable pub readReply : List ℕ → Reply
 readReply t = alleles (textAnswer t (length (listOf (readingOf t)))) (listOf (readingOf t))
 
+unfoldable pub checkedReply : List ℕ → Answer → Reply
+checkedReply t a = alleles a (laid a (listOf (readingOf t)) [])
+
 -- given an output as long as the text
 unfoldable pub spelledReply : Spelled → Reply
 spelledReply s = written (spelledAnswer s (textOf s)) (textOf s)
@@ -81,6 +87,7 @@ filtersReply es = plain (entriesAnswer K.Filters es (listText K.Filters es))
 unfoldable pub answerTo : Question → Reply
 answerTo (infoAt t at) = entryReply (bytes t) (stepAnswer (bytes t) at)
 answerTo (genotype t) = readReply (bytes t)
+answerTo (checked t column) = checkedReply (bytes t) (checkedText (bytes t) (bytes column) (length (listOf (readingOf (bytes t)))))
 answerTo (spelling major minor as′) = spelledReply (spell (from44 major minor) as′)
 answerTo (alt t) = plain (entryAnswer K.Alts (bytes t))
 answerTo (filters es) = filtersReply (map bytes es)
@@ -104,8 +111,24 @@ phased n = record { number = n; missing = false; phased = true }
 abbrev pub unphased : ℕ → Allele
 unphased n = record { number = n; missing = false; phased = false }
 
--- an entry's answer has the next place, then start and length of the key and of the value; 12 and 14 have an index, and 12 then the
--- place of the byte at fault
+abbrev pub missing : Bool → Allele
+missing p = record { number = 0; missing = true; phased = p }
+
+-- at a site with no ALT, be it given as it stands in the line or as a field is read
+unfoldable pub noAlt : String → List Example
+noAlt column =
+    checked "0" column gives alleles (says 0 (1 ∷ [])) (phased 0 ∷ [])
+    ∷ checked "0|0" column gives alleles (says 0 (2 ∷ [])) (phased 0 ∷ phased 0 ∷ [])
+    ∷ checked "." column gives alleles (says 0 (1 ∷ [])) (missing true ∷ [])
+    ∷ checked "./." column gives alleles (says 0 (2 ∷ [])) (missing false ∷ missing false ∷ [])
+    ∷ checked "0/." column gives alleles (says 0 (2 ∷ [])) (unphased 0 ∷ missing false ∷ [])
+    ∷ checked "1" column gives alleles (says 20 (0 ∷ [])) []
+    ∷ checked "0/1" column gives alleles (says 20 (1 ∷ [])) []
+    ∷ checked "1|." column gives alleles (says 20 (0 ∷ [])) []
+    ∷ []
+
+-- an entry's answer has the next place, then start and length of the key and of the value; 12, 14 and 20 have an index, and 12 then
+-- the place of the byte at fault
 unfoldable pub table : List (List Example)
 table =
     -- 1. the key, and an empty value
@@ -136,6 +159,9 @@ table =
     ∷ (filters ("q10" ∷ "0" ∷ []) gives plain (says 14 (1 ∷ [])) ∷ [])
     -- 14. the position 1
     ∷ (pos "+1" gives plain (says 0 (1 ∷ [])) ∷ [])
+    -- 15. and 16. no number but 0 at a site with no ALT
+    ∷ noAlt "."
+    ∷ noAlt ""
     ∷ []
 
 -- every question of the table gets the reply that stands beside it
