@@ -1462,6 +1462,107 @@ def offsets(large, dice):
     yield from random_faults(large, dice)
 
 
+# ---- altcount, and the checked readers at sites with no ALT
+
+NO_ALTS = (b"", b".")
+# What is read at such a site, and what is above the count there.
+NO_ALT_GENOTYPES = (b"0", b"0|0", b".", b"./.", b"0/.", b"1", b"0/1", b"1|.")
+# The same in other spellings; numbers above the count more than once, after others, and beside bad ones.
+MORE_AT_NO_ALT = (
+    b"/0", b"|.", b"+0", b"00/+00", b".|.|.", b"0|0/0", b"+1", b"01", b"|1", b"/.|1", b"0|1|1", b"1/2/3", b"0/0/1",
+    b"./.|9", b"", b"x", b"1|x", b"x|1", b"1|", b"1//0", b"0|1|x", b"1|.5", b"1|%d" % (LARGEST + 1), b"%d/x" % LARGEST,
+)
+ALT_COLUMNS = (
+    # almost a dot alone
+    b"..", b"...", b". ", b" .", b" ", b".\x00", b"\x00.", b"\x00", b".\t", b".\n", b"\r", b".A", b"A.", b"-", b"0",
+    # entries that are dots or empty
+    b".,", b",.", b",", b".,.", b",,", b",.,", b"., .", b"..,", b".,.,.", b"A,.", b".,A", b"A,,C", b",A,", b",,A",
+    # entries of other shapes, commas between `<` and `>` too
+    b"<DEL>", b"*", b"<*>", b"<DEL>,*", b"A,<INS:ME:ALU>", b"<A,C>", b"<,>", b"<.>", b"<>", b"<,", b">,<",
+    b"]13:123456]T", b"G]17:198982],.", b"C[2:321682[,[<c>:7[T", b"GTC,G,GTCT", b"A, C", b"A,C ",
+    # bytes next to a comma and a dot and one bit away, and other separators
+    b"+", b"+-", b"-/", b"A+C-G", b"\x2d\x2e\x28\x24\x3c\x0c\x6c\xac", b"\x2f\x2c\x2a\x26\x3e\x0e\x6e\xae", b"\xac",
+    b"\xae", b"A;C", b"A|C", b"A/C", b"A\tC",
+    # other characters, commas and dots of Unicode, NUL, every byte, no UTF-8
+    "\u00e9".encode(), "\u8a9e,\U000233b4".encode(), "\uff0c\u060c\u3001".encode(), "\uff0e".encode(),
+    "\u2024".encode(), b"A\x00,\x00C", b"\x00,\x00", b",\x00", bytes(range(256)), b"\xff", b".\xff", b"\xff.",
+    b"\xc3,\xa9", b"\xff,\xfe,", b",\x80.",
+)
+
+
+def alt_columns(large):
+    """Columns of every kind, every byte alone and in some places, and all short ones of the bytes that count."""
+    yield from (*NO_ALTS, *ALTS, *ALT_COLUMNS)
+    yield from (record.split(b"\t")[FIELDS.index("alt")] for record in examples())
+    for byte in range(256):
+        put = bytes([byte])
+        yield from (put, b"." + put, put + b".", b"A" + put + b"C")
+        if large:
+            yield from (put + put, b"," + put, put + b",", b"." + put + b".", b".," + put, put + b"A,." + put)
+    yield from short_texts(b".,A<", 5)
+    yield from short_texts(b".,", 8)
+
+
+def long_alts(large):
+    """Columns of about as many bytes as a block may have: all commas or dots, a comma at either end, about the middle
+    and nowhere; and as many entries."""
+    about_blocks = (block + step for block in (8, 16, 32, 64, 128, 256) for step in (-1, 0, 1))
+    for length in range(1, 301) if large else (*about_blocks, 300):
+        one = [b"A" * at + b"," + b"A" * (length - 1 - at) for at in sorted({0, length // 2, length - 1})]
+        yield from (b"," * length, b"." * length, b"A" * length, *one)
+        yield from (b",".join([entry] * length) for entry in (b"A", b".", b"<DEL>"))
+    for length in (1_023, 1_024, 1_025, 4_095, 4_096, 4_097):
+        yield from (b"," * length, b"." * length, b"A" * (length - 1) + b",")
+
+
+def at_no_alt(large):
+    """Genotypes at sites with no ALT: into rows of none to more than needed; of every kind, short and long."""
+    for alt in NO_ALTS:
+        for text, row in itertools.product((*NO_ALT_GENOTYPES, *MORE_AT_NO_ALT), range(5)):
+            yield from both_checked(row, text, alt)
+        for text in (*GENOTYPES, *short_texts(b"01.|/+", 4 if large else 3)):
+            yield from both_checked(3, text, alt)
+        for body in allele_texts():
+            yield from both_checked(2, body, alt)
+            yield from both_checked(2, b"0|" + body, alt)
+        for count, row in itertools.product((63, 64, 65), (0, 1, 63, 64)):
+            noughts = [b"0"] * count
+            for changes in ({}, {0: b"1"}, {62: b"1"}, {count - 1: b"1"}, {0: b"1", count - 1: b"x"}):
+                yield from both_checked(row, b"/".join(replaced(noughts, changes)), alt)
+
+
+def about_alt_counts():
+    """Numbers about the count of columns that are near to those of no ALT, and of others."""
+    for alt in ALT_COLUMNS:
+        for value in range(alt.count(b",") + 4):
+            yield from both_checked(2, b"0/%d" % value, alt)
+
+
+def random_alt(dice):
+    """A column of none to six entries."""
+    entries = (b"A", b"C", b"GTC", b".", b".", b"*", b"<DEL>", b"", b"[2:3[T", b"\xc3\xa9")
+    return b",".join(dice.pick(entries) for _ in range(dice.roll(7)))
+
+
+def random_alts(large, dice):
+    """Good columns and damaged ones, and those of few bytes: the count, and a genotype there."""
+    for _ in range(2_000 if large else 100):
+        good = random_alt(dice)
+        short = bytes(dice.pick(b".,A") for _ in range(dice.roll(4)))
+        for column in (good, damaged(dice, good or b"."), damaged(dice, good or b".", b".,"), short):
+            yield ask("altcount", column)
+            text = dice.pick((b"0", b"1", b"|0")) + dice.pick((b"|", b"/")) + b"%d" % dice.roll(column.count(b",") + 3)
+            yield from both_checked(1 + dice.roll(3), text, column)
+
+
+def alt_counts(large, dice):
+    for column in (*alt_columns(large), *long_alts(large)):
+        yield ask("altcount", column)
+    yield from at_no_alt(large)
+    yield from about_alt_counts()
+    yield from random_alts(large, dice)
+
+
 # ---- the form of a case
 
 NO_CASES = (
@@ -1657,6 +1758,21 @@ NO_STEP_CASES = (
 )
 
 
+# The same of altcount.
+NO_ALT_CASES = (
+    # an unknown verb, an argument too few or too many, spaces
+    b"altcoun 41", b"altcounts 41", b"altscount 41", b"alt 41", b"acount 41", b"ltcount 41", b"alt count 41",
+    b"altcount41", b"ALTCOUNT 41", b"Altcount 41", b"altCount 41", b"alt_count 41", b"altcount", b"altcount ",
+    b"altcount  ", b"altcount 41 43", b"altcount 41 0", b"altcount - -", b"altcount 41 -", b"altcount 2 41",
+    b"altcount  41", b"altcount 41 ", b" altcount 41", b"altcount 41\r", b"altcount\t41", b"altcount 41\x00",
+    b"altcount\x00", b"altcount 4 1", b"alts 41", b"readalt 41",
+    # hex that is odd, upper case or none
+    b"altcount 4", b"altcount 412", b"altcount 2C", b"altcount 2E", b"altcount 412C43", b"altcount 4g", b"altcount .",
+    b"altcount ,", b"altcount A,C", b"altcount A", b"altcount *", b"altcount <DEL>", b"altcount --", b"altcount -2e",
+    b"altcount 2e-", b"altcount 0x2e", b"altcount 41,43", b"altcount 0", b"altcount \xff\xff",
+)
+
+
 def spoilt(lines, large):
     """Good lines with one byte put in, in every place, that makes each of them none."""
     for line, byte in itertools.product(lines, b"\x00\t\r \x7f\x80\xffxG" if large else b"\x00 x"):
@@ -1793,6 +1909,24 @@ def long_step_lines():
     yield ask("gtstep", b"|1" * 16_380, 32_761)
 
 
+def long_alt_lines(large):
+    """The same of altcount and, at large, of the checked readers."""
+    yield ask("altcount", filler(32_762) + b",")
+    yield ask("altcount", b"," * 32_763)
+    if large:
+        yield ask("altcount", b"," + filler(32_762))
+        yield ask("altcount", b"." * 32_763)
+        yield ask("altcount", filler(32_763))
+        yield ask("altcount", b".," * 16_381 + b".")
+        yield ask("altcount", b"." + b"\x00" * 32_762)
+        yield none(ask("altcount", b"," * 32_764)[0])
+        yield none(ask("altcount", b"." * 40_000)[0])
+        yield ask("readalt", 64, b"1", b"." * 32_761)
+        yield ask("allelesalt", 64, b"2", b"." * 32_759)
+        yield ask("readalt", 64, b"0|" * 16_380 + b"1", b"")
+        yield ask("allelesalt", 64, b"0/" * 16_379 + b"1", b".")
+
+
 def form(large):
     """Lines that are none and long lines, each before a case with an answer of its own: a shift shows at once."""
     good = (b"utf8 41", b"print 5 70", b"space -", b"decimal 2b37") if large else (b"utf8 41", b"print 5 70")
@@ -1800,7 +1934,7 @@ def form(large):
     steps = (b"info 61 0", b"key 61 61", *((b"scan 61", b"value 613d 61", b"sample 61 0") if large else ()))
     calls = (b"read 2 30", b"write 4 4 2 0 0:0:1", *((b"readalt 2 30 41", b"unequal 1 1 1 30") if large else ()))
     lists = (b"filters 2 0 61 1", *((b"alts 2 0 61 1",) if large else ()))
-    one_step = (b"gtstep 30 0",)
+    one_step, one_count = (b"gtstep 30 0",), (b"altcount 2c",)
     lines = (
         *map(none, (*NO_CASES, *spoilt(good, large))), *long_lines(large),
         *map(none, (*NO_RECORD_CASES, *spoilt(more, large))), *long_record_lines(large),
@@ -1808,6 +1942,7 @@ def form(large):
         *map(none, (*NO_GENOTYPE_CASES, *spoilt(calls, large))), *(long_genotype_lines() if large else ()),
         *map(none, (*NO_LIST_CASES, *spoilt(lists, large))), *(long_list_lines() if large else ()),
         *map(none, (*NO_STEP_CASES, *spoilt(one_step, large))), *(long_step_lines() if large else ()),
+        *map(none, (*NO_ALT_CASES, *spoilt(one_count, large))), *long_alt_lines(large),
     )
     for index, case in enumerate(lines):
         yield case
@@ -1821,6 +1956,7 @@ def areas(large):
         fields(large, Dice(5)), places(large), positions(large, Dice(6)), joins(large, Dice(7)),
         infos(large, Dice(8)), samples(large, Dice(9)), genotypes(large, Dice(10)), written_genotypes(large, Dice(11)),
         entry_lists(large, Dice(12)), genotype_steps(large, Dice(13)), offsets(large, Dice(14)),
+        alt_counts(large, Dice(15)),
     )
 
 

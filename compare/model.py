@@ -339,6 +339,11 @@ def piece_fault(piece):
     return marked + decimal_fault(piece[marked:])
 
 
+def alt_count(column):
+    """How many ALT alleles a column has: none where it is empty or one dot, else one more than its commas."""
+    return 0 if column in (b"", b".") else column.count(b",") + 1
+
+
 def read_genotype(text):
     """The list that a text means; or the numbers of a refusal."""
     if not text:
@@ -355,7 +360,8 @@ def checked_genotype(text, alt):
     """The same, where no allele's number may be above the ALT count."""
     made = read_genotype(text)
     if isinstance(made, list):
-        above = [value > alt.count(b",") + 1 for value, _, _ in made]
+        most = alt_count(alt)
+        above = [value > most for value, _, _ in made]
         if any(above):
             return ABOVE_ALT, above.index(True)
     return made
@@ -575,6 +581,10 @@ def read_alt(length, text, alt):
     return row_words(*laid_in_row(length, ROW_START, checked_genotype(text, alt)))
 
 
+def altcount(column):
+    return words(alt_count(column))
+
+
 def unequal(numbers, missing, phased, text):
     if not numbers == missing == phased:
         return slice_words((UNEQUAL,), ([7] * length for length in (numbers, missing, phased)))
@@ -645,6 +655,7 @@ VERBS = {
     b"subfield": (subfield, (hexed, number)),
     b"read": (read, (row_length, hexed)),
     b"readalt": (read_alt, (row_length, hexed, hexed)),
+    b"altcount": (altcount, (hexed,)),
     b"unequal": (unequal, (row_length, row_length, row_length, hexed)),
     b"gtstep": (gtstep, (hexed, number)),
     b"alleles": (alleles, (row_length, hexed)),

@@ -47,6 +47,10 @@ def more_lists(dice):
     yield from generate.random_joins(True, dice)
 
 
+def more_alts(dice):
+    return generate.random_alts(True, dice)
+
+
 # ---- all short texts
 
 # The bytes at the edges of UTF-8's table, and those of white space; then fewer of them.
@@ -167,8 +171,15 @@ def short_faults():
 
 
 def short_checked():
-    for text, alt in itertools.product(short_texts(b"012|/.", 5), (b"A", b"A,C")):
+    for text, alt in itertools.product(short_texts(b"012|/.", 5), (*generate.NO_ALTS, b"A", b"A,C")):
         yield from generate.both_checked(5, text, alt)
+
+
+def short_alts():
+    for column in (*short_texts(b".,A<", 8), *short_texts(b".,", 14)):
+        yield ask("altcount", column)
+    for column, value in itertools.product(short_texts(b".,A", 4), range(4)):
+        yield from generate.both_checked(2, b"0/%d" % value, column)
 
 
 def short_slices():
@@ -307,6 +318,18 @@ def near_alt_counts(dice):
         yield from generate.both_checked(len(values) + dice.roll(3) - 1, text[dice.roll(2) :], alt)
 
 
+def near_no_alt(dice):
+    """Columns about those of no ALT, with alleles about their count, and longer ones of the bytes that count."""
+    for _ in range(5_000):
+        column = bytes(dice.pick(b"...,,A<") for _ in range(dice.roll(4)))
+        yield ask("altcount", column)
+        yield ask("altcount", bytes(dice.pick(b".,A<") for _ in range(dice.roll(100))))
+        values = [dice.pick((b"0", b"0", b".", b"1", b"2", b"3")) for _ in range(1 + dice.roll(4))]
+        text = b"".join(dice.pick((b"|", b"/")) + value for value in values)
+        alt = dice.pick((b"", b".", column))
+        yield from generate.both_checked(len(values) + dice.roll(3) - 1, text[dice.roll(2) :], alt)
+
+
 # ---- damaged copies
 
 
@@ -378,7 +401,7 @@ def harmed_genotypes(dice):
     for _ in range(20_000):
         text = harmed(dice, dice.pick(generate.GENOTYPES), 1 + dice.roll(3), dice.pick((range(256), b"|/.+019")))
         yield from generate.both_readers(dice.roll(5), text)
-        yield from generate.both_checked(dice.roll(5), text, b"," * dice.roll(3))
+        yield from generate.both_checked(dice.roll(5), text, dice.pick((b"", b".", b",", b",,")))
         yield from generate.steps_over(text)
 
 
@@ -388,6 +411,7 @@ def harmed_entries(dice):
         at = dice.roll(len(entries))
         entries[at] = harmed(dice, entries[at], 1 + dice.roll(2), dice.pick((range(256), b"<>,;.0 a")))
         yield from generate.of_entries(entries)
+        yield ask("altcount", b",".join(entries))
         columns = harmed(dice, dice.pick(GOOD_LINES), 1, b"\t\n\r\xff").split(b"\t")
         yield from generate.both_ways(columns)
 
@@ -403,6 +427,7 @@ GOOD_CASES = (
     b"writeunequal 1 1 1 9", b"writealleles 4 4 9 1 10:0:1 0:256:0", b"filters 9 0 71313073 3,4",
     b"alts 9 1 413c433e 1,4", b"alts 2 0 - -", b"decimal 3132613334", b"pos 303030", b"read 3 302f31612f32",
     b"gtstep 307c312b32 1", b"allelesalt 3 2e7c2e35 41", b"unequal 1 1 1 31302f",
+    b"altcount 412c43", b"altcount 2e", b"readalt 3 302f31 2e", b"allelesalt 3 317c2e -",
 )
 
 
@@ -418,13 +443,13 @@ def harmed_cases(dice):
 
 # ---- all parts
 
-AGAIN = (more_texts, more_lines, more_fields, more_columns, more_samples, more_genotypes, more_lists)
+AGAIN = (more_texts, more_lines, more_fields, more_columns, more_samples, more_genotypes, more_lists, more_alts)
 EXHAUSTIVE = (
     short_characters, short_numbers, short_line_ends, short_line_tails, columns_of_every_kind, dots_of_every_kind,
     short_info_steps, short_info_keys, short_samples, short_genotypes, short_phasings, short_genotype_steps,
-    short_checked, short_slices, short_lists_of_alleles, short_entries, short_joins, short_faults,
+    short_checked, short_slices, short_lists_of_alleles, short_entries, short_joins, short_faults, short_alts,
 )
-NEAR = (near_numbers, near_places, near_line_ends, near_rooms, near_alt_counts, near_faults)
+NEAR = (near_numbers, near_places, near_line_ends, near_rooms, near_alt_counts, near_faults, near_no_alt)
 HARMED = (harmed_lines, harmed_columns, harmed_samples, harmed_genotypes, harmed_entries, harmed_cases)
 ROUNDS = 3
 

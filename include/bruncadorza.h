@@ -177,7 +177,8 @@ uint64_t bruncadorza_genotype_step(const uint8_t *text, size_t text_n, size_t at
 uint64_t bruncadorza_genotype_judge(const uint8_t *text, size_t text_n, size_t room,
                                     uint64_t values[BRUNCADORZA_VALUES]);
 
-/* The same where no number may be above the count of the ALT column `alt`. Also 20: the index of the first that is. */
+/* The same where no number may be above the count of the ALT column `alt` (bruncadorza_alt_count). Also 20: the index of the
+   first that is. The count is 0 where `alt` is `.` or empty. */
 uint64_t bruncadorza_genotype_judge_checked(const uint8_t *text, size_t text_n, const uint8_t *alt, size_t alt_n, size_t room,
                                             uint64_t values[BRUNCADORZA_VALUES]);
 
@@ -188,7 +189,8 @@ uint64_t bruncadorza_read_genotype(const uint8_t *text, size_t text_n,
                                    uint8_t *phased, size_t phased_n,
                                    uint64_t values[BRUNCADORZA_VALUES]);
 
-/* The same where no number may be above the count of the ALT column `alt`. Also 20: the index of the first that is. */
+/* The same where no number may be above the count of the ALT column `alt` (bruncadorza_alt_count). Also 20: the index of the
+   first that is. The count is 0 where `alt` is `.` or empty. */
 uint64_t bruncadorza_read_genotype_checked(const uint8_t *text, size_t text_n, const uint8_t *alt, size_t alt_n,
                                            uint64_t *numbers, size_t numbers_n, uint8_t *missing, size_t missing_n,
                                            uint8_t *phased, size_t phased_n,
@@ -210,7 +212,7 @@ uint64_t bruncadorza_judge_filter(const uint8_t *filter, size_t filter_n);
 /* Whether an ALT entry is valid: 0, 5 or 15. */
 uint64_t bruncadorza_judge_alt(const uint8_t *alt, size_t alt_n);
 
-/* How many alternate alleles an ALT column has: the count itself. */
+/* How many alternate alleles an ALT column has, none where it is `.` or empty, else its commas plus one: the count itself. */
 uint64_t bruncadorza_alt_count(const uint8_t *column, size_t column_n);
 
 /* Writes filters with `;` between, from the place `at` of `out` on. 0: how many bytes were written. 5, 14: the index of the

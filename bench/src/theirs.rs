@@ -80,12 +80,17 @@ pub fn genotypes(input: &Input, _: &mut Room) -> Tally {
     tally
 }
 
+/// A column that is `.` is empty here.
+fn alt_count(alts: &str) -> usize {
+    if alts.is_empty() { 0 } else { alts.bytes().filter(|&b| b == b',').count() + 1 }
+}
+
 /// The Rust has no checked reader: each number is held to the count of ALT entries, which is taken once a line.
 pub fn genotypes_checked(input: &Input, _: &mut Room) -> Tally {
     let mut tally = Tally::default();
     for record in &input.records {
         let alts = record.alternate_bases();
-        let count = alts.as_ref().bytes().filter(|&b| b == b',').count() + 1;
+        let count = alt_count(alts.as_ref());
         each_allele(record, |allele| {
             assert!(allele.0.is_none_or(|n| n <= count), "an allele that ALT has");
             add(allele, &mut tally);

@@ -166,6 +166,10 @@ static void judged_genotypes(void) {
     CHECK(bruncadorza_genotype_judge_checked(BYTES("3|1|"), BYTES("C,G"), 2, values) == BRUNCADORZA_BAD_NUMBER && two(values, 2, 4));
     CHECK(bruncadorza_genotype_judge_checked(BYTES("3|1a"), BYTES("C,G"), 2, values) == BRUNCADORZA_BAD_NUMBER && two(values, 1, 3));
     CHECK(bruncadorza_genotype_judge_checked(BYTES("3|18446744073709551616"), BYTES("C,G"), 2, values) == BRUNCADORZA_BAD_NUMBER && two(values, 1, 21));
+    CHECK(bruncadorza_genotype_judge_checked(BYTES("0/1"), BYTES("."), 2, values) == BRUNCADORZA_ABOVE_ALT && one(values, 1));
+    CHECK(bruncadorza_genotype_judge_checked(BYTES("0/1"), BYTES(""), 2, values) == BRUNCADORZA_ABOVE_ALT && one(values, 1));
+    CHECK(bruncadorza_genotype_judge_checked(BYTES("0|0"), BYTES("."), 2, values) == BRUNCADORZA_DONE && one(values, 2));
+    CHECK(bruncadorza_genotype_judge_checked(BYTES("0|0"), BYTES(""), 2, values) == BRUNCADORZA_DONE && one(values, 2));
 }
 
 static void read_genotypes(void) {
@@ -194,6 +198,12 @@ static void read_genotypes(void) {
     CHECK(numbers[0] == 0 && missing[0] == 1);
     CHECK(bruncadorza_read_genotype_checked(BYTES("2|0"), BYTES("C,G"), numbers, 3, missing, 3, phased, 3, values) == BRUNCADORZA_DONE && one(values, 2));
     CHECK(numbers[0] == 2 && missing[0] == 0 && numbers[2] == 7);
+    CHECK(bruncadorza_read_genotype_checked(BYTES("0/1"), BYTES("."), numbers, 3, missing, 3, phased, 3, values) == BRUNCADORZA_ABOVE_ALT && one(values, 1));
+    CHECK(bruncadorza_read_genotype_checked(BYTES("0/1"), BYTES(""), numbers, 3, missing, 3, phased, 3, values) == BRUNCADORZA_ABOVE_ALT && one(values, 1));
+    CHECK(numbers[0] == 2 && numbers[1] == 0 && phased[1] == 1);
+    CHECK(bruncadorza_read_genotype_checked(BYTES("0|0"), BYTES("."), numbers, 3, missing, 3, phased, 3, values) == BRUNCADORZA_DONE && one(values, 2));
+    CHECK(numbers[0] == 0 && missing[0] == 0 && numbers[2] == 7);
+    CHECK(bruncadorza_read_genotype_checked(BYTES("0|0"), BYTES(""), numbers, 3, missing, 3, phased, 3, values) == BRUNCADORZA_DONE && one(values, 2));
 }
 
 static void written_genotypes(void) {
@@ -227,6 +237,9 @@ static void written_lists(void) {
     CHECK(bruncadorza_judge_alt(BYTES("<>")) == BRUNCADORZA_BAD_ALT);
     CHECK(bruncadorza_judge_alt(BYTES("\xFF")) == BRUNCADORZA_NOT_UTF8);
     CHECK(bruncadorza_alt_count(BYTES("C,G")) == 2);
+    CHECK(bruncadorza_alt_count(BYTES("A")) == 1);
+    CHECK(bruncadorza_alt_count(BYTES(".")) == 0);
+    CHECK(bruncadorza_alt_count(BYTES(".,")) == 2);
     CHECK(bruncadorza_write_filters(BYTES("q1q2"), fallen, 2, out, 8, 1, values) == BRUNCADORZA_BAD_LENGTHS && none(values));
     CHECK(bruncadorza_write_filters(BYTES("q1; "), ends, 2, out, 8, 1, values) == BRUNCADORZA_BAD_FILTER && one(values, 1));
     CHECK(bruncadorza_write_filters(BYTES("q1q2"), ends, 2, out, 8, 4, values) == BRUNCADORZA_SHORT && none(values));
@@ -334,11 +347,11 @@ static void empty_slices(void) {
     CHECK(bruncadorza_genotype_judge(NULL, 0, 0, values) == BRUNCADORZA_GENOTYPE_EMPTY && none(values));
     CHECK(bruncadorza_genotype_judge_checked(NULL, 0, NULL, 0, 0, values) == BRUNCADORZA_GENOTYPE_EMPTY && none(values));
     CHECK(bruncadorza_read_genotype(BYTES("0"), NULL, 0, NULL, 0, NULL, 0, values) == BRUNCADORZA_SHORT && none(values));
-    CHECK(bruncadorza_read_genotype_checked(BYTES("2"), NULL, 0, NULL, 0, NULL, 0, NULL, 0, values) == BRUNCADORZA_ABOVE_ALT && one(values, 0));
+    CHECK(bruncadorza_read_genotype_checked(BYTES("1"), NULL, 0, NULL, 0, NULL, 0, NULL, 0, values) == BRUNCADORZA_ABOVE_ALT && one(values, 0));
     CHECK(bruncadorza_write_genotype(NULL, 0, NULL, 0, NULL, 0, 4, 4, NULL, 0, 0, values) == BRUNCADORZA_GENOTYPE_EMPTY && none(values));
     CHECK(bruncadorza_judge_filter(NULL, 0) == BRUNCADORZA_BAD_FILTER);
     CHECK(bruncadorza_judge_alt(NULL, 0) == BRUNCADORZA_BAD_ALT);
-    CHECK(bruncadorza_alt_count(NULL, 0) == 1);
+    CHECK(bruncadorza_alt_count(NULL, 0) == 0);
     CHECK(bruncadorza_write_filters(NULL, 0, NULL, 0, NULL, 0, 0, values) == BRUNCADORZA_SHORT && none(values));
     CHECK(bruncadorza_write_alts(NULL, 0, NULL, 0, NULL, 0, 0, values) == BRUNCADORZA_SHORT && none(values));
     CHECK(bruncadorza_join(NULL, 0, NULL, 0, NULL, 0, 0, values) == BRUNCADORZA_FEW_COLUMNS && none(values));

@@ -63,7 +63,7 @@ pub fn judge_alt(alt: &[u8]) -> Verdict {
     verdict_of(Kind::Alts, ffi::judge_alt(alt))
 }
 
-/// How many alternate alleles an ALT column has: its commas plus one.
+/// How many alternate alleles an ALT column has: none where it is `.` or empty, else its commas plus one.
 pub fn alt_count(column: &[u8]) -> usize {
     ffi::alt_count(column)
 }

@@ -1,8 +1,8 @@
 //! Holds the wrapper to the stored cases of the program `cases`: crates/cases/stdin and crates/cases/stdout, whose form
 //! docs/RULES.md, section 15, gives. The answers stored come from the Rust or a model of the rules, none from the library.
 //!
-//! Functions that no verb asks for (the judges of a genotype and of an entry, the ALT count, the iterators) are held to the answers
-//! of the verbs beside them, and so are all steps over a genotype together.
+//! Functions that no verb asks for (the judges of a genotype and of an entry, the iterators) are held to the answers of the verbs
+//! beside them, and so are all steps over a genotype together.
 
 use std::collections::BTreeMap;
 use std::fmt::Write as _;
@@ -16,7 +16,7 @@ use bruncadorza::{
 use genotype::Allele;
 
 /// Every verb that a case can have.
-const VERBS: [&str; 30] = [
+const VERBS: [&str; 31] = [
     "utf8",
     "space",
     "decimal",
@@ -46,6 +46,7 @@ const VERBS: [&str; 30] = [
     "writealleles",
     "filters",
     "alts",
+    "altcount",
     "join",
 ];
 
@@ -99,6 +100,8 @@ fn a_wrong_answer_is_seen() {
         ("read 1 31", "0 1 1:0:0"),
         ("read 1 302f2f31", "12 1 1 7:7:7"),
         ("readalt 1 32 41", "0 1 2:0:1"),
+        ("readalt 1 31 2e", "0 1 1:0:1"),
+        ("readalt 1 31 -", "0 1 1:0:1"),
         ("readalt 1 307c3161 41", "12 1 2 7:7:7"),
         ("unequal 1 2 1 31", "16 7 7 7"),
         ("unequal 1 1 1 307c", "12 1 1 7 7 7"),
@@ -114,6 +117,8 @@ fn a_wrong_answer_is_seen() {
         ("writealleles 4 4 1 0 1:0:1", "17 ee"),
         ("filters 1 0 - -", "0 1 2f"),
         ("alts 1 0 2c 1", "15 1 ee"),
+        ("altcount -", "1"),
+        ("altcount 2e", "1"),
         ("join 1 0 - -", "19 00"),
     ] {
         let difference = hold(case.as_bytes(), format!("{answer}\n").as_bytes());
@@ -199,6 +204,7 @@ fn answer(words: &[&str]) -> String {
         }
         ["filters", room, at, s, e] => filters(size(room), size(at), &bytes(s), &ends(e)),
         ["alts", room, at, s, e] => alts(size(room), size(at), &bytes(s), &ends(e)),
+        ["altcount", s] => lists::alt_count(&bytes(s)).to_string(),
         ["join", room, at, s, e] => join_columns(size(room), size(at), &bytes(s), &ends(e)),
         _ => panic!("no such case: {words:?}"),
     }

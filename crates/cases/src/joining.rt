@@ -1,8 +1,10 @@
-// The verbs of the crates join and lists, which write entries given as one text and their ends.
+// The verbs of the crates join and lists: those that write entries, given as one text and their
+// ends, and the ALT count.
 use crate::output::Answer;
 use crate::output::Buffer;
 use crate::output::Place;
 use crate::output::Said;
+use crate::output::put_number;
 use crate::output::put_said;
 use crate::output::then_hex;
 use crate::parts::first;
@@ -21,6 +23,7 @@ use crate::words::numbers;
 use crate::words::word;
 use join::columns::Joined;
 use join::columns::join;
+use lists::alternate_bases::alt_count;
 use lists::alternate_bases::write_alts;
 use lists::filters::write_filters;
 use lists::write::Write;
@@ -32,13 +35,32 @@ pub fn answer(
     out: &mut Buffer,
     at: Place,
 ) -> Answer {
-    if arguments != 4 {
+    let verb = index_in(b"join filters alts altcount", 4, word(case, 0));
+    if arguments != takes(verb) {
         return Answer::NoCase;
     }
-    let verb = index_in(b"join filters alts", 3, word(case, 0));
-    if verb == 3 {
-        return Answer::NoCase;
+    match verb {
+        0 | 1 | 2 => answer_writer(case, verb, text, out, at),
+        3 => answer_count(case, text, out, at),
+        _ => Answer::NoCase,
     }
+}
+
+// How many arguments a verb has.
+fn takes(verb: usize) -> usize {
+    if verb == 3 { 1 } else { 4 }
+}
+
+// `altcount`, which is given a column alone.
+fn answer_count(case: &[u8], text: &mut Text, out: &mut Buffer, at: Place) -> Answer {
+    let Decoded::Upto(end) = decode(case, 1, text, 0) else {
+        return Answer::NoCase;
+    };
+    Answer::Given(put_number(out, at, alt_count(part(text, 0, end)) as u64))
+}
+
+// `join`, `filters` and `alts`, which write.
+fn answer_writer(case: &[u8], verb: usize, text: &mut Text, out: &mut Buffer, at: Place) -> Answer {
     let mut ends = [0usize; 1024];
     answer_list(case, verb, text, &mut ends, out, at)
 }

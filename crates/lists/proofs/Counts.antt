@@ -47,6 +47,6 @@ counts-written [] h n = count-dot
 counts-written (e ∷ es) h n =
     let s = split-back 44 (e ∷ es) (omega arith) (λ i l. h i l .no-comma) in
     let m : joined 44 (e ∷ es) ≡ [] → ⊥ =
-        λ z. let q = sym s ∙ ap (split 44) z ∙ split-whole [] free-nil in
-        omega (arith, h 0 (omega arith) .some, ap (λ (l : List (List ℕ)). length (getD l 0 [])) q) in
+    λ z. let q = sym s ∙ ap (split 44) z ∙ split-whole [] free-nil in
+    omega (arith, h 0 (omega arith) .some, ap (λ (l : List (List ℕ)). length (getD l 0 [])) q) in
     count-split _ (joined-not-dot K.Alts (e ∷ es) s n) (some _ m) ∙ rw s
