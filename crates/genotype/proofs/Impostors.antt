@@ -8,6 +8,7 @@ use native.Mathlib.Omega.{arith}
 use native.Mathlib.Decide.{ℕ-discrete}
 use Rattle.text.specs.Answer.{says, numberOf}
 use Rattle.text.specs.Over.{over}
+use Rattle.text.specs.First.{here}
 use Rattle.text.proofs.Lists.{over-is}
 use Rattle.pieces.proofs.PieceLaws.{free-nil}
 use Rattle.pieces.proofs.CountLaws.{lacks-none}
@@ -15,7 +16,7 @@ use Rattle.decimal.specs.Decimal.{faultOf}
 use Rattle.decimal.proofs.FirstFault.{decimal-fault}
 use Rattle.genotype.specs.Reading.{foundAnswer, stepAnswer}
 use Rattle.genotype.specs.Means.{none, more, Means, bare, at-end, without, bad-here, Broken, bad-after}
-use Rattle.genotype.specs.Demands.{Reader, reader, Stands, ExactAt, Exact, Longer, Refusals, FirstAbove, here, MeansAbove, Checked, Stepper, Walk, next, Visits, Steps, OneStepper}
+use Rattle.genotype.specs.Demands.{Reader, reader, Stands, ExactAt, Exact, Longer, Refusals, FirstAbove, MeansAbove, Checked, Stepper, Walk, next, Visits, Steps, OneStepper}
 use Rattle.genotype.specs.declared.allele.Allele.{Allele}
 use Rattle.genotype.proofs.PhasedLaws.{phased-none, phased-more}
 use Rattle.genotype.proofs.MeansLaws.{means-one}
@@ -123,7 +124,7 @@ invented-offset read f x =
 
 -- `1` has a number above 0
 one-above : MeansAbove 0 (49 ∷ []) 0
-one-above = record { list = lone 1 ∷ []; means = digit-means 1 (omega arith); first = here {a = lone 1} (omega arith) }
+one-above = record { list = lone 1 ∷ []; means = digit-means 1 (omega arith); first = here {x = lone 1} (omega arith) }
 
 -- one that never answers 20
 pub unchecked : (read : Reader) → ((t : List ℕ) (row : List Allele) → numberOf (read t row .answer) ≡ 20 → ⊥) → Checked 0 read → ⊥

@@ -2,7 +2,8 @@
 -- the first that is not. Assumes nothing.
 use Prim.Native.Nat.{ℕ, zero, suc, _+_, _<_, _≤_}
 use mathlib.Core.Path.{_≡_, refl, sym, ap, _∙_}
-use mathlib.Core.Bool.{Bool, true, false, not}
+use mathlib.Core.Bool.{Bool, true, false, not, false≢true}
+use mathlib.Core.Logic.{_↔_}
 use mathlib.Core.List.{List, [], _∷_, _++_}
 use mathlib.Core.Option.{some, none}
 use native.Mathlib.Omega.{arith}
@@ -10,10 +11,12 @@ use native.Mathlib.Nat.{le-of-suc-le-suc}
 use native.Mathlib.Numerals.{add-one}
 use lib.ListN.{length, getD, drop, drop-of-length-le}
 use lib.Dec.{eqb}
+use borrow.Author.Tests.{not-true, eq-eqb, ne-eqb}
 use Rattle.text.specs.Pick.{oneIf}
+use Rattle.text.specs.First.{FirstOf}
 use Rattle.text.specs.Over.{over}
 use Rattle.text.proofs.Lists.{over-is}
-use Rattle.text.proofs.FirstLaws.{where-none, where-here, where-later}
+use Rattle.text.proofs.FirstLaws.{where-none, where-here, where-later, is-first, first-is, none-first, first-none}
 use Rattle.genotype.specs.Row.{numbersOf, missingOf, phasedOf, alleleAt, rowOf, isSound, firstUnsound}
 use Rattle.genotype.specs.Answers.{Parallel}
 use Rattle.genotype.specs.declared.allele.Allele.{Allele}
@@ -114,3 +117,33 @@ module _ (k : ℕ) (a : Allele) (as′ : List Allele) where
           let s = sym (unsound-here h) ∙ e in
           let z : _≡_ {A = ℕ} 0 1 = cc in
           absurd (omega arith)
+
+-- ---- the first that is not, in the rules' words
+
+-- missing, with a number other than 0
+abbrev pub Spoilt : Allele → Type 0
+Spoilt a = (a .missing ≡ true) × (a .number ≡ 0 → ⊥)
+
+spoilt-exact : (a : Allele) → (not (isSound a) ≡ true) ↔ Spoilt a
+spoilt-exact a = (λ e. by (a .missing) refl (not-true _ e), λ h. rw (← sound-missing a (h .0), ne-eqb _ 0 (h .1)))
+  where
+    by : (m : Bool) → a .missing ≡ m → isSound a ≡ false → Spoilt a
+    by true m s = (m, λ n. false≢true (sym s ∙ sym (sound-missing a m) ∙ eq-eqb _ 0 n))
+    by false m s = absurd (false≢true (sym s ∙ sym (sound-there a m)))
+
+module _ (as′ : List Allele) where
+  pub unsound-first : {k : ℕ} → FirstOf Spoilt as′ k → firstUnsound 0 as′ ≡ some k
+  unfolding firstUnsound
+  unsound-first u = is-first _ spoilt-exact as′ u
+
+  pub first-unsound : {k : ℕ} → firstUnsound 0 as′ ≡ some k → FirstOf Spoilt as′ k
+  unfolding firstUnsound
+  first-unsound e = first-is _ spoilt-exact as′ e
+
+  pub none-unsound : firstUnsound 0 as′ ≡ none → (k : ℕ) → FirstOf Spoilt as′ k → ⊥
+  unfolding firstUnsound
+  none-unsound e = none-first _ spoilt-exact as′ e
+
+  pub sound-first : ((k : ℕ) → FirstOf Spoilt as′ k → ⊥) → firstUnsound 0 as′ ≡ none
+  unfolding firstUnsound
+  sound-first n = first-none _ spoilt-exact as′ n

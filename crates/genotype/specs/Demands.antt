@@ -1,12 +1,14 @@
 -- What demand 3 asks of any genotype reader, and what is asked of any checked reader and of any step, as functions on lists
 -- (docs/RULES.md, "Genotypes"; docs/STATEMENTS.md). Assumes nothing.
-use Prim.Native.Nat.{ℕ, suc, _+_, _≤_, _<_}
+use Prim.Native.Nat.{ℕ, _+_, _≤_, _<_}
 use mathlib.Core.Path.{_≡_}
+use mathlib.Core.Bool.{true}
 use mathlib.Core.Logic.{_↔_}
 use mathlib.Core.List.{List, [], _∷_}
 use lib.ListN.{length, getD, drop}
 use Rattle.text.specs.Answer.{Answer, says, numberOf}
 use Rattle.text.specs.Over.{over}
+use Rattle.text.specs.First.{FirstOf}
 use Rattle.decimal.specs.Demands.{FaultAt}
 use Rattle.lists.specs.AlternateBases.{altCount}
 use Rattle.genotype.specs.Reading.{Reading, list, bad, foundAnswer, readingOf}
@@ -121,14 +123,12 @@ checkedReader count t row =
     }
 
 -- the numbers of a list are all at most the count
-pub data AtMost (count : ℕ) : List Allele → Type 0 where
-  none : AtMost count []
-  more : {a : Allele} {as′ : List Allele} → a .number ≤ count → AtMost count as′ → AtMost count (a ∷ as′)
+pub record AtMost (count : ℕ) (as′ : List Allele) : Type 0 where
+  pub each : (i : ℕ) → i < length as′ → getD as′ i (record { number = 0; missing = true; phased = true }) .number ≤ count
 
 -- the index of the first that is larger
-pub data FirstAbove (count : ℕ) : List Allele → ℕ → Type 0 where
-  here : {a : Allele} {as′ : List Allele} → count < a .number → FirstAbove count (a ∷ as′) 0
-  later : {a : Allele} {as′ : List Allele} {k : ℕ} → a .number ≤ count → FirstAbove count as′ k → FirstAbove count (a ∷ as′) (suc k)
+abbrev pub FirstAbove : ℕ → List Allele → ℕ → Type 0
+FirstAbove count as′ k = FirstOf (λ (a : Allele). count < a .number) as′ k
 
 -- the text means a list of the one kind, or of the other
 pub record MeansAtMost (count : ℕ) (t : List ℕ) : Type 0 where

@@ -1,7 +1,7 @@
 -- The ALT count: by whether the column is `.`, and then by whether it is empty. Assumes nothing.
 use Prim.Native.Nat.{ℕ, _<_}
 use mathlib.Core.Path.{_≡_, sym, _∙_}
-use mathlib.Core.Bool.{Bool, true, false}
+use mathlib.Core.Bool.{Bool, true, false, or-true}
 use mathlib.Core.List.{List, [], _∷_}
 use native.Mathlib.Omega.{arith}
 use native.Mathlib.Decide.{ℕ-discrete}
@@ -17,17 +17,17 @@ pub count-dot : altCount (46 ∷ []) ≡ 0
 unfolding altCount
 count-dot = rw (same-self (46 ∷ []))
 
-module _ (t : List ℕ) (n : t ≡ 46 ∷ [] → ⊥) where
-  pub count-none : length t ≡ 0 → altCount t ≡ 0
-  unfolding altCount
-  count-none h = rw (same-not t (46 ∷ []) n, none-empty t h)
+pub count-none : (t : List ℕ) → length t ≡ 0 → altCount t ≡ 0
+unfolding altCount
+count-none t h = rw (none-empty t h, or-true (same t (46 ∷ [])))
 
+module _ (t : List ℕ) (n : t ≡ 46 ∷ [] → ⊥) where
   pub count-split : 0 < length t → altCount t ≡ length (split 44 t)
   unfolding altCount
   count-split h = rw (same-not t (46 ∷ []) n, some-empty t h) (sym (split-count 44 t))
 
   count-pieces : Dec (length t ≡ 0) → altCount t ≡ length (pieces 44 t)
-  count-pieces (yes h) = count-none h ∙ rw (pieces-none 44 t h)
+  count-pieces (yes h) = count-none t h ∙ rw (pieces-none 44 t h)
   count-pieces (no h) = rw (pieces-some 44 t (omega arith)) (count-split (omega arith))
 
 -- ---- as it is counted

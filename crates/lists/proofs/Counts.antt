@@ -25,7 +25,7 @@ pub counts : Counts altCount
 counts =
     record {
       dot = count-dot;
-      empty = count-none [] (λ e. omega (arith, ap length e)) refl;
+      empty = count-none [] refl;
       other = λ t es n s c. count-split t n (some t s) ∙ rw (split-only es c);
     }
 

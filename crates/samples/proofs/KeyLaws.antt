@@ -28,15 +28,15 @@ use Rattle.samples.specs.declared.keys.Key.the-variants as K
 
 -- ---- the keys one by one
 
-pub index-none : (i : ℕ) (key : List ℕ) → indexIn i [] key ≡ says 10 []
+index-none : (i : ℕ) (key : List ℕ) → indexIn i [] key ≡ says 10 []
 unfolding indexIn indexAnswer
 index-none i key = rw (where-none (λ (k : List ℕ). same k key) i)
 
-pub index-here : (i : ℕ) (k : List ℕ) (ks : List (List ℕ)) (key : List ℕ) → same k key ≡ true → indexIn i (k ∷ ks) key ≡ says 0 (i ∷ [])
+index-here : (i : ℕ) (k : List ℕ) (ks : List (List ℕ)) (key : List ℕ) → same k key ≡ true → indexIn i (k ∷ ks) key ≡ says 0 (i ∷ [])
 unfolding indexIn indexAnswer
 index-here i k ks key e = rw (where-here (λ (k : List ℕ). same k key) i k ks e)
 
-pub index-later : (i : ℕ) (k : List ℕ) (ks : List (List ℕ)) (key : List ℕ) → same k key ≡ false → indexIn i (k ∷ ks) key ≡ indexIn (i + 1) ks key
+index-later : (i : ℕ) (k : List ℕ) (ks : List (List ℕ)) (key : List ℕ) → same k key ≡ false → indexIn i (k ∷ ks) key ≡ indexIn (i + 1) ks key
 unfolding indexIn indexAnswer
 index-later i k ks key e = rw (where-later (λ (k : List ℕ). same k key) i k ks e)
 

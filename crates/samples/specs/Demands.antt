@@ -3,8 +3,9 @@
 use Prim.Native.Nat.{ℕ, _<_}
 use mathlib.Core.Path.{_≡_}
 use mathlib.Core.List.{List, [], _∷_}
-use lib.ListN.{length, getD}
+use lib.ListN.{length}
 use Rattle.text.specs.Answer.{Answer, says}
+use Rattle.text.specs.First.{FirstOf}
 use Rattle.pieces.specs.Pieces.{pieces}
 use Rattle.pieces.specs.Demands.{Walk, Numbered}
 
@@ -21,8 +22,8 @@ Subfields subfield = (t : List ℕ) (n : ℕ) → Numbered (pieces 58 t) t n (su
 
 -- the index of the first of the keys that is equal, or 10 where none is
 pub data FirstKey (ks : List (List ℕ)) (key : List ℕ) : Answer → Type 0 where
-  first : {i : ℕ} → i < length ks → getD ks i [] ≡ key → ((j : ℕ) → j < i → getD ks j [] ≡ key → ⊥) → FirstKey ks key (says 0 (i ∷ []))
-  none : ((j : ℕ) → j < length ks → getD ks j [] ≡ key → ⊥) → FirstKey ks key (says 10 [])
+  first : {i : ℕ} → FirstOf (λ (k : List ℕ). k ≡ key) ks i → FirstKey ks key (says 0 (i ∷ []))
+  none : ((i : ℕ) → FirstOf (λ (k : List ℕ). k ≡ key) ks i → ⊥) → FirstKey ks key (says 10 [])
 
 unfoldable pub Keys : (List ℕ → List ℕ → Answer) → Type 0
 Keys index = (format key : List ℕ) → FirstKey (pieces 58 format) key (index format key)

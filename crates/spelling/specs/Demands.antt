@@ -1,16 +1,18 @@
 -- What demand 3 asks of any genotype writer, as a function on lists (docs/RULES.md, "Genotypes"; docs/STATEMENTS.md). Assumes
 -- nothing.
-use Prim.Native.Nat.{ℕ, suc, _+_, _≤_, _<_}
+use Prim.Native.Nat.{ℕ, _+_, _≤_, _<_}
 use mathlib.Core.Path.{_≡_}
 use mathlib.Core.Bool.{Bool, true, false}
 use mathlib.Core.Logic.{_↔_}
 use mathlib.Core.List.{List, [], _∷_}
-use lib.ListN.{length, getD, take, drop}
+use lib.ListN.{length, take, drop}
 use Rattle.text.specs.Answer.{Answer, says, numberOf}
 use Rattle.text.specs.Over.{overAt}
+use Rattle.text.specs.First.{FirstOf}
 use Rattle.genotype.specs.Means.{Means, allPhased}
 use Rattle.genotype.specs.Row.{rowOf}
 use Rattle.genotype.specs.Answers.{Parallel}
+use Rattle.genotype.specs.Demands.{AtMost}
 use Rattle.genotype.specs.declared.allele.Allele.{Allele}
 use Rattle.spelling.specs.Permitted.{from44, Permitted, TheShortest}
 use Rattle.spelling.specs.Paper.{writePaper}
@@ -54,9 +56,8 @@ WritesShortest write = (major minor : ℕ) (as′ : List Allele) (out : List ℕ
 -- ---- what is refused
 
 -- the index of the first allele that is missing and has a number other than 0
-pub data Unsound : List Allele → ℕ → Type 0 where
-  here : {a : Allele} {as′ : List Allele} → a .missing ≡ true → (a .number ≡ 0 → ⊥) → Unsound (a ∷ as′) 0
-  later : {a : Allele} {as′ : List Allele} {k : ℕ} → (a .missing ≡ true → a .number ≡ 0) → Unsound as′ k → Unsound (a ∷ as′) (suc k)
+abbrev pub Unsound : List Allele → ℕ → Type 0
+Unsound as′ k = FirstOf (λ (a : Allele). (a .missing ≡ true) × (a .number ≡ 0 → ⊥)) as′ k
 
 -- a list that has no spelling: 11 where it is empty; 12 with that index; 13 where no allele is so, the file format is below 4.4 and the
 -- first phasing is not the implied one
@@ -103,8 +104,8 @@ Exact write = (major minor : ℕ) (as′ : List Allele) (out : List ℕ) (at : �
     → (numberOf (write major minor as′ out at .answer) ≡ 0 → ⊥) ↔ ((t : List ℕ) → Permitted (from44 major minor) as′ t → ⊥)
 
 -- each number has at most 64 bits
-pub record Fitting (as′ : List Allele) : Type 0 where
-  pub each : (i : ℕ) → i < length as′ → getD as′ i (record { number = 0; missing = true; phased = true }) .number ≤ 18446744073709551615
+abbrev pub Fitting : List Allele → Type 0
+Fitting as′ = AtMost 18446744073709551615 as′
 
 -- what is written means the list, with every phasing
 unfoldable pub RoundTrip : Writer → Type 0
