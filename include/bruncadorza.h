@@ -178,7 +178,7 @@ uint64_t bruncadorza_genotype_judge(const uint8_t *text, size_t text_n, size_t r
                                     uint64_t values[BRUNCADORZA_VALUES]);
 
 /* The same where no number may be above the count of the ALT column `alt` (bruncadorza_alt_count). Also 20: the index of the
-   first that is. The count is 0 where `alt` is `.` or empty. */
+   first that is. */
 uint64_t bruncadorza_genotype_judge_checked(const uint8_t *text, size_t text_n, const uint8_t *alt, size_t alt_n, size_t room,
                                             uint64_t values[BRUNCADORZA_VALUES]);
 
@@ -190,7 +190,7 @@ uint64_t bruncadorza_read_genotype(const uint8_t *text, size_t text_n,
                                    uint64_t values[BRUNCADORZA_VALUES]);
 
 /* The same where no number may be above the count of the ALT column `alt` (bruncadorza_alt_count). Also 20: the index of the
-   first that is. The count is 0 where `alt` is `.` or empty. */
+   first that is. */
 uint64_t bruncadorza_read_genotype_checked(const uint8_t *text, size_t text_n, const uint8_t *alt, size_t alt_n,
                                            uint64_t *numbers, size_t numbers_n, uint8_t *missing, size_t missing_n,
                                            uint8_t *phased, size_t phased_n,

@@ -12,8 +12,7 @@ pub fn read_alleles(text: &[u8], row: &mut [Allele]) -> Read {
     })
 }
 
-/// The same where no number may be above the count of the ALT column `alt` ([`alt_count`](crate::lists::alt_count)). It is 0
-/// where `alt` is `.` or empty.
+/// The same where no number may be above the count of the ALT column `alt` ([`alt_count`](crate::lists::alt_count)).
 pub fn read_alleles_checked(text: &[u8], alt: &[u8], row: &mut [Allele]) -> Read {
     let judged = genotype::judge_checked(text, alt, row.len());
     fill(judged, row, |numbers, missing, phased| {

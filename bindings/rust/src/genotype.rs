@@ -129,8 +129,7 @@ pub fn judge(text: &[u8], room: usize) -> Read {
     read_of(ffi::genotype_judge(text, room))
 }
 
-/// The same where no number may be above the count of the ALT column `alt` ([`alt_count`](crate::lists::alt_count)). It is 0
-/// where `alt` is `.` or empty.
+/// The same where no number may be above the count of the ALT column `alt` ([`alt_count`](crate::lists::alt_count)).
 pub fn judge_checked(text: &[u8], alt: &[u8], room: usize) -> Read {
     read_of(ffi::genotype_judge_checked(text, alt, room))
 }
@@ -145,8 +144,7 @@ pub fn read_genotype(
     read_of(ffi::read_genotype(text, numbers, missing, phased))
 }
 
-/// The same where no number may be above the count of the ALT column `alt` ([`alt_count`](crate::lists::alt_count)). It is 0
-/// where `alt` is `.` or empty.
+/// The same where no number may be above the count of the ALT column `alt` ([`alt_count`](crate::lists::alt_count)).
 pub fn read_checked(
     text: &[u8],
     alt: &[u8],
