@@ -60,16 +60,20 @@ def listed(line, rust, ours):
 
 # ---- what the Rust does not answer
 
-# By verb: the refusal that has an offset, and which of the answer's values that is. The Rust's has none.
-OFFSETS = {b"decimal": ("12", 1), b"pos": ("21", 1), b"read": ("12", 2), b"alleles": ("12", 2), b"gtstep": ("12", 1)}
+# By verb: the number whose answer has a value more than the Rust's, and which of the answer's values that is. Of a
+# refusal it is the offset, of an accepted line the ending.
+LEFT_OUT = {
+    b"decimal": ("12", 1), b"pos": ("21", 1), b"read": ("12", 2), b"alleles": ("12", 2), b"gtstep": ("12", 1),
+    b"line": ("0", 2),
+}
 
 
-def without_offset(line, ours):
-    """The model's answer as the Rust can give it; an error where the model left the offset out."""
+def as_the_rust_has_it(line, ours):
+    """The model's answer as the Rust can give it. Where the model left that value out, it is an error or differs."""
     verb = line.split(b" ", 1)[0]
-    if verb not in OFFSETS:
+    if verb not in LEFT_OUT:
         return ours
-    number, index = OFFSETS[verb]
+    number, index = LEFT_OUT[verb]
     values = ours.split(" ")
     if values[0] == number:
         del values[index]
@@ -107,15 +111,15 @@ def the_rust(oracle, cases):
 
 
 def expected(case, rust, ours):
-    """What is to be answered: the Rust's answer, with the model's offset where one belongs there; or the model's where
-    the Rust has none or the difference is listed.
+    """What is to be answered: the Rust's answer, with the model's offset or ending where one belongs there; or the
+    model's where the Rust has none or the difference is listed.
 
     None where the Rust and the model differ otherwise, or where the model's `?` is not what the line was built as.
     """
     line, good = case
     if good is not None and good != (ours != "?"):
         return None
-    if rust is None or rust == without_offset(line, ours):
+    if rust is None or rust == as_the_rust_has_it(line, ours):
         return ours
     return ours if listed(line, rust, ours) else None
 

@@ -280,7 +280,8 @@ def prints(large, dice):
 FIELDS = ("chrom", "pos", "id", "ref", "alt", "qual", "filter", "info", "format", "samples")
 INFO_INDEX, FORMAT_INDEX, SAMPLES_INDEX = 7, 8, 9
 COLUMNS = (b"c", b"12", b"id", b"A", b"GT", b"3.5", b"q1", b"N=1;D", b"GT:DP", b"0|1:7", b".", b"/1")
-ENDINGS = (b"\n", b"\r\n", b"")
+# What may end a line, and the word of a case for it.
+ENDINGS = {b"\n": "lf", b"\r\n": "crlf", b"": "none"}
 # About the limits of the types that a place may pass through.
 FAR = (2**31, 2**32 - 1, 2**32, 2**32 + 1, 2**63 - 1, 2**63, 2**63 + 1, LARGEST - 2, LARGEST - 1, LARGEST)
 # VCF 4.4, section 1.1: the header line and the records of its example, a space here for each tab.
@@ -522,14 +523,20 @@ def listed(columns, tail=b""):
     return b"".join(columns) + tail, tuple(itertools.accumulate(map(len, columns)))
 
 
-def needed(columns):
-    return sum(map(len, columns)) + len(columns)
+def needed(columns, ending=b"\n"):
+    return max(0, sum(map(len, columns)) + len(columns) - 1 + len(ending))
+
+
+def with_each_ending(room, at, text, ends):
+    for word in ENDINGS.values():
+        yield ask("join", room, at, word, text, ends)
 
 
 def both_ways(columns):
-    """Columns to join and, since the Rust reads lines but joins none, the line of them to read."""
-    yield ask("join", needed(columns), 0, *listed(columns))
-    yield ask("line", row(columns) + b"\n", 0)
+    """Columns to join and, since the Rust reads lines but joins none, the line of them to read; with each ending."""
+    for ending, word in ENDINGS.items():
+        yield ask("join", needed(columns, ending), 0, word, *listed(columns))
+        yield ask("line", row(columns) + ending, 0)
 
 
 def with_faults(large):
@@ -546,27 +553,27 @@ def with_faults(large):
 def mixed_faults():
     """Every mixture of faults, so that each is seen to go before the next."""
     faults = ({}, {2: b"\t"}, {2: b"\xc3"}, {2: b"\xc3\t"}, {1: b"\xc3", 3: b""}, {1: b"", 3: b"\xc3"})
-    for count, fault in itertools.product((7, 8, 9, 10), faults):
+    for count, fault, (ending, word) in itertools.product((7, 8, 9, 10), faults, ENDINGS.items()):
         columns = replaced(COLUMNS[:count], fault)
-        need, (text, good) = needed(columns), listed(columns)
+        need, (text, good) = needed(columns, ending), listed(columns)
         fall, pass_text = (*good[:5], 0, *good[6:]), (*good[:-1], len(text) + 1)
         for ends, room in itertools.product((good, fall, pass_text), (need, need - 1)):
-            yield ask("join", room, 0, text, ends)
-            yield ask("join", room, room + 1, text, ends)
+            yield ask("join", room, 0, word, text, ends)
+            yield ask("join", room, room + 1, word, text, ends)
 
 
 def rooms_and_places():
     """Rooms from none to more than needed, places from the first to past the output."""
-    for columns in (COLUMNS[:8], COLUMNS[:11]):
-        need, (text, ends) = needed(columns), listed(columns)
+    for columns, (ending, word) in itertools.product((COLUMNS[:8], COLUMNS[:11]), ENDINGS.items()):
+        need, (text, ends) = needed(columns, ending), listed(columns)
         for room in range(need + 2):
-            yield ask("join", room, 0, text, ends)
+            yield ask("join", room, 0, word, text, ends)
         for room in range(2, need + 5):
-            yield ask("join", room, 3, text, ends)
+            yield ask("join", room, 3, word, text, ends)
         for at in (*range(need + 7), *FAR):
-            yield ask("join", need + 4, at, text, ends)
+            yield ask("join", need + 4, at, word, text, ends)
         for at in (1, *FAR):
-            yield ask("join", 0, at, text, ends)
+            yield ask("join", 0, at, word, text, ends)
 
 
 def joined_ends():
@@ -576,28 +583,31 @@ def joined_ends():
         before = ends[index - 1] if index else 0
         near = {before - 1, before, before + 1, len(text), len(text) + 1} - {-1}
         for end in (*sorted(near), 2**32 + ends[index], LARGEST):
-            yield ask("join", 40, 1, text, (*ends[:index], end, *ends[index + 1 :]))
+            yield from with_each_ending(40, 1, text, (*ends[:index], end, *ends[index + 1 :]))
     for tail in (b"a", b"\t", b"\n", b"\xff", b"\xa9", b"a" * 300):
-        yield ask("join", 40, 1, *listed(COLUMNS[:8], tail))
-        yield ask("join", 40, 1, *listed((*COLUMNS[:7], b"\xc3"), tail))
-        yield ask("join", 40, 1, *listed((*COLUMNS[:7], b"I\r"), tail))
+        yield from with_each_ending(40, 1, *listed(COLUMNS[:8], tail))
+        yield from with_each_ending(40, 1, *listed((*COLUMNS[:7], b"\xc3"), tail))
+        yield from with_each_ending(40, 1, *listed((*COLUMNS[:7], b"I\r"), tail))
     for tail in (b"", b"a"):
-        yield ask("join", 9, 0, tail, ())
+        yield from with_each_ending(9, 0, tail, ())
         for count in (1, 7, 8, 9, 10, 1_024):
-            yield ask("join", 9, 0, tail, (0,) * count)
+            yield from with_each_ending(9, 0, tail, (0,) * count)
     for first, second in ((b"\xe8", b"\xaa\x9e"), (b"\xe8\xaa", b"\x9e")):
-        yield ask("join", 40, 0, *listed(replaced(COLUMNS[:8], {3: first, 4: second})))
+        yield from with_each_ending(40, 0, *listed(replaced(COLUMNS[:8], {3: first, 4: second})))
 
 
 def wide_joins():
     """As many columns as a case may have, and outputs as long as may be: filled, one byte short, one byte long."""
-    for count in (1_023, 1_024):
+    for count, (ending, word) in itertools.product((1_023, 1_024), ENDINGS.items()):
         columns = [b"a"] * count
-        for room in (2 * count - 1, 2 * count):
-            yield ask("join", room, 0, *listed(columns))
-        yield ask("join", 4_096, 7, *listed([*columns[:-1], b"a\r"]))
-    for length in (4_080, 4_081, 4_082):
-        yield ask("join", 4_096, 0, *listed([b"a"] * 7 + [filler(length)]))
+        need = needed(columns, ending)
+        for room in (need - 1, need):
+            yield ask("join", room, 0, word, *listed(columns))
+        yield ask("join", 4_096, 7, word, *listed([*columns[:-1], b"a\r"]))
+    for ending, word in ENDINGS.items():
+        longest = 4_096 - needed([b"a"] * 7 + [b""], ending)
+        for length in (longest - 1, longest, longest + 1):
+            yield ask("join", 4_096, 0, word, *listed([b"a"] * 7 + [filler(length)]))
 
 
 def random_joins(large, dice):
@@ -610,7 +620,9 @@ def random_joins(large, dice):
             at = dice.roll(len(ends))
             ends = (*ends[:at], dice.roll(len(text) + 2), *ends[at + 1 :])
         at = dice.roll(4)
-        yield ask("join", at + needed(columns) + dice.roll(6) - 2, at, text, ends)
+        more = dice.roll(6) - 2
+        for ending, word in ENDINGS.items():
+            yield ask("join", at + needed(columns, ending) + more, at, word, text, ends)
 
 
 def joins(large, dice):
@@ -1605,9 +1617,9 @@ NO_RECORD_CASES = (
     b"line - 0 ", b" line - 0", b"line - ", b"line -\t0", b"line - 0\r", b"fields id - 0", b"fiel id - 0", b"field",
     b"field id", b"field id -", b"field - 0", b"field id - 0 0", b"field id 0", b"field  - 0", b"field id  0",
     b"place", b"places - 0 0", b"plac - 0 0", b"place -", b"place - 0", b"place - 0 0 0", b"place 0 0", b"pos",
-    b"po 31", b"poss 31", b"POS 31", b"pos 31 32", b"pos 31 ", b"pos  31", b"pos ", b"join", b"joi 9 0 - -",
-    b"joins 9 0 - -", b"join 9 0 -", b"join 9 - -", b"join 9 0 - - -", b"join 9 0  -", b"join 9 0 - ",
-    b"join 9 0 61 1 2",
+    b"po 31", b"poss 31", b"POS 31", b"pos 31 32", b"pos 31 ", b"pos  31", b"pos ", b"join", b"joi 9 0 lf - -",
+    b"joins 9 0 lf - -", b"join 9 0 lf -", b"join 9 lf - -", b"join 9 0 lf - - -", b"join 9 0 lf  -", b"join 9 0 lf - ",
+    b"join 9 0 lf 61 1 2",
     # no name of a field
     b"field x - 0", b"field - - 0", b"field 0 - 0", b"field 2 - 0", b"field CHROM - 0", b"field Chrom - 0",
     b"field chro - 0", b"field chromo - 0", b"field po - 0", b"field poss - 0", b"field ids - 0", b"field i - 0",
@@ -1616,24 +1628,27 @@ NO_RECORD_CASES = (
     b"field id\x00 - 0", b"field \x00 - 0", b"field id,alt - 0", b"field \xff - 0",
     # hex that is odd, upper case or none
     b"line 6 0", b"line 6A 0", b"line 0x61 0", b"line -- 0", b"field id 616 0", b"field id 6A 0", b"place 6 0 0",
-    b"place 6G 0 0", b"pos 3", b"pos 3A", b"pos +1", b"pos 12345", b"join 9 0 6 0", b"join 9 0 6A 1", b"join 9 0 61- 1",
+    b"place 6G 0 0", b"pos 3", b"pos 3A", b"pos +1", b"pos 12345", b"join 9 0 lf 6 0", b"join 9 0 lf 6A 1",
+    b"join 9 0 lf 61- 1",
     # a number that is empty, has a sign or a leading zero, passes its type, or is none
     b"line - 00", b"line - 01", b"line - +0", b"line - -0", b"line - -", b"line - -1", b"line - a", b"line - 0a",
     b"line - 18446744073709551616", b"line - 18446744073709551620", b"line - 99999999999999999999", b"line - 0,0",
     b"field id - 00", b"field id - -", b"field id - +1", b"field id - 18446744073709551616", b"place - 00 0",
     b"place - 0 00", b"place - - 0", b"place - 0 -", b"place - +0 0", b"place - 0 +0",
     b"place - 18446744073709551616 0", b"place - 0 18446744073709551616", b"place - 0 36893488147419103232",
-    b"join 4097 0 - -", b"join 09 0 - -", b"join - 0 - -", b"join +9 0 - -", b"join 18446744073709551616 0 - -",
-    b"join 9 00 - -", b"join 9 - - -", b"join 9 -1 - -", b"join 9 18446744073709551616 - -",
+    b"join 4097 0 lf - -", b"join 09 0 lf - -", b"join - 0 lf - -", b"join +9 0 lf - -",
+    b"join 18446744073709551616 0 lf - -", b"join 9 00 lf - -", b"join 9 - lf - -", b"join 9 -1 lf - -",
+    b"join 9 18446744073709551616 lf - -",
     # ends
-    b"join 9 0 - ,", b"join 9 0 - 0,", b"join 9 0 - ,0", b"join 9 0 - 0,,0", b"join 9 0 - 0,-", b"join 9 0 - -,0",
-    b"join 9 0 - --", b"join 9 0 - -,-", b"join 9 0 - 00", b"join 9 0 - 0,00", b"join 9 0 - 00,0", b"join 9 0 - 1,02",
-    b"join 9 0 - +0", b"join 9 0 - -0", b"join 9 0 - 0,+0", b"join 9 0 - 0;0", b"join 9 0 - 0.0", b"join 9 0 - 0 ,0",
-    b"join 9 0 - 0, 0", b"join 9 0 - a", b"join 9 0 - 0,a", b"join 9 0 - 0,1a", b"join 9 0 - 0,\xff",
-    b"join 9 0 - 0\x00", b"join 9 0 - 18446744073709551616", b"join 9 0 - 0,18446744073709551616",
-    b"join 9 0 - 18446744073709551616,0",
+    b"join 9 0 lf - ,", b"join 9 0 lf - 0,", b"join 9 0 lf - ,0", b"join 9 0 lf - 0,,0", b"join 9 0 lf - 0,-",
+    b"join 9 0 lf - -,0", b"join 9 0 lf - --", b"join 9 0 lf - -,-", b"join 9 0 lf - 00", b"join 9 0 lf - 0,00",
+    b"join 9 0 lf - 00,0", b"join 9 0 lf - 1,02", b"join 9 0 lf - +0", b"join 9 0 lf - -0", b"join 9 0 lf - 0,+0",
+    b"join 9 0 lf - 0;0", b"join 9 0 lf - 0.0", b"join 9 0 lf - 0 ,0", b"join 9 0 lf - 0, 0", b"join 9 0 lf - a",
+    b"join 9 0 lf - 0,a", b"join 9 0 lf - 0,1a", b"join 9 0 lf - 0,\xff", b"join 9 0 lf - 0\x00",
+    b"join 9 0 lf - 18446744073709551616", b"join 9 0 lf - 0,18446744073709551616",
+    b"join 9 0 lf - 18446744073709551616,0",
     # one too many, the last of as many as may be none
-    b"join 9 0 - 0" + b",0" * 1_024, b"join 9 0 - 0" + b",0" * 1_022 + b",x", b"join 9 0 - 0" + b",0" * 2_000,
+    b"join 9 0 lf - 0" + b",0" * 1_024, b"join 9 0 lf - 0" + b",0" * 1_022 + b",x", b"join 9 0 lf - 0" + b",0" * 2_000,
 )
 
 
@@ -1822,8 +1837,8 @@ def long_record_lines(large):
         yield ask("place", text[:32_757], 32_756, 1)
         yield ask("place", text[:32_757], 32_756, 2)
         yield ask("pos", b"0" * 32_765 + b"1")
-        yield ask("join", 4_096, 0, b"a" * 30_000, tuple(range(1, 1_025)))
-        yield none(ask("join", 4_096, 0, b"a" * 32_000, tuple(range(1, 1_025)))[0])
+        yield from with_each_ending(4_096, 0, b"a" * 30_000, tuple(range(1, 1_025)))
+        yield none(ask("join", 4_096, 0, "lf", b"a" * 32_000, tuple(range(1, 1_025)))[0])
 
 
 def long_info_lines(large):
@@ -1930,7 +1945,7 @@ def long_alt_lines(large):
 def form(large):
     """Lines that are none and long lines, each before a case with an answer of its own: a shift shows at once."""
     good = (b"utf8 41", b"print 5 70", b"space -", b"decimal 2b37") if large else (b"utf8 41", b"print 5 70")
-    more = (b"field id 61 0", b"join 9 0 6162 1,2", *((b"line 6109 0", b"place 61 0 1", b"pos 31") if large else ()))
+    more = (b"field id 61 0", b"join 9 0 lf 6162 1,2", *((b"line 6109 0", b"place 61 0 1", b"pos 31") if large else ()))
     steps = (b"info 61 0", b"key 61 61", *((b"scan 61", b"value 613d 61", b"sample 61 0") if large else ()))
     calls = (b"read 2 30", b"write 4 4 2 0 0:0:1", *((b"readalt 2 30 41", b"unequal 1 1 1 30") if large else ()))
     lists = (b"filters 2 0 61 1", *((b"alts 2 0 61 1",) if large else ()))

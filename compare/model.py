@@ -25,6 +25,9 @@ UNEQUAL = BAD_ENDS
 FIELDS = (b"chrom", b"pos", b"id", b"ref", b"alt", b"qual", b"filter", b"info", b"format", b"samples")
 INFO, FORMAT, SAMPLES = 7, 8, 9
 
+# What may end a line, and the word for it.
+ENDINGS = {b"": "none", b"\n": "lf", b"\r\n": "crlf"}
+
 
 class NoCase(Exception):
     """The line is no case."""
@@ -60,6 +63,14 @@ def field_name(argument):
     if argument not in FIELDS:
         raise NoCase
     return argument
+
+
+def line_ending(argument):
+    """The bytes of an ending, by its word."""
+    for ending, word in ENDINGS.items():
+        if argument == word.encode():
+            return ending
+    raise NoCase
 
 
 def list_ends(argument):
@@ -200,30 +211,36 @@ def list_entries(text, ends):
     return [text[start:end] for start, end in zip(bounds, ends)]
 
 
+def line_and_ending(text, at):
+    """The line at a place, up to its LF or the end of the text, and its ending: a CR belongs to it only before an LF."""
+    line, fed, _ = text[at:].partition(b"\n")
+    if fed and line.endswith(b"\r"):
+        return line[:-1], b"\r\n"
+    return line, fed
+
+
 def read_line(text, at):
     """The answer of the line reader, the next place and, where it is 0, the ten places.
 
-    The line is taken to its LF or the end of the text first, cut at its tabs, and judged from left to right.
+    The line is parted from its ending first, then cut at its tabs, and judged from left to right.
     """
     if at > len(text):
         return BEYOND, at, None
     if at == len(text):
         return AT_END, at, None
-    whole, fed, _ = text[at:].partition(b"\n")
-    past = at + len(whole) + len(fed)
-    columns = whole.split(b"\t")
+    line, ending = line_and_ending(text, at)
+    past = at + len(line) + len(ending)
+    columns = line.split(b"\t")
     last = len(columns) - 1
-    if fed:
-        columns[last] = columns[last].removesuffix(b"\r")
     starts = [at]
     for column in columns[:last]:
         starts.append(starts[-1] + len(column) + 1)
     for index, column in enumerate(columns):
         if index == last and (index < INFO or index == FORMAT):
-            return LINE_ENDS if fed else CUT, past, None
+            return LINE_ENDS if ending else CUT, past, None
         if not column:
             if index == last:
-                return EMPTY if fed else CUT, past, None
+                return EMPTY if ending else CUT, past, None
             return EMPTY, starts[index + 1], None
     if not all(map(is_utf8, columns)):
         return NOT_UTF8, past, None
@@ -236,20 +253,24 @@ def read_line(text, at):
     return DONE, past, places
 
 
-def joined(text, ends):
-    """The line of the columns given; or the numbers of a refusal."""
+def joined(text, ends, ending):
+    """The line of the columns given, with its ending; or the numbers of a refusal.
+
+    A CR at the end of the last column is refused only where an LF alone is to follow, which would make it part of the
+    ending.
+    """
     columns = list_entries(text, ends)
     if columns is None:
         return (BAD_ENDS,)
     if len(columns) < 8 or len(columns) == 9:
         return (BAD_COUNT,)
     for index, column in enumerate(columns):
-        last = index == len(columns) - 1
-        if not column or b"\t" in column or b"\n" in column or (last and column.endswith(b"\r")):
+        becomes_ending = index == len(columns) - 1 and ending == b"\n" and column.endswith(b"\r")
+        if not column or b"\t" in column or b"\n" in column or becomes_ending:
             return BAD_COLUMN, index
         if not is_utf8(column):
             return NOT_UTF8, index
-    return b"\t".join(columns) + b"\n"
+    return b"\t".join(columns) + ending
 
 
 def part(text, place):
@@ -457,7 +478,8 @@ def line_places(text, at):
     answered, past, places = read_line(text, at)
     if answered != DONE:
         return words(answered, past)
-    return words(answered, past, *itertools.chain(*places))
+    _, ending = line_and_ending(text, at)
+    return words(answered, past, ENDINGS[ending], *itertools.chain(*places))
 
 
 def field(name, text, at):
@@ -486,8 +508,8 @@ def pos(text):
     return words(DONE, value) if value else words(BAD_POS, decimal_fault(text))
 
 
-def join(length, at, text, ends):
-    return laid_out(length, at, joined(text, ends))
+def join(length, at, ending, text, ends):
+    return laid_out(length, at, joined(text, ends, ending))
 
 
 def step_words(step):
@@ -642,7 +664,7 @@ VERBS = {
     b"field": (field, (field_name, hexed, number)),
     b"place": (place, (hexed, number, number)),
     b"pos": (pos, (hexed,)),
-    b"join": (join, (room, number, hexed, list_ends)),
+    b"join": (join, (room, number, line_ending, hexed, list_ends)),
     b"info": (info, (hexed, number)),
     b"find": (find, (hexed, hexed)),
     b"value": (value_of, (hexed, hexed)),

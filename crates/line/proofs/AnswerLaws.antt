@@ -17,10 +17,11 @@ use Rattle.text.proofs.Lists.{drop-take}
 use Rattle.text.specs.Verdict.{Verdict, fine, refused}
 use Rattle.pieces.specs.Pieces.{split}
 use Rattle.pieces.proofs.PieceLaws.{split-some}
-use Rattle.line.specs.Line.{Ending, endingBytes, Line, line, lineOf, verdict, fieldPlaces, allUtf8, judgedAnswer, lineAnswer, readAnswer}
-use Rattle.line.specs.Paper.{recordPlaces, readPaper}
+use Rattle.line.specs.Line.{Ending, endingBytes, endingNumber, Line, line, lineOf, verdict, fieldPlaces, allUtf8, judgedAnswer, lineAnswer, readAnswer}
+use Rattle.line.specs.Paper.{endingOf, recordValues, readPaper}
 use Rattle.line.specs.Demands.{ByColumns}
-use Rattle.line.specs.Inner.{accepted, denied, judgement, judgementOf, judgedPaper, InOrder, Unset, Marks, Told}
+use Rattle.line.specs.Inner.{EndsBetween, accepted, denied, judgement, judgementOf, judgedPaper, InOrder, Unset, Marks, Told}
+use Rattle.line.specs.declared.ending.Ending.{Ending as DeclaredEnding}
 use Rattle.line.specs.declared.read.Record.{Record}
 use Rattle.line.specs.declared.read.Read.{Read}
 use Rattle.line.specs.declared.read.Read.the-variants as R
@@ -81,6 +82,9 @@ module _ {s : List ℕ} {at end next : ℕ} (g : InOrder s at end next) where
   pub order-within : end ≤ length s
   order-within = ordered g .within
 
+  pub order-next : end ≤ next
+  order-next = let e = ordered g .past in omega arith
+
   pub order-count : end ≡ length (take end s)
   order-count = sym (length-take-le end s order-within)
 
@@ -96,20 +100,21 @@ module _ {s : List ℕ} {at end next : ℕ} (g : InOrder s at end next) where
       by o = rw (text-cut o) (fine-count at (split 9 (o .text)) (o .ending) next (split-some 9 (o .text)) (o .order))
 
   -- the answer, by whether the columns are UTF-8
-  line-judged : (o : Ordered s at end next) → lineAnswer at (lineOf (drop at s)) ≡ judgedAnswer fine at end (split 9 (o .text)) next
+  line-judged : (o : Ordered s at end next) → lineAnswer at (lineOf (drop at s)) ≡ judgedAnswer fine at end (split 9 (o .text)) (o .ending) next
   unfolding lineAnswer
   line-judged o = rw (o .is, o .ends, o .past, o .order)
 
   module _ {x : Utf8} (u : utf8Paper x ≡ utf8Answer (take (end - at) (drop at s))) where
-    pub finish-line : (r : Record) → x ≡ U.Text → recordPlaces r ≡ fieldPlaces at (split 9 (drop at (take end s))) (length (take end s))
+    pub finish-line : (r : Record) (y : DeclaredEnding) → x ≡ U.Text → EndsBetween end next y
+        → recordValues r ≡ endingNumber (endingOf y) ∷ fieldPlaces at (split 9 (drop at (take end s))) (length (take end s))
         → readPaper (R.Line r next) ≡ lineAnswer at (lineOf (drop at s))
     unfolding readPaper judgedAnswer ByColumns
-    finish-line r q p = by (ordered g)
+    finish-line r y q b p = by (ordered g)
       where
         by : Ordered s at end next → readPaper (R.Line r next) ≡ lineAnswer at (lineOf (drop at s))
         by o =
             let v : allUtf8 (split 9 (o .text)) ≡ true = sym (by-columns (o .text)) ∙ told-text (o .text) (rw (q, o .stands) at u) in
-            rw (line-judged o, v, p, text-cut o, length-take-le end s (o .within))
+            rw (line-judged o, v, p, b .is (o .ending) (o .past), text-cut o, length-take-le end s (o .within))
 
     pub finish-broken : x ≡ U.Broken → readPaper (R.NotUtf8 next) ≡ lineAnswer at (lineOf (drop at s))
     unfolding readPaper judgedAnswer ByColumns
@@ -127,7 +132,7 @@ unfolding judgementOf judgement lineAnswer judgedAnswer
 refused-says at (line t e rest) {k} {next} d = by (verdict 1 at (split 9 t) e (at + length t + length (endingBytes e))) d
   where
     by : (v : Verdict) → judgement v (at + length t) (at + length t + length (endingBytes e)) ≡ denied k next
-        → says k (next ∷ []) ≡ judgedAnswer v at (at + length t) (split 9 t) (at + length t + length (endingBytes e))
+        → says k (next ∷ []) ≡ judgedAnswer v at (at + length t) (split 9 t) e (at + length t + length (endingBytes e))
     by fine d = cc
     by (refused n p) d = cc
 
@@ -187,4 +192,4 @@ module _ (s : List ℕ) (at : ℕ) where
       unfolding readPaper judgedPaper
       reads-cut q = refusal (rw q)
 
-pub ruleset laws = (order-after, order-within, order-count, finish-line, finish-broken, reads-unset, reads-beyond, reads-end, reads-line, reads-ordered, reads-told, reads-empty, reads-fed, reads-cut)
+pub ruleset laws = (order-after, order-within, order-next, order-count, finish-line, finish-broken, reads-unset, reads-beyond, reads-end, reads-line, reads-ordered, reads-told, reads-empty, reads-fed, reads-cut)

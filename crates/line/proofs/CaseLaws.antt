@@ -4,20 +4,21 @@ use mathlib.Core.Path.{_≡_}
 use mathlib.Core.List.{[], _∷_}
 use Rattle.text.specs.Answer.{says}
 use Rattle.line.specs.Place.{rangeOf}
-use Rattle.line.specs.Paper.{recordPlaces, readPaper}
+use Rattle.line.specs.Line.{endingNumber}
+use Rattle.line.specs.Paper.{endingOf, recordPlaces, recordValues, readPaper}
 use Rattle.line.specs.declared.read.Record.{Record}
 use Rattle.line.specs.declared.read.Read.{Read}
 use Rattle.line.specs.declared.read.Read.the-variants as R
 use Rattle.line.specs.declared.place.Name.the-variants as N
 
 module _ {x : Read} where
-  pub read-record : {r : Record} {next : ℕ} → x ≡ R.Line r next → readPaper x ≡ says 0 (next ∷ recordPlaces r)
+  pub read-record : {r : Record} {next : ℕ} → x ≡ R.Line r next → readPaper x ≡ says 0 (next ∷ recordValues r)
   unfolding readPaper
   read-record e = rw e
 
-  -- the same, place by place
-  pub read-line : {r : Record} {next : ℕ} → x ≡ R.Line r next → readPaper x ≡ says 0 (next ∷ rangeOf r N.Chrom .start ∷ rangeOf r N.Chrom .len ∷ rangeOf r N.Pos .start ∷ rangeOf r N.Pos .len ∷ rangeOf r N.Id .start ∷ rangeOf r N.Id .len ∷ rangeOf r N.Reference .start ∷ rangeOf r N.Reference .len ∷ rangeOf r N.Alt .start ∷ rangeOf r N.Alt .len ∷ rangeOf r N.Qual .start ∷ rangeOf r N.Qual .len ∷ rangeOf r N.Filter .start ∷ rangeOf r N.Filter .len ∷ rangeOf r N.Info .start ∷ rangeOf r N.Info .len ∷ rangeOf r N.Format .start ∷ rangeOf r N.Format .len ∷ rangeOf r N.Samples .start ∷ rangeOf r N.Samples .len ∷ [])
-  unfolding readPaper recordPlaces rangeOf
+  -- the same, value by value
+  pub read-line : {r : Record} {next : ℕ} → x ≡ R.Line r next → readPaper x ≡ says 0 (next ∷ endingNumber (endingOf (r .ending)) ∷ rangeOf r N.Chrom .start ∷ rangeOf r N.Chrom .len ∷ rangeOf r N.Pos .start ∷ rangeOf r N.Pos .len ∷ rangeOf r N.Id .start ∷ rangeOf r N.Id .len ∷ rangeOf r N.Reference .start ∷ rangeOf r N.Reference .len ∷ rangeOf r N.Alt .start ∷ rangeOf r N.Alt .len ∷ rangeOf r N.Qual .start ∷ rangeOf r N.Qual .len ∷ rangeOf r N.Filter .start ∷ rangeOf r N.Filter .len ∷ rangeOf r N.Info .start ∷ rangeOf r N.Info .len ∷ rangeOf r N.Format .start ∷ rangeOf r N.Format .len ∷ rangeOf r N.Samples .start ∷ rangeOf r N.Samples .len ∷ [])
+  unfolding readPaper recordValues recordPlaces rangeOf
   read-line e = rw e
 
   pub read-end : {next : ℕ} → x ≡ R.End next → readPaper x ≡ says 1 (next ∷ [])

@@ -3,12 +3,13 @@ use Prim.Native.Nat.{ℕ}
 use mathlib.Core.Path.{_≡_, refl, sym, _∙_}
 use mathlib.Core.List.{List, [], _∷_}
 use mathlib.Mathlib.Logic.Function.Defs.{LeftInverse·injective}
-use lib.ListN.{getD}
+use lib.ListN.{getD, drop}
 use Rattle.text.specs.Answer.{Answer, says}
 use Rattle.text.specs.declared.range.Range.{Range}
 use Rattle.line.specs.Line.{endingNumber}
-use Rattle.line.specs.Paper.{linedPaper, recordPlaces, readPaper}
+use Rattle.line.specs.Paper.{endingOf, linedPaper, recordPlaces, recordValues, readPaper}
 use Rattle.line.specs.Promises.{Determined}
+use Rattle.line.specs.declared.ending.Ending.{Ending}
 use Rattle.line.specs.declared.ending.Ending.the-variants as E
 use Rattle.line.specs.declared.extent.Lined.{Lined}
 use Rattle.line.specs.declared.extent.Lined.the-variants as L
@@ -16,19 +17,28 @@ use Rattle.line.specs.declared.read.Record.{Record}
 use Rattle.line.specs.declared.read.Read.{Read}
 use Rattle.line.specs.declared.read.Read.the-variants as R
 
+-- ---- how a line ended
+
+endingBy : ℕ → Ending
+endingBy k = getD (E.Nothing ∷ E.Feed ∷ []) k E.ReturnFeed
+
+ending-back : (e : Ending) → endingBy (endingNumber (endingOf e)) ≡ e
+unfolding endingBy endingNumber
+ending-back E.Nothing = refl
+ending-back E.Feed = refl
+ending-back E.ReturnFeed = refl
+
 -- ---- the line at a place
 
 linedBy : ℕ → ℕ → ℕ → ℕ → Lined
-linedBy n end k next = getD (L.At end (getD (E.Nothing ∷ E.Feed ∷ []) k E.ReturnFeed) next ∷ []) n L.Beyond
+linedBy n end k next = getD (L.At end (endingBy k) next ∷ []) n L.Beyond
 
 linedOf : Answer → Lined
 linedOf (says n l) = linedBy n (getD l 0 0) (getD l 1 0) (getD l 2 0)
 
 lined-back : (x : Lined) → linedOf (linedPaper x) ≡ x
-unfolding linedOf linedBy linedPaper endingNumber
-lined-back (L.At end E.Nothing next) = refl
-lined-back (L.At end E.Feed next) = refl
-lined-back (L.At end E.ReturnFeed next) = refl
+unfolding linedOf linedBy linedPaper
+lined-back (L.At end e next) = rw (ending-back e)
 lined-back L.Beyond = refl
 
 pub lined-paper-injective : (r r′ : Lined) → linedPaper r ≡ linedPaper r′ → r ≡ r′
@@ -43,6 +53,7 @@ rangeAt l k m = record { start = getD l k 0; len = getD l m 0 }
 recordOf : List ℕ → Record
 recordOf l =
     record {
+      ending = endingBy (getD l 0 0);
       chrom = rangeAt l 1 2;
       pos = rangeAt l 3 4;
       id = rangeAt l 5 6;
@@ -55,16 +66,23 @@ recordOf l =
       samples = rangeAt l 19 20;
     }
 
+record-back : (r : Record) → recordOf (recordValues r) ≡ r
+unfolding recordOf rangeAt recordValues recordPlaces
+record-back r = rw (ending-back (r .ending))
+
+pub values-injective : (r r′ : Record) → recordValues r ≡ recordValues r′ → r ≡ r′
+values-injective = LeftInverse·injective recordOf recordValues record-back
+
 -- by the answer's number; the first value is the next place
 readBy : ℕ → List ℕ → ℕ → Read
-readBy n l next = getD (R.Line (recordOf l) next ∷ R.End next ∷ R.Empty next ∷ R.Fed next ∷ R.Cut next ∷ R.NotUtf8 next ∷ []) n (R.Beyond next)
+readBy n l next = getD (R.Line (recordOf (drop 1 l)) next ∷ R.End next ∷ R.Empty next ∷ R.Fed next ∷ R.Cut next ∷ R.NotUtf8 next ∷ []) n (R.Beyond next)
 
 readOf : Answer → Read
 readOf (says n l) = readBy n l (getD l 0 0)
 
 read-back : (x : Read) → readOf (readPaper x) ≡ x
-unfolding readOf readBy recordOf rangeAt readPaper recordPlaces
-read-back (R.Line r next) = refl
+unfolding readOf readBy readPaper
+read-back (R.Line r next) = rw (record-back r)
 read-back (R.End next) = refl
 read-back (R.Empty next) = refl
 read-back (R.Fed next) = refl
@@ -75,9 +93,5 @@ read-back (R.Beyond next) = refl
 pub read-paper-injective : (r r′ : Read) → readPaper r ≡ readPaper r′ → r ≡ r′
 read-paper-injective = LeftInverse·injective readOf readPaper read-back
 
-pub places-injective : (r r′ : Record) → recordPlaces r ≡ recordPlaces r′ → r ≡ r′
-unfolding recordOf rangeAt recordPlaces
-places-injective = LeftInverse·injective (λ (l : List ℕ). recordOf (0 ∷ l)) recordPlaces (λ r. refl)
-
 pub determined : Determined
-determined = record { line-at = λ s at r r′ p q. lined-paper-injective r r′ (p ∙ sym q); read-line = λ s at r r′ p q. read-paper-injective r r′ (p ∙ sym q); place-of = λ line name r r′ p q. p ∙ sym q; make-record = λ places r r′ p q. places-injective r r′ (p ∙ sym q) }
+determined = record { line-at = λ s at r r′ p q. lined-paper-injective r r′ (p ∙ sym q); read-line = λ s at r r′ p q. read-paper-injective r r′ (p ∙ sym q); place-of = λ line name r r′ p q. p ∙ sym q; ending-of = λ line r r′ p q. p ∙ sym q; make-record = λ ending places r r′ p q. values-injective r r′ (p ∙ sym q) }

@@ -1,5 +1,5 @@
 -- The line at a place: all that is left where no LF stands from it on; else what stands before the first LF, less one CR. Assumes nothing.
-use Prim.Native.Nat.{ℕ, _+_, _<_, _≤_}
+use Prim.Native.Nat.{ℕ, _+_, _-_, _<_, _≤_}
 use mathlib.Core.Path.{_≡_, refl, sym, _∙_}
 use mathlib.Core.List.{List, [], dropLast}
 use native.Mathlib.Omega.{arith}
@@ -9,12 +9,15 @@ use borrow.Author.Tests.{le-leb, lt-leb}
 use Rattle.text.specs.Answer.{says}
 use Rattle.pieces.specs.Inner.{Quiet, quietLength}
 use Rattle.pieces.proofs.EitherLaws.{either-quiet, either-second}
-use Rattle.line.specs.Line.{endingBytes, endingNumber, fed, lineOf, extentAnswer, lineAtAnswer}
-use Rattle.line.specs.Paper.{linedPaper}
+use Rattle.line.specs.Line as Line
+use Rattle.line.specs.Line.{nothing, feed, return-feed, endingBytes, endingNumber, fed, lineOf, extentAnswer, lineAtAnswer}
+use Rattle.line.specs.Paper.{endingOf, linedPaper}
 use Rattle.line.specs.Demands.{FirstFeed}
-use Rattle.line.specs.Inner.{TextEnd}
+use Rattle.line.specs.Inner.{TextEnd, input, none, bare, return, EndsBetween}
+use Rattle.line.specs.declared.ending.Ending.{Ending}
 use Rattle.line.specs.declared.ending.Ending.the-variants as E
 use Rattle.line.specs.declared.extent.Lined.the-variants as L
+use Rattle.line.proofs.LineLaws.{ending-size, ending-known}
 use Rattle.line.proofs.ColumnLaws.{line-end}
 use Rattle.line.proofs.ReadLaws.{input-end, rest-free, length-last, column, column-length, line-here, Closes, plain, returned, closes}
 
@@ -56,6 +59,15 @@ module _ (s : List ℕ) (at : ℕ) {stop : ℕ} (h : at ≤ length s) (first : s
       by (no z) = either-second 10 10 s at h first (stop-inside n) z
 
   module _ {end : ℕ} (z : TextEnd s at stop end) where
+    pub ends-before : end ≤ stop + 1
+    ends-before = by z
+      where
+        by : {x : ℕ} → TextEnd s at stop x → x ≤ stop + 1
+        by (input e) = omega arith
+        by (none e) = omega arith
+        by (bare a n) = omega arith
+        by (return a b c) = omega arith
+
     pub finds-nothing : stop ≡ length s → linedPaper (L.At end E.Nothing stop) ≡ lineAtAnswer s at
     unfolding linedPaper extentAnswer endingNumber endingBytes
     finds-nothing q =
@@ -69,25 +81,41 @@ module _ (s : List ℕ) (at : ℕ) {stop : ℕ} (h : at ≤ length s) (first : s
       text : List ℕ
       text = column s at stop (stop-feed n)
 
-      finds-fed : {x : ℕ} → Closes s at stop (stop-feed n) x → x ≡ end → end ≡ stop → linedPaper (L.At end E.Feed (stop + 1)) ≡ lineAtAnswer s at
-      unfolding linedPaper extentAnswer endingNumber endingBytes fed text
-      finds-fed (plain c) q y =
-          let l : at + length text ≡ stop = omega (arith, column-length s at stop (stop-feed n), stop-after) in
-          sym (at-inside s at h ∙ rw (line-here s at stop (stop-feed n), c, l, y))
-      finds-fed (returned b c) q y = absurd (omega arith)
-
-      finds-return : {x : ℕ} → Closes s at stop (stop-feed n) x → x ≡ end → (end ≡ stop → ⊥) → linedPaper (L.At end E.ReturnFeed (stop + 1)) ≡ lineAtAnswer s at
-      unfolding linedPaper extentAnswer endingNumber endingBytes fed text
-      finds-return (plain c) q y = absurd (y (sym q))
-      finds-return (returned b c) q y =
+      finds-closed : {x : ℕ} → Closes s at stop (stop-feed n) x → x ≡ end → {r : Ending} → EndsBetween end (stop + 1) r → linedPaper (L.At end r (stop + 1)) ≡ lineAtAnswer s at
+      unfolding linedPaper extentAnswer endingBytes fed text
+      finds-closed (plain c) q b =
+          let l : at + length text ≡ end = omega (arith, column-length s at stop (stop-feed n), stop-after) in
+          let m : end + 1 ≡ stop + 1 = omega arith in
+          sym (at-inside s at h ∙ rw (line-here s at stop (stop-feed n), c, l, ← b .is feed m, m))
+      finds-closed (returned a c) q b =
           let l : at + length (dropLast text) ≡ end = omega (arith, length-last text, column-length s at stop (stop-feed n)) in
           let m : end + 2 ≡ stop + 1 = omega arith in
-          sym (at-inside s at h ∙ rw (line-here s at stop (stop-feed n), c, l, m))
+          sym (at-inside s at h ∙ rw (line-here s at stop (stop-feed n), c, l, ← b .is return-feed m, m))
 
-      pub finds-feed : end ≡ stop → linedPaper (L.At end E.Feed (stop + 1)) ≡ lineAtAnswer s at
-      finds-feed y = finds-fed (closes s at stop (stop-feed n) z) refl y
+      pub finds-fed : {r : Ending} → EndsBetween end (stop + 1) r → linedPaper (L.At end r (stop + 1)) ≡ lineAtAnswer s at
+      finds-fed = finds-closed (closes s at stop (stop-feed n) z) refl
 
-      pub finds-return-feed : (end ≡ stop → ⊥) → linedPaper (L.At end E.ReturnFeed (stop + 1)) ≡ lineAtAnswer s at
-      finds-return-feed y = finds-return (closes s at stop (stop-feed n) z) refl y
+-- ---- the ending, by how many bytes it has
 
-pub ruleset laws = (finds-beyond, stop-after, stop-within, stop-inside, finds-nothing, finds-feed, finds-return-feed)
+module _ {end next : ℕ} (h : end ≤ next) where
+  ends-by : (r : Ending) → ((e : Line.Ending) → endingNumber e ≡ next - end → endingNumber (endingOf r) ≡ endingNumber e) → EndsBetween end next r
+  ends-by r f = record { is = λ e q. ending-known (endingOf r) e (f e (let z = ending-size e in omega arith)) }
+
+  pub ends-nothing : next - end ≡ 0 → EndsBetween end next E.Nothing
+  unfolding endingNumber
+  ends-nothing z = ends-by E.Nothing (λ e q. omega arith)
+
+  pub ends-feed : next - end ≡ 1 → EndsBetween end next E.Feed
+  unfolding endingNumber
+  ends-feed z = ends-by E.Feed (λ e q. omega arith)
+
+  pub ends-return-feed : (next - end ≡ 0 → ⊥) → (next - end ≡ 1 → ⊥) → EndsBetween end next E.ReturnFeed
+  unfolding endingNumber
+  ends-return-feed a b = ends-by E.ReturnFeed by
+    where
+      by : (e : Line.Ending) → endingNumber e ≡ next - end → 2 ≡ endingNumber e
+      by nothing q = absurd (omega arith)
+      by feed q = absurd (omega arith)
+      by return-feed q = refl
+
+pub ruleset laws = (finds-beyond, stop-after, stop-within, stop-inside, ends-before, finds-nothing, finds-fed, ends-nothing, ends-feed, ends-return-feed)

@@ -5,17 +5,18 @@ use mathlib.Core.Path.{_≡_, refl, sym, ap, _∙_}
 use mathlib.Core.Bool.{Bool, true, false}
 use mathlib.Core.List.{List, [], _∷_, _++_}
 use native.Mathlib.Omega.{arith}
-use lib.ListN.{length, getD, drop, length-append, length-drop}
+use lib.ListN.{length, drop, length-append, length-drop}
 use lib.Dec.{leb}
 use borrow.Author.Tests.{leb-true, leb-false}
 use Rattle.text.specs.Answer.{says}
-use Rattle.line.specs.Line.{Ending, nothing, feed, return-feed, endingBytes, endingNumber, Line, line, lineOf, extentAnswer, lineAtAnswer}
+use Rattle.line.specs.Line.{Ending, endingBytes, endingNumber, Line, line, lineOf, extentAnswer, lineAtAnswer}
 use Rattle.line.specs.Paper.{endingOf, linedPaper}
 use Rattle.line.specs.Promises.{FindsLine}
 use Rattle.line.specs.Demands.{Reader, Extends, Extents, OneFinder}
 use Rattle.line.specs.declared.ending.Ending.{Ending as DeclaredEnding}
 use Rattle.line.specs.declared.extent.Lined.{Lined}
 use Rattle.line.specs.declared.extent.Lined.the-variants as L
+use Rattle.line.proofs.LineLaws.{ending-known}
 use Rattle.line.proofs.ColumnLaws.{line-only, line-whole}
 use Rattle.line.proofs.ExtentLaws.{at-beyond, at-inside}
 
@@ -61,16 +62,6 @@ pub record Found (s : List ℕ) (at end : ℕ) (e : Ending) (next : ℕ) : Type 
   pub past : next ≡ at + length text + length (endingBytes e)
   pub within : next ≤ length s
 
--- an ending is known by its number
-endingBy : ℕ → Ending
-endingBy k = getD (nothing ∷ feed ∷ []) k return-feed
-
-ending-back : (e : Ending) → endingBy (endingNumber e) ≡ e
-unfolding endingBy endingNumber
-ending-back nothing = refl
-ending-back feed = refl
-ending-back return-feed = refl
-
 module _ (s : List ℕ) (at : ℕ) {x : Lined} (f : FindsLine s at x) where
   pub found : {end next : ℕ} {e : DeclaredEnding} → x ≡ L.At end e next → Found s at end (endingOf e) next
   unfolding linedPaper extentAnswer
@@ -79,7 +70,7 @@ module _ (s : List ℕ) (at : ℕ) {x : Lined} (f : FindsLine s at x) where
       told : at ≤ length s → (l : Line) → lineOf (drop at s) ≡ l → says 0 (end ∷ endingNumber (endingOf e) ∷ next ∷ []) ≡ extentAnswer at l → Found s at end (endingOf e) next
       told h (line t d rest) p y =
           let n : endingNumber (endingOf e) ≡ endingNumber d = cc in
-          let z : endingOf e ≡ d = sym (ending-back (endingOf e)) ∙ ap endingBy n ∙ ending-back d in
+          let z : endingOf e ≡ d = ending-known _ _ n in
           let b : next ≡ at + length t + length (endingBytes d) = cc in
           let w = ap length (line-whole (drop at s) p .whole) in
           rw z

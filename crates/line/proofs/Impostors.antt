@@ -67,7 +67,7 @@ stands : Stands input 0 (readAnswer input 0)
 unfolding One
 stands = one input 0 answers-zero
 
-values-length : length values ≡ 21
+values-length : length values ≡ 22
 unfolding values
 values-length = rw (stands .values) (let t = stands .lie .ten in omega arith)
 
@@ -84,7 +84,7 @@ unfolding altered
 altered-value k v (says n vs) l = getD-set-same vs k (v vs) 0 l
 
 -- does not stand for the columns: two answers that do have the same values
-not-altered : (k : ℕ) (v : List ℕ → ℕ) → k < 21 → One (λ s at. altered k v (readAnswer s at)) → v values ≡ getD values k 0
+not-altered : (k : ℕ) (v : List ℕ → ℕ) → k < 22 → One (λ s at. altered k v (readAnswer s at)) → v values ≡ getD values k 0
 unfolding One values
 not-altered k v l claim =
     let e = stands-same (claim input 0 (altered-number k v (readAnswer input 0) ∙ answers-zero)) stands in
@@ -94,18 +94,22 @@ not-altered k v l claim =
 pub invented-next : One (λ s at. altered 0 (λ vs. getD vs 0 0 + 1) (readAnswer s at)) → ⊥
 invented-next claim = let e = not-altered 0 (λ vs. getD vs 0 0 + 1) (omega arith) claim in omega arith
 
--- so is one whose INFO is one byte longer, past the end of the buffer
-pub invented-length : One (λ s at. altered 16 (λ vs. getD vs 16 0 + 1) (readAnswer s at)) → ⊥
-invented-length claim = let e = not-altered 16 (λ vs. getD vs 16 0 + 1) (omega arith) claim in omega arith
+-- so is one that tells LF for the end of the input
+pub invented-ending : One (λ s at. altered 1 (λ vs. getD vs 1 0 + 1) (readAnswer s at)) → ⊥
+invented-ending claim = let e = not-altered 1 (λ vs. getD vs 1 0 + 1) (omega arith) claim in omega arith
+
+-- one whose INFO is one byte longer, past the end of the buffer
+pub invented-length : One (λ s at. altered 17 (λ vs. getD vs 17 0 + 1) (readAnswer s at)) → ⊥
+invented-length claim = let e = not-altered 17 (λ vs. getD vs 17 0 + 1) (omega arith) claim in omega arith
 
 -- and one that gives the start of CHROM for that of ALT, where the same byte stands
-pub invented-place : One (λ s at. altered 9 (λ vs. getD vs 1 0) (readAnswer s at)) → ⊥
+pub invented-place : One (λ s at. altered 10 (λ vs. getD vs 2 0) (readAnswer s at)) → ⊥
 unfolding values ones
 invented-place claim =
-    let e = not-altered 9 (λ vs. getD vs 1 0) (omega arith) claim in
+    let e = not-altered 10 (λ vs. getD vs 2 0) (omega arith) claim in
     let c : stands .columns ≡ ones = sym (stands .only ones nothing [] ones-begin .0) in
-    let chrom : getD values 1 0 ≡ 0 + startIn ones 0 = rw (stands .values) (stands .lie .eight 0 (omega arith) .starts ∙ rw c) in
-    let alt : getD values 9 0 ≡ 0 + startIn ones 4 = rw (stands .values) (stands .lie .eight 4 (omega arith) .starts ∙ rw c) in
+    let chrom : getD values 2 0 ≡ 0 + startIn ones 0 = rw (stands .values) (stands .lie .eight 0 (omega arith) .starts ∙ rw c) in
+    let alt : getD values 10 0 ≡ 0 + startIn ones 4 = rw (stands .values) (stands .lie .eight 4 (omega arith) .starts ∙ rw c) in
     omega (arith, start-first ones, start-later (49 ∷ []) (replicate 7 (49 ∷ [])) 3)
 
 -- ---- an empty column

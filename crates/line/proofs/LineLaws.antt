@@ -1,8 +1,10 @@
--- The three ways of the reader, and the line that an input begins with, by where its first LF stands: each is the definition's clause. Assumes nothing.
+-- The three ways of the reader, an ending by its number, and the line that an input begins with, by where its first LF stands: each is the
+-- definition's clause. Assumes nothing.
 use Prim.Native.Nat.{ℕ, _<_}
 use mathlib.Core.Path.{_≡_, refl, sym}
 use mathlib.Core.Bool.{Bool, true, false}
 use mathlib.Core.List.{List, [], _∷_, _++_, dropLast}
+use mathlib.Mathlib.Logic.Function.Defs.{LeftInverse·injective}
 use native.Mathlib.Omega.{arith}
 use lib.ListN.{length, getD, drop}
 use Rattle.text.specs.Pick.{pick}
@@ -13,7 +15,7 @@ use Rattle.text.proofs.PlaceLaws.{place-beyond, place-end, place-inside}
 use Rattle.pieces.specs.Pieces.{split, joined}
 use Rattle.pieces.specs.Demands.{Free}
 use Rattle.pieces.proofs.PieceLaws.{split-nil, split-free, one-text, more-text}
-use Rattle.line.specs.Line.{Line, line, feed, return-feed, fed, lineOf, lineAnswer, readAnswer}
+use Rattle.line.specs.Line.{Ending, nothing, feed, return-feed, endingBytes, endingNumber, Line, line, fed, lineOf, lineAnswer, readAnswer}
 
 -- ---- the reader at a place
 
@@ -29,6 +31,28 @@ module _ (s : List ℕ) (at : ℕ) where
   pub read-line : at < length s → readAnswer s at ≡ lineAnswer at (lineOf (drop at s))
   unfolding readAnswer
   read-line h = place-inside at s 1 (lineAnswer at (lineOf (drop at s))) h
+
+-- ---- an ending
+
+-- its number is how many bytes it has
+pub ending-size : (e : Ending) → length (endingBytes e) ≡ endingNumber e
+unfolding endingBytes endingNumber
+ending-size nothing = refl
+ending-size feed = refl
+ending-size return-feed = refl
+
+endingBy : ℕ → Ending
+endingBy k = getD (nothing ∷ feed ∷ []) k return-feed
+
+ending-back : (e : Ending) → endingBy (endingNumber e) ≡ e
+unfolding endingBy endingNumber
+ending-back nothing = refl
+ending-back feed = refl
+ending-back return-feed = refl
+
+-- and tells it
+pub ending-known : (e f : Ending) → endingNumber e ≡ endingNumber f → e ≡ f
+ending-known = LeftInverse·injective endingBy endingNumber ending-back
 
 -- ---- an input, cut at its first LF
 

@@ -18,7 +18,7 @@ use Rattle.text.specs.Verdict.{Verdict, fine, refused}
 use Rattle.pieces.specs.Pieces.{split, joined}
 use Rattle.pieces.specs.Demands.{Free}
 use Rattle.pieces.proofs.PieceLaws.{first-free, split-nil, one-text, more-text, more-rest}
-use Rattle.line.specs.Line.{Ending, nothing, feed, return-feed, endingBytes, Line, line, required, lastVerdict, verdict, fieldPlaces, allUtf8, judgedAnswer, lineOf, lineAnswer, readAnswer}
+use Rattle.line.specs.Line.{Ending, nothing, feed, return-feed, endingBytes, endingNumber, Line, line, required, lastVerdict, verdict, fieldPlaces, allUtf8, judgedAnswer, lineOf, lineAnswer, readAnswer}
 use Rattle.line.specs.Demands.{
   FirstFeed,
   NoFeed,
@@ -233,12 +233,12 @@ module _ {s : List ℕ} {at : ℕ} (h : at < length s) where
       record { next = next; others = others; values = refl; alone = o; goes = g; further = λ a b. f .0; within = λ a. f .1 }
 
   -- so is the answer to a verdict
-  judged-moved : {v : Verdict} {past : ℕ} → Leads s at v → PastLine s at past → (from end : ℕ) (cs : List (List ℕ)) → Moved s at (judgedAnswer v from end cs past)
+  judged-moved : {v : Verdict} {past : ℕ} → Leads s at v → PastLine s at past → (from end : ℕ) (cs : List (List ℕ)) (e : Ending) → Moved s at (judgedAnswer v from end cs e past)
   unfolding judgedAnswer
-  judged-moved (refused-leads g) p from end cs = goes-moved (λ z. refl) g
-  judged-moved {past = past} fine-leads p from end cs = by (allUtf8 cs)
+  judged-moved (refused-leads g) p from end cs e = goes-moved (λ z. refl) g
+  judged-moved {past = past} fine-leads p from end cs e = by (allUtf8 cs)
     where
-      by : (t : Bool) → Moved s at (pick t (says 0 (past ∷ fieldPlaces from cs end)) (says 5 (past ∷ [])))
+      by : (t : Bool) → Moved s at (pick t (says 0 (past ∷ endingNumber e ∷ fieldPlaces from cs end)) (says 5 (past ∷ [])))
       by true = goes-moved (λ z. absurd (z refl)) (line-0 p)
       by false = goes-moved (λ z. refl) (line-5 p)
 
@@ -248,7 +248,7 @@ module _ {s : List ℕ} {at : ℕ} (h : at < length s) where
   unfolding lineAnswer
   line-goes t e rest r d x =
       let l : at + length t ≤ length s = omega (arith, length-drop at s, simp length-append at (ap length d)) in
-      judged-moved (columns-lead x (split 9 t) 1 at t r first refl d refl l) (line-past x) at (at + length t) (split 9 t)
+      judged-moved (columns-lead x (split 9 t) 1 at t r first refl d refl l) (line-past x) at (at + length t) (split 9 t) e
 
   -- no LF is left
   all-goes : Free 10 (drop at s) → Moved s at (lineAnswer at (lineOf (drop at s)))

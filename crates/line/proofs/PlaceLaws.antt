@@ -10,8 +10,9 @@ use Rattle.text.specs.declared.range.Range.{Range}
 use Rattle.text.specs.Range.{rangeAt, rangePlaces}
 use Rattle.pieces.specs.Pieces.{split}
 use Rattle.pieces.proofs.PieceLaws.{split-nil, split-joined}
-use Rattle.line.specs.Line.{leadingPlaces, fieldPlaces}
-use Rattle.line.specs.Paper.{recordPlaces}
+use Rattle.line.specs.Line.{endingNumber, leadingPlaces, fieldPlaces}
+use Rattle.line.specs.Paper.{endingOf, recordPlaces, recordValues}
+use Rattle.line.specs.declared.ending.Ending.{Ending}
 use Rattle.line.specs.Inner.{Tab, Told, Spans, Rising, tabPlaces, sevenPlaces}
 use Rattle.line.specs.declared.read.Record.{Record}
 
@@ -81,13 +82,13 @@ module _ {t : List ℕ} {at : ℕ} {tabs : List ℕ} (h : Told t at tabs) where
 
 -- ---- the ten fields
 
-pub filled : (at : ℕ) (tabs : List ℕ) {pos id reference alt qual filter : Range} (info format samples : Range) → Spans (getD tabs 0 0 + 1) (getD tabs 1 0) pos
+pub filled : (at : ℕ) (tabs : List ℕ) (ending : Ending) {pos id reference alt qual filter : Range} (info format samples : Range) → Spans (getD tabs 0 0 + 1) (getD tabs 1 0) pos
     → Spans (getD tabs 1 0 + 1) (getD tabs 2 0) id → Spans (getD tabs 2 0 + 1) (getD tabs 3 0) reference → Spans (getD tabs 3 0 + 1) (getD tabs 4 0) alt
     → Spans (getD tabs 4 0 + 1) (getD tabs 5 0) qual → Spans (getD tabs 5 0 + 1) (getD tabs 6 0) filter
-    → recordPlaces (record { chrom = record { start = at; len = getD tabs 0 0 - at }; pos = pos; id = id; reference = reference; alt = alt; qual = qual; filter = filter; info = info; format = format; samples = samples })
-    ≡ sevenPlaces at tabs ++ rangePlaces info ++ rangePlaces format ++ rangePlaces samples
-unfolding recordPlaces sevenPlaces tabPlaces
-filled at tabs info format samples a b c d e f =
+    → recordValues (record { ending = ending; chrom = record { start = at; len = getD tabs 0 0 - at }; pos = pos; id = id; reference = reference; alt = alt; qual = qual; filter = filter; info = info; format = format; samples = samples })
+    ≡ endingNumber (endingOf ending) ∷ sevenPlaces at tabs ++ rangePlaces info ++ rangePlaces format ++ rangePlaces samples
+unfolding recordValues recordPlaces sevenPlaces tabPlaces
+filled at tabs ending info format samples a b c d e f =
     rw (a .starts, a .size, b .starts, b .size, c .starts, c .size, d .starts, d .size, e .starts, e .size, f .starts, f .size)
 
 module _ {t : List ℕ} {at : ℕ} {tabs : List ℕ} (h : Told t at tabs) where
@@ -103,9 +104,9 @@ module _ {t : List ℕ} {at : ℕ} {tabs : List ℕ} (h : Told t at tabs) where
       let c₇ = count-tab (h .seven 6 (omega arith)) in
       omega arith
 
-  pub filled-eight : {info : Range} (r : Record) → getD tabs 7 0 ≡ 0 → Spans (getD tabs 6 0 + 1) (length t) info
-      → recordPlaces r ≡ sevenPlaces at tabs ++ rangePlaces info ++ rangePlaces (record { start = length t; len = 0 }) ++ rangePlaces (record { start = length t; len = 0 })
-      → recordPlaces r ≡ fieldPlaces at (split 9 (drop at t)) (length t)
+  pub filled-eight : {info : Range} (r : Record) {n : ℕ} → getD tabs 7 0 ≡ 0 → Spans (getD tabs 6 0 + 1) (length t) info
+      → recordValues r ≡ n ∷ sevenPlaces at tabs ++ rangePlaces info ++ rangePlaces (record { start = length t; len = 0 }) ++ rangePlaces (record { start = length t; len = 0 })
+      → recordValues r ≡ n ∷ fieldPlaces at (split 9 (drop at t)) (length t)
   unfolding fieldPlaces sevenPlaces tabPlaces
   filled-eight r z i e =
       let l = ap length (h .eight z) in
@@ -114,10 +115,10 @@ module _ {t : List ℕ} {at : ℕ} {tabs : List ℕ} (h : Told t at tabs) where
       e
       ∙ rw (i .starts, i .size, eq-eqb _ 8 eight, leading-tab (h .seven 0 (omega arith)) 7, leading-tab (h .seven 1 (omega arith)) 6, leading-tab (h .seven 2 (omega arith)) 5, leading-tab (h .seven 3 (omega arith)) 4, leading-tab (h .seven 4 (omega arith)) 3, leading-tab (h .seven 5 (omega arith)) 2, leading-tab (h .seven 6 (omega arith)) 1, leading-last t (getD tabs 6 0 + 1) (h .eight z))
 
-  pub filled-ten : {info format samples : Range} (r : Record) → (getD tabs 7 0 ≡ 0 → ⊥) → Spans (getD tabs 6 0 + 1) (getD tabs 7 0) info
+  pub filled-ten : {info format samples : Range} (r : Record) {n : ℕ} → (getD tabs 7 0 ≡ 0 → ⊥) → Spans (getD tabs 6 0 + 1) (getD tabs 7 0) info
       → Spans (getD tabs 7 0 + 1) (getD tabs 8 0) format → Spans (getD tabs 8 0 + 1) (length t) samples
-      → recordPlaces r ≡ sevenPlaces at tabs ++ rangePlaces info ++ rangePlaces format ++ rangePlaces samples
-      → recordPlaces r ≡ fieldPlaces at (split 9 (drop at t)) (length t)
+      → recordValues r ≡ n ∷ sevenPlaces at tabs ++ rangePlaces info ++ rangePlaces format ++ rangePlaces samples
+      → recordValues r ≡ n ∷ fieldPlaces at (split 9 (drop at t)) (length t)
   unfolding fieldPlaces sevenPlaces tabPlaces
   filled-ten r n i f s e =
       let c = count-is in
@@ -139,9 +140,9 @@ unfolding oneByOne
 one-by-one zero k l e = sym (drop-of-length-le l {i = k} (omega arith))
 one-by-one (suc n) k l e = ap (λ (r : List ℕ). getD l k 0 ∷ r) (one-by-one n (suc k) l (omega arith)) ∙ sym (drop-cons l k 0 (omega arith))
 
-pub made : (l : List ℕ) {chrom pos id reference alt qual filter info format samples : Range} → length l ≡ 20 → chrom ≡ rangeAt (getD l 0 0) (getD l 1 0) → pos ≡ rangeAt (getD l 2 0) (getD l 3 0) → id ≡ rangeAt (getD l 4 0) (getD l 5 0) → reference ≡ rangeAt (getD l 6 0) (getD l 7 0) → alt ≡ rangeAt (getD l 8 0) (getD l 9 0) → qual ≡ rangeAt (getD l 10 0) (getD l 11 0) → filter ≡ rangeAt (getD l 12 0) (getD l 13 0) → info ≡ rangeAt (getD l 14 0) (getD l 15 0) → format ≡ rangeAt (getD l 16 0) (getD l 17 0) → samples ≡ rangeAt (getD l 18 0) (getD l 19 0)
-    → recordPlaces (record { chrom = chrom; pos = pos; id = id; reference = reference; alt = alt; qual = qual; filter = filter; info = info; format = format; samples = samples }) ≡ l
-unfolding recordPlaces oneByOne
-made l n a b c d e f g h i j = rw (a, b, c, d, e, f, g, h, i, j) (one-by-one 20 0 l n)
+pub made : (ending : Ending) (l : List ℕ) {chrom pos id reference alt qual filter info format samples : Range} → length l ≡ 20 → chrom ≡ rangeAt (getD l 0 0) (getD l 1 0) → pos ≡ rangeAt (getD l 2 0) (getD l 3 0) → id ≡ rangeAt (getD l 4 0) (getD l 5 0) → reference ≡ rangeAt (getD l 6 0) (getD l 7 0) → alt ≡ rangeAt (getD l 8 0) (getD l 9 0) → qual ≡ rangeAt (getD l 10 0) (getD l 11 0) → filter ≡ rangeAt (getD l 12 0) (getD l 13 0) → info ≡ rangeAt (getD l 14 0) (getD l 15 0) → format ≡ rangeAt (getD l 16 0) (getD l 17 0) → samples ≡ rangeAt (getD l 18 0) (getD l 19 0)
+    → recordValues (record { ending = ending; chrom = chrom; pos = pos; id = id; reference = reference; alt = alt; qual = qual; filter = filter; info = info; format = format; samples = samples }) ≡ endingNumber (endingOf ending) ∷ l
+unfolding recordValues recordPlaces oneByOne
+made ending l n a b c d e f g h i j = rw (a, b, c, d, e, f, g, h, i, j) (ap (λ (ps : List ℕ). endingNumber (endingOf ending) ∷ ps) (one-by-one 20 0 l n))
 
 pub ruleset laws = (keep-out, rising, last-eight, info-before, format-before, samples-before, filled, filled-eight, filled-ten)

@@ -17,33 +17,37 @@ use Rattle.text.proofs.Lists.{cut-is}
 use Rattle.pieces.specs.Pieces.{split, pieces, joined}
 use Rattle.pieces.specs.Demands.{Free, startIn}
 use Rattle.pieces.proofs.PieceLaws.{split-back, joined-none, joined-one, joined-more, pieces-none, pieces-some}
-use Rattle.line.specs.Line.{Ending, endingBytes, line, lineOf, readAnswer}
+use Rattle.line.specs.Line.{Ending, endingBytes, endingNumber, line, lineOf, readAnswer}
 use Rattle.line.specs.Place.{rangeOf, columnNumber, columnOf, columnStart}
-use Rattle.line.specs.Paper.{recordPlaces}
+use Rattle.line.specs.Paper.{endingOf, recordPlaces, recordValues}
 use Rattle.line.specs.Promises.{GivesPlace, MakesRecord}
 use Rattle.line.specs.Demands.{Column, Begins, Lies, TenPlaces, Stands, One}
+use Rattle.line.specs.declared.ending.Ending.{Ending as DeclaredEnding}
 use Rattle.line.specs.declared.read.Record.{Record}
 use Rattle.line.specs.declared.place.Name.{Name}
 use Rattle.line.specs.declared.place.Name.the-variants as N
+use Rattle.line.proofs.LineLaws.{ending-known}
 use Rattle.line.proofs.ShapeLaws.{shaped-line, shaped-split}
 use Rattle.line.proofs.One.{one, lie-cuts, fieldOf, CutsOut}
 
 -- ---- what was read
 
--- the columns that begin the buffer at the place, and no others; the record's places are theirs
+-- the columns that begin the buffer at the place, and no others; the record's ending and places are theirs
 pub record Recorded (s : List ℕ) (at : ℕ) (r : Record) : Type 0 where
   pub columns : List (List ℕ)
   pub ending : Ending
   pub rest : List ℕ
   pub begin : Begins (drop at s) columns ending rest
   pub only : (cs : List (List ℕ)) (e : Ending) (u : List ℕ) → Begins (drop at s) cs e u → cs ≡ columns
+  pub ends : endingOf (r .ending) ≡ ending
   pub lie : TenPlaces (recordPlaces r) at columns
 
-pub recorded : (s : List ℕ) (at : ℕ) {next : ℕ} {r : Record} → readAnswer s at ≡ says 0 (next ∷ recordPlaces r) → Recorded s at r
-unfolding One
+pub recorded : (s : List ℕ) (at : ℕ) {next : ℕ} {r : Record} → readAnswer s at ≡ says 0 (next ∷ recordValues r) → Recorded s at r
+unfolding One recordValues
 recorded s at {next} {r} h =
     let o : Stands s at (readAnswer s at) = one s at (rw h) in
-    let v : next ∷ recordPlaces r ≡ valuesOf (readAnswer s at) = rw h in
+    let v : next ∷ recordValues r ≡ valuesOf (readAnswer s at) = rw h in
+    let n : endingNumber (endingOf (r .ending)) ≡ endingNumber (o .ending) = cc (v ∙ o .values) in
     let p : o .places ≡ recordPlaces r = cc (v ∙ o .values) in
     record {
       columns = o .columns;
@@ -51,6 +55,7 @@ recorded s at {next} {r} h =
       rest = o .rest;
       begin = o .begin;
       only = λ cs e u b. o .only cs e u b .0;
+      ends = ending-known _ _ n;
       lie = rw p at (o .lie);
     }
 
@@ -109,8 +114,9 @@ range-place r N.Format = record { starts = refl; sized = refl }
 range-place r N.Samples = record { starts = refl; sized = refl }
 
 -- so is one of a record that was made from numbers
-pub made-place : {places : List ℕ} (r : Record) (n : Name) {x : Range} → MakesRecord places r → GivesPlace r n x → Lies places (columnNumber n) (x .start) (x .len)
-made-place r n e q = rw (e, ← q) at (range-place r n)
+pub made-place : (ending : DeclaredEnding) {places : List ℕ} (r : Record) (n : Name) {x : Range} → MakesRecord ending places r → GivesPlace r n x → Lies places (columnNumber n) (x .start) (x .len)
+unfolding recordValues
+made-place ending {places} r n e q = let p : recordPlaces r ≡ places = cc in rw (p, ← q) at (range-place r n)
 
 -- what stands behind the first eight places
 behind : (places : List ℕ) {l : List ℕ} → drop 16 places ≡ l → (j : ℕ) → getD places (16 + j) 0 ≡ getD l j 0

@@ -9,7 +9,7 @@ use Rattle.text.specs.Answer.{says, numberOf}
 use Rattle.text.specs.Verdict.{fine}
 use Rattle.pieces.specs.Pieces.{split, joined}
 use Rattle.pieces.proofs.PieceLaws.{split-free, split-joined, split-back}
-use Rattle.line.specs.Line.{Ending, endingBytes, line, lineOf, verdict, fieldPlaces, judgedAnswer, lineAnswer, readAnswer}
+use Rattle.line.specs.Line.{Ending, endingBytes, endingNumber, line, lineOf, verdict, fieldPlaces, judgedAnswer, lineAnswer, readAnswer}
 use Rattle.line.specs.Demands.{MayEnd, LineCut, Shaped, Begins}
 use Rattle.line.proofs.LineLaws.{read-line}
 use Rattle.line.proofs.ColumnLaws.{free-joined, free-each, line-only, count-fine}
@@ -30,7 +30,7 @@ module _ {s : List ℕ} {cs : List (List ℕ)} {e : Ending} {rest : List ℕ} (b
   shaped-fine from past = count-fine from cs e past (b .count) (λ i l. b .each i l .some)
 
   pub shaped-answer : (from : ℕ)
-      → lineAnswer from (lineOf s) ≡ judgedAnswer fine from (from + length (joined 9 cs)) cs (from + length (joined 9 cs) + length (endingBytes e))
+      → lineAnswer from (lineOf s) ≡ judgedAnswer fine from (from + length (joined 9 cs)) cs e (from + length (joined 9 cs) + length (endingBytes e))
   unfolding lineAnswer
   shaped-answer from = rw (shaped-line, shaped-split, shaped-fine from (from + length (joined 9 cs) + length (endingBytes e)))
 
@@ -50,7 +50,7 @@ cut-shaped {t = t} c n full =
 
 -- where columns begin what is left, the answer is 0, with their places
 pub begins-answer : (s : List ℕ) (at : ℕ) {cs : List (List ℕ)} {e : Ending} {rest : List ℕ} → at < length s → Begins (drop at s) cs e rest
-    → readAnswer s at ≡ says 0 ((at + length (joined 9 cs) + length (endingBytes e)) ∷ fieldPlaces at cs (at + length (joined 9 cs)))
+    → readAnswer s at ≡ says 0 ((at + length (joined 9 cs) + length (endingBytes e)) ∷ endingNumber e ∷ fieldPlaces at cs (at + length (joined 9 cs)))
 unfolding judgedAnswer
 begins-answer s at h b = read-line s at h ∙ shaped-answer (b .shaped) at ∙ rw (b .utf8)
 

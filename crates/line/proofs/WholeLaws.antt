@@ -5,7 +5,7 @@ use mathlib.Core.Path.{_≡_, refl, sym, ap, _∙_}
 use mathlib.Core.Bool.{Bool, true, false}
 use mathlib.Core.List.{List, [], _∷_, _++_, dropLast}
 use native.Mathlib.Omega.{arith}
-use lib.ListN.{length, take, drop, length-append, length-drop}
+use lib.ListN.{length, getD, take, drop, length-append, length-drop}
 use lib.Seq.{take-at, append-snoc}
 use Rattle.text.specs.Answer.{Answer, says, numberOf, valuesOf}
 use Rattle.text.specs.Bytes.{endsIn}
@@ -55,15 +55,24 @@ window-fed s at w p t x y f d e =
 
 -- ---- answers that are one when moved
 
--- have one number
-pub moved-number : (d e : ℕ) (a b : Answer) → moved d a ≡ moved e b → numberOf a ≡ numberOf b
+-- an answer that is moved keeps its number
+moved-says : (d : ℕ) (a : Answer) → numberOf (moved d a) ≡ numberOf a
 unfolding moved
-moved-number d e (says n []) (says m []) q = cc
-moved-number d e (says n []) (says m (y ∷ ys)) q = cc
-moved-number d e (says n (x ∷ xs)) (says m []) q = cc
-moved-number d e (says n (x ∷ xs)) (says m (y ∷ ys)) q = cc
+moved-says d (says n []) = refl
+moved-says d (says n (x ∷ [])) = refl
+moved-says d (says n (x ∷ y ∷ ys)) = refl
+
+-- and its next place is moved
+moved-first : (d : ℕ) (a : Answer) {x : ℕ} {xs : List ℕ} → valuesOf a ≡ x ∷ xs → getD (valuesOf (moved d a)) 0 0 ≡ x + d
+unfolding moved
+moved-first d (says n []) e = absurd (let z = ap length e in omega arith)
+moved-first d (says n (y ∷ [])) e = let z = ap (λ (l : List ℕ). getD l 0 0) e in omega arith
+moved-first d (says n (y ∷ w ∷ ws)) e = let z = ap (λ (l : List ℕ). getD l 0 0) e in omega arith
+
+-- so such answers have one number
+pub moved-number : (d e : ℕ) (a b : Answer) → moved d a ≡ moved e b → numberOf a ≡ numberOf b
+moved-number d e a b q = sym (moved-says d a) ∙ ap numberOf q ∙ moved-says e b
 
 -- and their next places differ as they were moved
 pub moved-next : (d e : ℕ) (a b : Answer) {x y : ℕ} {xs ys : List ℕ} → valuesOf a ≡ x ∷ xs → valuesOf b ≡ y ∷ ys → moved d a ≡ moved e b → x + d ≡ y + e
-unfolding moved
-moved-next d e (says n vs) (says m us) p q r = let z = rw (p, q) at r in cc
+moved-next d e a b p q r = sym (moved-first d a p) ∙ ap (λ (c : Answer). getD (valuesOf c) 0 0) r ∙ moved-first e b q

@@ -58,11 +58,11 @@ module _ (d : ℕ) where
 
   -- ---- the answer
 
-  judged-moved : (v : Verdict) (from end : ℕ) (cs : List (List ℕ)) (past : ℕ)
-      → judgedAnswer (movedVerdict v) (from + d) (end + d) cs (past + d) ≡ moved d (judgedAnswer v from end cs past)
-  unfolding judgedAnswer moved movedPlaces
-  judged-moved (refused n next) from end cs past = refl
-  judged-moved fine from end cs past = rw (pick-ap (moved d), fields-moved from cs end)
+  judged-moved : (v : Verdict) (from end : ℕ) (cs : List (List ℕ)) (e : Ending) (past : ℕ)
+      → judgedAnswer (movedVerdict v) (from + d) (end + d) cs e (past + d) ≡ moved d (judgedAnswer v from end cs e past)
+  unfolding judgedAnswer moved
+  judged-moved (refused n next) from end cs e past = refl
+  judged-moved fine from end cs e past = rw (pick-ap (moved d), fields-moved from cs end)
 
   -- a line whose text starts d further on
   pub line-moved : (from : ℕ) (l : Line) → lineAnswer (from + d) l ≡ moved d (lineAnswer from l)
@@ -73,7 +73,7 @@ module _ (d : ℕ) where
       let a : from + d + length t ≡ end + d = omega arith in
       let b : end + d + length (endingBytes e) ≡ past + d = omega arith in
       rw (a, b, verdict-moved 1 from (split 9 t) e past)
-      (judged-moved (verdict 1 from (split 9 t) e past) from end (split 9 t) past)
+      (judged-moved (verdict 1 from (split 9 t) e past) from end (split 9 t) e past)
 
 -- what follows the LF changes nothing
 pub fed-same : (from : ℕ) (t x y : List ℕ) → lineAnswer from (fed t x) ≡ lineAnswer from (fed t y)

@@ -95,7 +95,8 @@ pub record TenPlaces (places : List ℕ) (at : ℕ) (cs : List (List ℕ)) : Typ
   pub format : 10 ≤ length cs → Lies places 8 (at + startIn cs 8) (length (getD cs 8 []))
   pub samples : 10 ≤ length cs → Lies places 9 (at + startIn cs 9) (length (joined 9 (drop 9 cs)))
 
--- the answer 0 stands for these columns, with this ending and rest, and for no others; the next place is just past the ending
+-- the answer 0 stands for these columns, with this ending and rest, and for no others: it says the next place, which is just past the
+-- ending, then the ending, then the places
 pub record Stands (s : List ℕ) (at : ℕ) (a : Answer) : Type 0 where
   pub columns : List (List ℕ)
   pub ending : Ending
@@ -103,7 +104,7 @@ pub record Stands (s : List ℕ) (at : ℕ) (a : Answer) : Type 0 where
   pub places : List ℕ
   pub begin : Begins (drop at s) columns ending rest
   pub only : (cs : List (List ℕ)) (e : Ending) (r : List ℕ) → Begins (drop at s) cs e r → (cs ≡ columns) × (e ≡ ending) × (r ≡ rest)
-  pub values : valuesOf a ≡ (at + length (joined 9 columns) + length (endingBytes ending)) ∷ places
+  pub values : valuesOf a ≡ (at + length (joined 9 columns) + length (endingBytes ending)) ∷ endingNumber ending ∷ places
   pub lie : TenPlaces places at columns
 
 unfoldable pub One : Reader → Type 0
@@ -218,10 +219,11 @@ movedPlaces d [] = []
 movedPlaces d (start ∷ []) = (start + d) ∷ []
 movedPlaces d (start ∷ len ∷ places) = (start + d) ∷ len ∷ movedPlaces d places
 
--- the next place and the starts of an answer, d further on
+-- the next place and the starts of an answer, d further on; the ending stays
 unfoldable pub moved : ℕ → Answer → Answer
 moved d (says n []) = says n []
-moved d (says n (next ∷ places)) = says n ((next + d) ∷ movedPlaces d places)
+moved d (says n (next ∷ [])) = says n ((next + d) ∷ [])
+moved d (says n (next ∷ ending ∷ places)) = says n ((next + d) ∷ ending ∷ movedPlaces d places)
 
 -- a buffer holds from p on what the input holds from at on: through the first LF, or to the input's end
 pub data Window (s : List ℕ) (at : ℕ) (w : List ℕ) (p : ℕ) : Type 0 where
@@ -229,7 +231,7 @@ pub data Window (s : List ℕ) (at : ℕ) (w : List ℕ) (p : ℕ) : Type 0 wher
       → take (feed + 1 - at) (drop p w) ≡ take (feed + 1 - at) (drop at s) → Window s at w p
   to-end : at ≤ length s → p ≤ length w → drop p w ≡ drop at s → Window s at w p
 
--- the answer from the buffer, its places counted from p, is the answer from the input, its places counted from at
+-- the answer from the buffer, its places counted from p, is the answer from the input, its places counted from at; with the same ending
 unfoldable pub Windowed : Reader → Type 0
 Windowed read = (s : List ℕ) (at : ℕ) (w : List ℕ) (p : ℕ) → Window s at w p → moved at (read w p) ≡ moved p (read s at)
 

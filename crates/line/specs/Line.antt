@@ -93,15 +93,15 @@ unfoldable pub allUtf8 : List (List ℕ) → Bool
 allUtf8 [] = true
 allUtf8 (c ∷ cs) = isUtf8 c && allUtf8 cs
 
--- structure before UTF-8
-unfoldable pub judgedAnswer : Verdict → ℕ → ℕ → List (List ℕ) → ℕ → Answer
-judgedAnswer (refused n next) from end cs past = says n (next ∷ [])
-judgedAnswer fine from end cs past = pick (allUtf8 cs) (says 0 (past ∷ fieldPlaces from cs end)) (says 5 (past ∷ []))
+-- structure before UTF-8; an accepted line says the next place, its ending and its places
+unfoldable pub judgedAnswer : Verdict → ℕ → ℕ → List (List ℕ) → Ending → ℕ → Answer
+judgedAnswer (refused n next) from end cs e past = says n (next ∷ [])
+judgedAnswer fine from end cs e past = pick (allUtf8 cs) (says 0 (past ∷ endingNumber e ∷ fieldPlaces from cs end)) (says 5 (past ∷ []))
 
 -- a line whose text starts at the place `from`
 unfoldable pub lineAnswer : ℕ → Line → Answer
 lineAnswer from (line t e rest) =
-    judgedAnswer (verdict 1 from (split 9 t) e (from + length t + length (endingBytes e))) from (from + length t) (split 9 t)
+    judgedAnswer (verdict 1 from (split 9 t) e (from + length t + length (endingBytes e))) from (from + length t) (split 9 t) e
     (from + length t + length (endingBytes e))
 
 -- 6 beyond the input, 1 at its end, else the line from the place on

@@ -36,8 +36,12 @@ recordPlaces r =
     ++ rangePlaces (r .format)
     ++ rangePlaces (r .samples)
 
+-- how its line ended, and those
+unfoldable pub recordValues : Record → List ℕ
+recordValues r = endingNumber (endingOf (r .ending)) ∷ recordPlaces r
+
 unfoldable pub readPaper : Read → Answer
-readPaper (R.Line r next) = says 0 (next ∷ recordPlaces r)
+readPaper (R.Line r next) = says 0 (next ∷ recordValues r)
 readPaper (R.End next) = says 1 (next ∷ [])
 readPaper (R.Empty next) = says 2 (next ∷ [])
 readPaper (R.Fed next) = says 3 (next ∷ [])

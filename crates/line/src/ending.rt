@@ -1,7 +1,7 @@
 // How a line ended, and where its text ends.
 ghost use Prim.Native.Nat.{_≤_};
 ghost use lib.ListN.{length};
-ghost use Rattle.line.specs.Inner.{TextEnd};
+ghost use Rattle.line.specs.Inner.{TextEnd, EndsBetween};
 
 pub enum Ending {
     // The end of the input.
@@ -28,4 +28,16 @@ pub(crate) fn text_end(s: &[u8], start: usize, stop: usize) -> usize
         return stop - 1;
     }
     stop
+}
+
+// How a line ended, by where its text ends and the next place: no byte stands between, or one, or two.
+pub(crate) fn ending_between(end: usize, next: usize) -> Ending
+    requires { ⌜ end ≤ next ⌝ }
+    ensures { λ r. ⌜ EndsBetween end next r ⌝ }
+{
+    match next - end {
+        0 => Ending::Nothing,
+        1 => Ending::Feed,
+        _ => Ending::ReturnFeed,
+    }
 }

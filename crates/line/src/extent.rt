@@ -1,5 +1,6 @@
 // The line at a place: where its text ends, how it ended, and where the next one starts.
 use crate::ending::Ending;
+use crate::ending::ending_between;
 use crate::ending::text_end;
 use pieces::either::find_either;
 ghost use Rattle.line.specs.Promises.{FindsLine};
@@ -25,8 +26,5 @@ pub fn line_at(s: &[u8], at: usize) -> Lined
         return Lined::At(end, Ending::Nothing, stop);
     }
     let next = stop + 1;
-    if end == stop {
-        return Lined::At(end, Ending::Feed, next);
-    }
-    Lined::At(end, Ending::ReturnFeed, next)
+    Lined::At(end, ending_between(end, next), next)
 }

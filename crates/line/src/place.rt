@@ -1,9 +1,10 @@
-// The place of each field of a line that was read, and a record by its places.
+// The place of each field of a line that was read, how it ended, and a record by these.
+use crate::ending::Ending;
 use crate::read::Record;
 use text::range::Range;
 ghost use mathlib.Core.Path.{_≡_};
 ghost use Rattle.text.specs.Range.{rangeAt};
-ghost use Rattle.line.specs.Promises.{GivesPlace, MakesRecord};
+ghost use Rattle.line.specs.Promises.{GivesPlace, GivesEnding, MakesRecord};
 
 // The ten fields of a line.
 pub enum Name {
@@ -37,17 +38,25 @@ pub fn place_of(line: Record, name: Name) -> Range
     }
 }
 
+// How the record's line ended.
+pub fn ending_of(line: Record) -> Ending
+    ensures { λ r. ⌜ GivesEnding line r ⌝ }
+{
+    line.ending
+}
+
 fn range_of(start: usize, len: usize) -> Range
     ensures { λ r. ⌜ r ≡ rangeAt start len ⌝ }
 {
     Range { start, len }
 }
 
-// The record of ten fields by the start and the length of each, in order.
-pub fn make_record(places: [usize; 20]) -> Record
-    ensures { λ r. ⌜ MakesRecord places r ⌝ }
+// The record of a line by how it ended, and by the start and the length of each of its ten fields, in order.
+pub fn make_record(ending: Ending, places: [usize; 20]) -> Record
+    ensures { λ r. ⌜ MakesRecord ending places r ⌝ }
 {
     Record {
+        ending,
         chrom: range_of(places[0], places[1]),
         pos: range_of(places[2], places[3]),
         id: range_of(places[4], places[5]),

@@ -1,4 +1,6 @@
 // Reading a line: where its columns end, whether they are in order, and the places of its fields.
+use crate::ending::Ending;
+use crate::ending::ending_between;
 use crate::ending::text_end;
 use pieces::either::find_either;
 use pieces::either::near_end;
@@ -7,17 +9,18 @@ use text::utf8::Utf8;
 use text::utf8::check_utf8;
 ghost use mathlib.Core.Path.{_≡_};
 ghost use Prim.Native.Nat.{_+_, _-_, _≤_, _<_};
-ghost use mathlib.Core.List.{_++_};
+ghost use mathlib.Core.List.{_∷_, _++_};
 ghost use lib.ListN.{length, take, drop, set};
 ghost use Rattle.text.specs.Range.{rangePlaces};
 ghost use Rattle.pieces.specs.Pieces.{split};
-ghost use Rattle.line.specs.Line.{required, lineOf, fieldPlaces, lineAnswer};
-ghost use Rattle.line.specs.Paper.{recordPlaces, readPaper};
+ghost use Rattle.line.specs.Line.{endingNumber, required, lineOf, fieldPlaces, lineAnswer};
+ghost use Rattle.line.specs.Paper.{endingOf, recordValues, readPaper};
 ghost use Rattle.line.specs.Promises.{ReadsLine};
 ghost use Rattle.line.specs.Inner.{StopsAt, Stopped, Clear, judgementOf, judgedPaper, Unset, Marks, Spans, Rising, sevenPlaces, Told, InOrder};
 
-// The places of a line's ten fields. Others ask for them by `place_of`.
+// How a line ended, and the places of its ten fields. Others ask for them by `ending_of` and `place_of`.
 pub struct Record {
+    pub(crate) ending: Ending,
     pub(crate) chrom: Range,
     pub(crate) pos: Range,
     pub(crate) id: Range,
@@ -196,12 +199,20 @@ fn between(tab: usize, end: usize) -> Range
     }
 }
 
-// The first seven fields by the tabs that end them, and the last three as they are given.
-fn record_of(at: usize, tabs: &[usize], info: Range, format: Range, samples: Range) -> Record
+// The first seven fields by the tabs that end them, and the ending and the last three fields as they are given.
+fn record_of(
+    at: usize,
+    tabs: &[usize],
+    ending: Ending,
+    info: Range,
+    format: Range,
+    samples: Range,
+) -> Record
     requires { ⌜ Rising at (now tabs) ⌝ }
-    ensures { λ r. ⌜ recordPlaces r ≡ sevenPlaces at (now (tabs .entry)) ++ rangePlaces info ++ rangePlaces format ++ rangePlaces samples ⌝ }
+    ensures { λ r. ⌜ recordValues r ≡ endingNumber (endingOf ending) ∷ sevenPlaces at (now (tabs .entry)) ++ rangePlaces info ++ rangePlaces format ++ rangePlaces samples ⌝ }
 {
     Record {
+        ending,
         chrom: Range {
             start: at,
             len: tabs[0] - at,
@@ -218,19 +229,19 @@ fn record_of(at: usize, tabs: &[usize], info: Range, format: Range, samples: Ran
     }
 }
 
-// The places of the fields of the line that starts at `at` in t and ends where t ends, by its first tabs.
-fn fields_of(t: &[u8], at: usize, tabs: &[usize]) -> Record
+// The record of the line that starts at `at` in t and whose text ends where t ends, by its first tabs and its ending.
+fn fields_of(t: &[u8], at: usize, tabs: &[usize], ending: Ending) -> Record
     requires { ⌜ Told (now t) at (now tabs) ⌝ }
-    ensures { λ r. ⌜ recordPlaces r ≡ fieldPlaces at (split 9 (drop at (now (t .entry)))) (length (now (t .entry))) ⌝ }
+    ensures { λ r. ⌜ recordValues r ≡ endingNumber (endingOf ending) ∷ fieldPlaces at (split 9 (drop at (now (t .entry)))) (length (now (t .entry))) ⌝ }
 {
     let end = t.len();
     if tabs[7] == 0 {
         let none = Range { start: end, len: 0 };
-        return record_of(at, tabs, between(tabs[6], end), none, none);
+        return record_of(at, tabs, ending, between(tabs[6], end), none, none);
     }
     let info = between(tabs[6], tabs[7]);
     let format = between(tabs[7], tabs[8]);
-    record_of(at, tabs, info, format, between(tabs[8], end))
+    record_of(at, tabs, ending, info, format, between(tabs[8], end))
 }
 
 // A line whose columns are in order, with its text's end and the next place: all that is left to judge is UTF-8.
@@ -241,7 +252,10 @@ fn finish(s: &[u8], at: usize, end: usize, next: usize, tabs: &[usize]) -> Read
 {
     let checked = check_utf8(&s[at..end]);
     match checked {
-        Utf8::Text => Read::Line(fields_of(&s[..end], at, tabs), next),
+        Utf8::Text => {
+            let ending = ending_between(end, next);
+            Read::Line(fields_of(&s[..end], at, tabs, ending), next)
+        }
         Utf8::Broken => Read::NotUtf8(next),
     }
 }

@@ -9,7 +9,7 @@ returns : tie.Need-returns
 returns c = search (needs, laws)
 
 find-either-requires : tie.Need-find-either-requires
-find-either-requires c κs = search needs
+find-either-requires c κs = search (needs, laws)
 
 text-end-requires : tie.Need-text-end-requires
 text-end-requires c κs = search (needs, laws)
@@ -20,13 +20,20 @@ returns-2 c = search (needs, laws)
 add-next : tie.Need-add-next
 add-next c = omega (arith, stop-inside _ _ (c .before .before .before .if1 .left) (c .before .before .find-either .ensures) (c .if2 .left))
 
+ending-between-requires : tie.Need-ending-between-requires
+ending-between-requires c κs = search (needs, laws)
+
 returns-3 : tie.Need-returns-3
 returns-3 c = search (needs, laws)
-
-returns-4 : tie.Need-returns-4
-returns-4 c = search (needs, laws)
 
 pub line-at-spec : {M : Type 1} → statement M
 line-at-spec =
     tie.close
-    (tie.spec returns find-either-requires text-end-requires returns-2 add-next returns-3 returns-4)
+    (tie.spec
+    returns
+    find-either-requires
+    text-end-requires
+    returns-2
+    add-next
+    ending-between-requires
+    returns-3)

@@ -98,7 +98,8 @@ returns : tie.Need-returns
 returns c =
     made
     _
-    (c .before .before .before .before .before .before .before .before .before .before .good .0 .1 .0 .1)
+    _
+    (c .before .before .before .before .before .before .before .before .before .before .good .1 .0 .1 .0 .1)
     (c .before .before .before .before .before .before .before .before .before .range-of .ensures)
     (c .before .before .before .before .before .before .before .before .range-of2 .ensures)
     (c .before .before .before .before .before .before .before .range-of3 .ensures)

@@ -19,6 +19,9 @@ check-utf8-requires c κs = search (needs, laws)
 enum-told : tie.Need-enum-told
 enum-told c = search (needs, laws)
 
+ending-between-requires : tie.Need-ending-between-requires
+ending-between-requires c κs = search (needs, laws)
+
 slice-aggregate-fields-of : tie.Need-slice-aggregate-fields-of
 slice-aggregate-fields-of c = search (needs, laws)
 
@@ -43,6 +46,7 @@ finish-spec =
     part-check-utf8-end
     check-utf8-requires
     enum-told
+    ending-between-requires
     slice-aggregate-fields-of
     fields-of-requires
     enum-told-2

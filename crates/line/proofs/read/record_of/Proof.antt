@@ -4,11 +4,11 @@ use borrow.Author.Needs.{needs}
 use Rattle.line.proofs.read.record_of.Statement.{statement}
 use Rattle.line.proofs.read.record_of.Tie as tie
 
-shared-slice-read-t7 : tie.Need-shared-slice-read-t7
-shared-slice-read-t7 c = search (needs, laws)
+shared-slice-read-t8 : tie.Need-shared-slice-read-t8
+shared-slice-read-t8 c = search (needs, laws)
 
-sub-t8 : tie.Need-sub-t8
-sub-t8 c = search (needs, laws)
+sub-t9 : tie.Need-sub-t9
+sub-t9 c = search (needs, laws)
 
 shared-slice-read-between : tie.Need-shared-slice-read-between
 shared-slice-read-between c = search (needs, laws)
@@ -71,8 +71,8 @@ pub record-of-spec : {M : Type 1} → statement M
 record-of-spec =
     tie.close
     (tie.spec
-    shared-slice-read-t7
-    sub-t8
+    shared-slice-read-t8
+    sub-t9
     shared-slice-read-between
     shared-slice-read-between-2
     between-requires
