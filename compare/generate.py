@@ -1575,6 +1575,88 @@ def alt_counts(large, dice):
     yield from random_alts(large, dice)
 
 
+# ---- the endings of lines that are joined and read
+
+LAST_COLUMNS = (
+    b"", b"a", b"a\r", b"\r", b"\r\r", b"a\r\r", b"\ra", b"a\rb", b".\r", "\u8a9e\r".encode(), b"\xc3\r", b"\r\xff",
+)
+# What stands in a text before a line, and what behind it.
+BEFORE_LINE = (b"", b"a\r", LINES[1])
+BEHIND_LINE = (b"", b"\n", b"\r", b"\r\n", b"\r\r\n", b"a", b"a\r\n", b"\t", b"\tF\ts\r\n", b"\xff\n", LINES[1])
+
+
+def with_last(count, last):
+    """So many columns, the last of them given."""
+    return (*COLUMNS[: count - 1], last)
+
+
+def columns_with_returns():
+    """Each last column; a CR at the end of each other column, of all others, and of all."""
+    for count, last in itertools.product((8, 10, 12), LAST_COLUMNS):
+        yield with_last(count, last)
+    for count, column in itertools.product((8, 10), (b"a\r", b"\r")):
+        for index in range(count - 1):
+            yield replaced(COLUMNS[:count], {index: column})
+        yield [column] * (count - 1) + [b"a"]
+        yield [column] * count
+
+
+def last_returns_and_faults():
+    """A last column that ends in CR, with every mixture of other faults, so that each is seen to go before the next."""
+    faults, lasts = ({}, {2: b"\xc3"}, {2: b""}, {2: b"a\r"}), (b"a\r", b"\xc3\r")
+    for count, fault, last, (ending, word) in itertools.product((7, 8, 9, 10), faults, lasts, ENDINGS.items()):
+        columns = replaced(with_last(count, last), fault)
+        need, (text, ends) = needed(columns, ending), listed(columns)
+        for room in (need, need - 1, 0):
+            yield ask("join", room, 0, word, text, ends)
+        yield ask("join", need, need + 1, word, text, ends)
+        yield ask("join", need, 0, word, text, (*ends[:-1], len(text) + 1))
+
+
+def rooms_about_endings():
+    """Rooms about what is needed, at the output's first place and at later ones; and places about its end."""
+    for count, last, (ending, word) in itertools.product((8, 10), (b"a", b"a\r", b"\r"), ENDINGS.items()):
+        columns = with_last(count, last)
+        need, (text, ends) = needed(columns, ending), listed(columns)
+        for at, more in itertools.product((0, 1, 20), (-2, -1, 0, 1, 2, 9)):
+            yield ask("join", at + need + more, at, word, text, ends)
+        for at in (need - 1, need, need + 1):
+            yield ask("join", need, at, word, text, ends)
+
+
+def lines_in_texts():
+    """A line at the start, in the middle and at the end of a text: read, and what follows it. Where nothing ends it, it
+    runs on into that."""
+    for count, last, ending in itertools.product((8, 10), (b"", b"a", b"\r"), ENDINGS):
+        line = row(with_last(count, last)) + ending
+        for before, behind in itertools.product(BEFORE_LINE, BEHIND_LINE):
+            yield before + line + behind, len(before)
+            yield before + line + behind, len(before + line)
+
+
+def random_endings(large, dice):
+    """Columns of which many end in CR, to join with each ending, and the line of them in a text."""
+    for _ in range(5_000 if large else 60):
+        columns = [random_column(dice) + b"\r" * (dice.roll(4) == 0) for _ in range(dice.pick((8, 8, 9, 10, 11)))]
+        columns[-1] += b"\r" * dice.roll(3)
+        before = dice.pick((b"", b"\r", random_line(dice)))
+        behind = dice.pick((b"", b"\n", b"\r\n", b"a", random_line(dice)))
+        at, more = dice.roll(4), dice.roll(4) - 1
+        for ending, word in ENDINGS.items():
+            yield ask("join", at + needed(columns, ending) + more, at, word, *listed(columns))
+            yield ask("line", before + row(columns) + ending + behind, len(before))
+
+
+def line_endings(large, dice):
+    for columns in columns_with_returns():
+        yield from both_ways(columns)
+    yield from last_returns_and_faults()
+    yield from rooms_about_endings()
+    for text, at in lines_in_texts():
+        yield ask("line", text, at)
+    yield from random_endings(large, dice)
+
+
 # ---- the form of a case
 
 NO_CASES = (
@@ -1788,6 +1870,28 @@ NO_ALT_CASES = (
 )
 
 
+# The same of the ending that join has, and no other verb.
+NO_ENDING_CASES = (
+    # none at all, one too many, one in another place
+    b"join 9 0 - -", b"join 9 0 61 1", b"join 9 0  61 1", b"join 9 0 lf", b"join lf", b"join 9 0 lf lf 61 1",
+    b"join 9 0 cr lf 61 1", b"join 9 0 lf none 61 1", b"join lf 9 0 61 1", b"join 9 lf 0 61 1", b"join 9 0 61 lf 1",
+    b"join 9 0 61 1 lf", b"join 9 0 lf  61 1", b"join 9 0  lf 61 1", b"join 9 0 lf\t61 1", b"line lf - 0",
+    b"line - lf 0", b"line - 0 lf", b"line - lf", b"filters 9 0 lf 61 1", b"alts 9 0 lf 61 1", b"lf", b"crlf 61",
+    # no word for an ending
+    *(
+        b"join 9 0 %s 61 1" % word
+        for word in (
+            b"LF", b"Lf", b"lF", b"CRLF", b"CrLf", b"crLF", b"NONE", b"None", b"cr", b"CR", b"l", b"f", b"c", b"crl",
+            b"rlf", b"clf", b"n", b"no", b"non", b"one", b"nones", b"nonee", b"nnone", b"lff", b"llf", b"lfx", b"xlf",
+            b"lfcr", b"lflf", b"crlff", b"crlfx", b"ccrlf", b"crcrlf", b"crlflf", b"nonelf", b"lfnone", b"cr+lf",
+            b"cr,lf", b"lf,", b"nl", b"eol", b"eof", b"end", b"absent", b"0", b"1", b"2", b"-", b"--", b".", b"0a",
+            b"0d", b"0d0a", b"6c66", b"\\n", b"\\r\\n", b"\r", b"lf\r", b"\x00", b"lf\x00", b"\x00lf", b"l\x00f",
+            b"\xff", b"lf\xff", b"mf", b"lg", b"crle", b"nond",
+        )
+    ),
+)
+
+
 def spoilt(lines, large):
     """Good lines with one byte put in, in every place, that makes each of them none."""
     for line, byte in itertools.product(lines, b"\x00\t\r \x7f\x80\xffxG" if large else b"\x00 x"):
@@ -1950,6 +2054,7 @@ def form(large):
     calls = (b"read 2 30", b"write 4 4 2 0 0:0:1", *((b"readalt 2 30 41", b"unequal 1 1 1 30") if large else ()))
     lists = (b"filters 2 0 61 1", *((b"alts 2 0 61 1",) if large else ()))
     one_step, one_count = (b"gtstep 30 0",), (b"altcount 2c",)
+    ended = (b"join 9 0 crlf 6162 1,2", *((b"join 9 0 none 6162 1,2",) if large else ()))
     lines = (
         *map(none, (*NO_CASES, *spoilt(good, large))), *long_lines(large),
         *map(none, (*NO_RECORD_CASES, *spoilt(more, large))), *long_record_lines(large),
@@ -1958,6 +2063,7 @@ def form(large):
         *map(none, (*NO_LIST_CASES, *spoilt(lists, large))), *(long_list_lines() if large else ()),
         *map(none, (*NO_STEP_CASES, *spoilt(one_step, large))), *(long_step_lines() if large else ()),
         *map(none, (*NO_ALT_CASES, *spoilt(one_count, large))), *long_alt_lines(large),
+        *map(none, (*NO_ENDING_CASES, *spoilt(ended, large))),
     )
     for index, case in enumerate(lines):
         yield case
@@ -1971,7 +2077,7 @@ def areas(large):
         fields(large, Dice(5)), places(large), positions(large, Dice(6)), joins(large, Dice(7)),
         infos(large, Dice(8)), samples(large, Dice(9)), genotypes(large, Dice(10)), written_genotypes(large, Dice(11)),
         entry_lists(large, Dice(12)), genotype_steps(large, Dice(13)), offsets(large, Dice(14)),
-        alt_counts(large, Dice(15)),
+        alt_counts(large, Dice(15)), line_endings(large, Dice(16)),
     )
 
 

@@ -212,7 +212,7 @@ def list_entries(text, ends):
 
 
 def line_and_ending(text, at):
-    """The line at a place, up to its LF or the end of the text, and its ending: a CR belongs to it only before an LF."""
+    """The line at a place, up to its LF or the end of the text, and its ending, to which a CR belongs before an LF."""
     line, fed, _ = text[at:].partition(b"\n")
     if fed and line.endswith(b"\r"):
         return line[:-1], b"\r\n"

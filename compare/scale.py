@@ -7,7 +7,7 @@ about each boundary; and damaged copies of good texts and of good cases.
 import itertools
 
 import generate
-from generate import FAR, FIELDS, LARGEST, Dice, ask, listed, needed, row, seven, short_texts
+from generate import ENDINGS, FAR, FIELDS, LARGEST, Dice, ask, listed, needed, row, seven, short_texts
 
 # ---- more of what `generate` makes at random
 
@@ -49,6 +49,10 @@ def more_lists(dice):
 
 def more_alts(dice):
     return generate.random_alts(True, dice)
+
+
+def more_endings(dice):
+    return generate.random_endings(True, dice)
 
 
 # ---- all short texts
@@ -220,6 +224,17 @@ def short_joins():
         yield from generate.both_ways((*generate.COLUMNS[:before], *last))
 
 
+def short_endings():
+    """Every last column of a letter and CR, by every ending: joined into rooms about what is needed, and read before
+    every short rest."""
+    for count, last, (ending, word) in itertools.product((8, 10), short_texts(b"a\r", 6), ENDINGS.items()):
+        columns = generate.with_last(count, last)
+        for more in (-1, 0, 1):
+            yield ask("join", needed(columns, ending) + more, 0, word, *listed(columns))
+        for rest in short_texts(b"a\t\n\r", 3):
+            yield ask("line", row(columns) + ending + rest, 0)
+
+
 # ---- random ones about each boundary
 
 LIMITS = (*(10**power for power in range(1, 21)), 2**32, 2**63, LARGEST, 2 * LARGEST, generate.TENTH)
@@ -303,7 +318,8 @@ def near_rooms(dice):
         for step in (-2, -1, 0, 1):
             room = max(0, at + needed(entries) + step)
             yield from generate.both_lists(room, at, *listed(entries))
-            yield ask("join", max(0, at + needed(columns) + step), at, *listed(columns))
+            for ending, word in ENDINGS.items():
+                yield ask("join", at + needed(columns, ending) + step, at, word, *listed(columns))
             yield from generate.both_writers((4, 4), at + generate.most_needed(alleles) + step, at, alleles)
             yield from generate.both_writers((4, 4), at + 2, near(dice, at + 2, 1), alleles)
 
@@ -419,7 +435,7 @@ def harmed_entries(dice):
 # A good case of each verb, and of each of its answers that is easily damaged.
 GOOD_CASES = (
     b"utf8 c3a9", b"space 61e3808062", b"decimal 2b303132", b"print 5 70", b"line 6309310a 0", b"field alt 6309 1",
-    b"field samples - 0", b"place 616263 1 2", b"pos 2b31", b"join 40 0 6162636465666768 1,2,3,4,5,6,7,8",
+    b"field samples - 0", b"place 616263 1 2", b"pos 2b31", b"join 40 0 lf 6162636465666768 1,2,3,4,5,6,7,8",
     b"info 613d313b62 0", b"find 613d313b62 62", b"value 613d313b62 61", b"scan 613d313b62", b"count 613b62",
     b"samples 610962", b"walk 610962", b"sample 610962 1", b"key 47543a4450 4450", b"subfield 303a35 1",
     b"read 3 307c31", b"readalt 3 307c31 412c43", b"unequal 2 2 2 302f31", b"gtstep 307c31 1",
@@ -428,6 +444,8 @@ GOOD_CASES = (
     b"alts 9 1 413c433e 1,4", b"alts 2 0 - -", b"decimal 3132613334", b"pos 303030", b"read 3 302f31612f32",
     b"gtstep 307c312b32 1", b"allelesalt 3 2e7c2e35 41", b"unequal 1 1 1 31302f",
     b"altcount 412c43", b"altcount 2e", b"readalt 3 302f31 2e", b"allelesalt 3 317c2e -",
+    b"line 6109620963096409650966096709680d0a 0", b"join 40 0 crlf 6162636465666768 1,2,3,4,5,6,7,8",
+    b"join 40 1 none 61626364656667680d 1,2,3,4,5,6,7,9",
 )
 
 
@@ -443,20 +461,31 @@ def harmed_cases(dice):
 
 # ---- all parts
 
-AGAIN = (more_texts, more_lines, more_fields, more_columns, more_samples, more_genotypes, more_lists, more_alts)
+AGAIN = (
+    more_texts, more_lines, more_fields, more_columns, more_samples, more_genotypes, more_lists, more_alts,
+    more_endings,
+)
 EXHAUSTIVE = (
     short_characters, short_numbers, short_line_ends, short_line_tails, columns_of_every_kind, dots_of_every_kind,
     short_info_steps, short_info_keys, short_samples, short_genotypes, short_phasings, short_genotype_steps,
     short_checked, short_slices, short_lists_of_alleles, short_entries, short_joins, short_faults, short_alts,
+    short_endings,
 )
 NEAR = (near_numbers, near_places, near_line_ends, near_rooms, near_alt_counts, near_faults, near_no_alt)
 HARMED = (harmed_lines, harmed_columns, harmed_samples, harmed_genotypes, harmed_entries, harmed_cases)
 ROUNDS = 3
 
 
+def words_for_endings():
+    """Every word of up to four of the letters that an ending is written with."""
+    for word in short_texts(b"crlfnoe", 4):
+        yield b"join 9 0 %s 6162 1,2" % word, word.decode() in ENDINGS.values()
+
+
 def malformed():
     yield from generate.form(True)
     yield generate.none(b"x" * generate.LONGEST_LINE + b"y")
+    yield from words_for_endings()
 
 
 def parts():

@@ -30,5 +30,5 @@ joined-paper-injective = LeftInverse·injective joinedOf joinedPaper joined-back
 pub determined : Determined
 determined =
     record {
-      join = λ t ends at out r r′ l l′ g h. (joined-paper-injective r r′ (g .answer ∙ sym (h .answer)), g .bytes ∙ sym (h .bytes));
+      join = λ t ends e at out r r′ l l′ g h. (joined-paper-injective r r′ (g .answer ∙ sym (h .answer)), g .bytes ∙ sym (h .bytes));
     }

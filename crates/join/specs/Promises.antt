@@ -2,7 +2,8 @@
 use Prim.Native.Nat.{ℕ}
 use mathlib.Core.List.{List}
 use Rattle.text.specs.Outcome.{OneOutcome}
+use Rattle.line.specs.Line.{Ending}
 use Rattle.join.specs.Join.{JoinsAt}
 
 pub record Determined : Type 0 where
-  pub join : (t ends : List ℕ) (at : ℕ) (out : List ℕ) → OneOutcome (JoinsAt t ends at out)
+  pub join : (t ends : List ℕ) (e : Ending) (at : ℕ) (out : List ℕ) → OneOutcome (JoinsAt t ends e at out)

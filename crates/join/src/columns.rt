@@ -1,4 +1,6 @@
-// The columns of a line, given as an entry list, judged and then written.
+// The columns of a line, given as an entry list, judged and then written with an ending.
+use line::ending::Ending;
+use line::ending::ending_size;
 use pieces::count::count_byte;
 use pieces::entries::Ends;
 use pieces::entries::entry_text;
@@ -8,16 +10,18 @@ use text::utf8::Utf8;
 use text::utf8::check_utf8;
 ghost use mathlib.Core.Path.{_≡_};
 ghost use mathlib.Core.Bool.{true, not, _&&_, _||_};
-ghost use Prim.Native.Nat.{_<_};
+ghost use Prim.Native.Nat.{_+_, _<_, _≤_};
 ghost use lib.ListN.{length};
 ghost use Rattle.text.specs.Bytes.{endsIn};
 ghost use Rattle.text.specs.Utf8.{isUtf8};
 ghost use Rattle.text.specs.Verdict.{fitted};
-ghost use Rattle.line.specs.Line.{required};
+ghost use Rattle.text.specs.Over.{over, roomFor};
+ghost use Rattle.line.specs.Line.{endingBytes, required};
+ghost use Rattle.line.specs.Paper.{endingOf};
 ghost use Rattle.pieces.specs.Pieces.{lacks};
 ghost use Rattle.pieces.specs.Entries.{rising, entryList};
 ghost use Rattle.pieces.specs.Inner.{startOf};
-ghost use Rattle.join.specs.Join.{JoinsAt, isBad, columnsJudged, lineText, listAnswer};
+ghost use Rattle.join.specs.Join.{JoinsAt, isBad, losesReturn, columnsJudged, lineText, listAnswer};
 ghost use Rattle.join.specs.Paper.{joinedPaper};
 
 // The answer of the joiner.
@@ -32,7 +36,7 @@ pub enum Joined {
     Wrong,
     // 17: the line does not fit.
     Short,
-    // 18: the column with this index is empty, holds a tab or an LF, or is the last and ends in CR.
+    // 18: the column with this index is empty, holds a tab or an LF, or is the last, ends in CR, and the ending is LF.
     Bad(usize),
     // 19: fewer than eight columns, or nine.
     Few,
@@ -68,15 +72,26 @@ fn ends_in_return(c: &[u8]) -> bool
     c[c.len() - 1] == 13
 }
 
-// Whether a column is refused by 18: the last may not end in CR.
-fn is_refused(c: &[u8], last: bool) -> bool
-    ensures { λ r. ⌜ r ≡ (isBad (now (c .entry)) || (last && endsIn 13 (now (c .entry)))) ⌝ }
+// Whether a last column would lose the CR at its end: before an LF it would be read as part of the ending.
+fn loses_return(c: &[u8], ending: Ending) -> bool
+    ensures { λ r. ⌜ r ≡ losesReturn (endingOf ending) (now (c .entry)) ⌝ }
+{
+    match ending {
+        Ending::Nothing => false,
+        Ending::Feed => ends_in_return(c),
+        Ending::ReturnFeed => false,
+    }
+}
+
+// Whether a column is refused by 18.
+fn is_refused(c: &[u8], last: bool, ending: Ending) -> bool
+    ensures { λ r. ⌜ r ≡ (isBad (now (c .entry)) || (last && losesReturn (endingOf ending) (now (c .entry)))) ⌝ }
 {
     if is_bad(c) {
         return true;
     }
     if last {
-        return ends_in_return(c);
+        return loses_return(c, ending);
     }
     false
 }
@@ -109,16 +124,34 @@ fn last_end(ends: &[usize]) -> usize
     ends[ends.len() - 1]
 }
 
-// Judges the columns from the left, and then whether the line, one byte more for each column, fits in the rest of the output.
-fn judge_columns(text: &[u8], ends: &[usize], rest: &[u8]) -> Joined
+// Whether so many bytes of columns, so many tabs and an ending fit in the room, each taken from what the others leave of it: no
+// sum passes 64 bits.
+fn fit(end: usize, tabs: usize, ending: Ending, room: usize) -> Joined
+    ensures { λ r. ⌜ joinedPaper r ≡ roomFor (end + tabs + length (endingBytes (endingOf ending))) room ⌝ }
+{
+    if end > room {
+        return Joined::Short;
+    }
+    if tabs > room - end {
+        return Joined::Short;
+    }
+    let size = ending_size(ending);
+    if size > room - end - tabs {
+        return Joined::Short;
+    }
+    Joined::Done(end + tabs + size)
+}
+
+// Judges the columns from the left, and then whether the line fits in the rest of the output.
+fn judge_columns(text: &[u8], ends: &[usize], ending: Ending, rest: &[u8]) -> Joined
     requires { ⌜ rising 0 (now ends) (length (now text)) ≡ true ⌝ }
     requires { ⌜ 0 < length (now ends) ⌝ }
-    ensures { λ r. ⌜ joinedPaper r ≡ fitted (columnsJudged 0 (entryList (now (text .entry)) (now (ends .entry)))) (lineText (entryList (now (text .entry)) (now (ends .entry)))) (now (rest .entry)) ⌝ }
+    ensures { λ r. ⌜ joinedPaper r ≡ fitted (columnsJudged 0 (entryList (now (text .entry)) (now (ends .entry))) (endingOf ending)) (lineText (entryList (now (text .entry)) (now (ends .entry))) (endingOf ending)) (now (rest .entry)) ⌝ }
 {
     let mut i = 0;
     while i < ends.len() {
         let c = entry_text(text, ends, i);
-        if is_refused(c, i + 1 == ends.len()) {
+        if is_refused(c, i + 1 == ends.len(), ending) {
             return Joined::Bad(i);
         }
         if !is_utf8(c) {
@@ -126,25 +159,18 @@ fn judge_columns(text: &[u8], ends: &[usize], rest: &[u8]) -> Joined
         }
         i += 1;
     }
-    let end = last_end(ends);
-    if end > rest.len() {
-        return Joined::Short;
-    }
-    if i > rest.len() - end {
-        return Joined::Short;
-    }
-    Joined::Done(end + i)
+    fit(last_end(ends), i - 1, ending, rest.len())
 }
 
 // What is answered of a list of columns and the rest of the output.
-fn judge(text: &[u8], ends: &[usize], rest: &[u8]) -> Joined
-    ensures { λ r. ⌜ joinedPaper r ≡ listAnswer (now (text .entry)) (now (ends .entry)) (now (rest .entry)) ⌝ }
+fn judge(text: &[u8], ends: &[usize], ending: Ending, rest: &[u8]) -> Joined
+    ensures { λ r. ⌜ joinedPaper r ≡ listAnswer (now (text .entry)) (now (ends .entry)) (endingOf ending) (now (rest .entry)) ⌝ }
 {
     match judge_ends(text, ends) {
         Ends::Wrong => Joined::Wrong,
         Ends::Good => {
             if is_count(ends.len()) {
-                judge_columns(text, ends, rest)
+                judge_columns(text, ends, ending, rest)
             } else {
                 Joined::Few
             }
@@ -152,19 +178,36 @@ fn judge(text: &[u8], ends: &[usize], rest: &[u8]) -> Joined
     }
 }
 
-// Writes columns, given as an entry list, with tabs between and a final LF, at a place of the output.
-pub fn join(text: &[u8], ends: &[usize], out: &mut [u8], at: usize) -> Joined
-    ensures { λ r. ⌜ JoinsAt (now (text .entry)) (now (ends .entry)) at (now (out .entry)) r (now (out .exit)) ⌝ }
+// Puts an ending, which fits, at the start of an output.
+fn put_ending(ending: Ending, out: &mut [u8])
+    requires { ⌜ length (endingBytes (endingOf ending)) ≤ length (now out) ⌝ }
+    ensures { λ r. ⌜ now (out .exit) ≡ over (endingBytes (endingOf ending)) (now (out .entry)) ⌝ }
+{
+    match ending {
+        Ending::Nothing => {}
+        Ending::Feed => {
+            out[0] = b'\n';
+        }
+        Ending::ReturnFeed => {
+            out[0] = b'\r';
+            out[1] = b'\n';
+        }
+    }
+}
+
+// Writes columns, given as an entry list, with tabs between and an ending behind, at a place of the output.
+pub fn join(text: &[u8], ends: &[usize], ending: Ending, out: &mut [u8], at: usize) -> Joined
+    ensures { λ r. ⌜ JoinsAt (now (text .entry)) (now (ends .entry)) (endingOf ending) at (now (out .entry)) r (now (out .exit)) ⌝ }
 {
     if at > out.len() {
         return Joined::Beyond;
     }
-    let r = judge(text, ends, &out[at..]);
+    let r = judge(text, ends, ending, &out[at..]);
     let Joined::Done(n) = r else {
         return r;
     };
     put_joined(text, ends, b'\t', &mut out[at..]);
-    let last = at + n - 1;
-    out[last] = b'\n';
+    let end = at + n - ending_size(ending);
+    put_ending(ending, &mut out[end..]);
     r
 }

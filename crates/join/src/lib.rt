@@ -1,2 +1,2 @@
-// Joining columns to a line: tabs between, and a final LF.
+// Joining columns to a line: tabs between, and an ending.
 pub mod columns;

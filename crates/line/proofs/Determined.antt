@@ -94,4 +94,4 @@ pub read-paper-injective : (r r′ : Read) → readPaper r ≡ readPaper r′ �
 read-paper-injective = LeftInverse·injective readOf readPaper read-back
 
 pub determined : Determined
-determined = record { line-at = λ s at r r′ p q. lined-paper-injective r r′ (p ∙ sym q); read-line = λ s at r r′ p q. read-paper-injective r r′ (p ∙ sym q); place-of = λ line name r r′ p q. p ∙ sym q; ending-of = λ line r r′ p q. p ∙ sym q; make-record = λ ending places r r′ p q. values-injective r r′ (p ∙ sym q) }
+determined = record { ending-size = λ ending r r′ p q. p ∙ sym q; line-at = λ s at r r′ p q. lined-paper-injective r r′ (p ∙ sym q); read-line = λ s at r r′ p q. read-paper-injective r r′ (p ∙ sym q); place-of = λ line name r r′ p q. p ∙ sym q; ending-of = λ line r r′ p q. p ∙ sym q; make-record = λ ending places r r′ p q. values-injective r r′ (p ∙ sym q) }

@@ -95,7 +95,22 @@ module _ (s : List ℕ) (at : ℕ) {stop : ℕ} (h : at ≤ length s) (first : s
       pub finds-fed : {r : Ending} → EndsBetween end (stop + 1) r → linedPaper (L.At end r (stop + 1)) ≡ lineAtAnswer s at
       finds-fed = finds-closed (closes s at stop (stop-feed n) z) refl
 
--- ---- the ending, by how many bytes it has
+-- ---- how many bytes an ending has
+
+module _ {e : Ending} where
+  pub size-nothing : e ≡ E.Nothing → 0 ≡ length (endingBytes (endingOf e))
+  unfolding endingBytes
+  size-nothing q = rw q
+
+  pub size-feed : e ≡ E.Feed → 1 ≡ length (endingBytes (endingOf e))
+  unfolding endingBytes
+  size-feed q = rw q
+
+  pub size-return-feed : e ≡ E.ReturnFeed → 2 ≡ length (endingBytes (endingOf e))
+  unfolding endingBytes
+  size-return-feed q = rw q
+
+-- ---- the ending, by how many
 
 module _ {end next : ℕ} (h : end ≤ next) where
   ends-by : (r : Ending) → ((e : Line.Ending) → endingNumber e ≡ next - end → endingNumber (endingOf r) ≡ endingNumber e) → EndsBetween end next r
@@ -118,4 +133,4 @@ module _ {end next : ℕ} (h : end ≤ next) where
       by feed q = absurd (omega arith)
       by return-feed q = refl
 
-pub ruleset laws = (finds-beyond, stop-after, stop-within, stop-inside, ends-before, finds-nothing, finds-fed, ends-nothing, ends-feed, ends-return-feed)
+pub ruleset laws = (finds-beyond, stop-after, stop-within, stop-inside, ends-before, finds-nothing, finds-fed, size-nothing, size-feed, size-return-feed, ends-nothing, ends-feed, ends-return-feed)

@@ -2,6 +2,7 @@
 ghost use Prim.Native.Nat.{_≤_};
 ghost use lib.ListN.{length};
 ghost use Rattle.line.specs.Inner.{TextEnd, EndsBetween};
+ghost use Rattle.line.specs.Promises.{SizesEnding};
 
 pub enum Ending {
     // The end of the input.
@@ -10,6 +11,17 @@ pub enum Ending {
     Feed,
     // CR LF.
     ReturnFeed,
+}
+
+// How many bytes an ending has, which is also the number that an answer says for it.
+pub fn ending_size(ending: Ending) -> usize
+    ensures { λ r. ⌜ SizesEnding ending r ⌝ }
+{
+    match ending {
+        Ending::Nothing => 0,
+        Ending::Feed => 1,
+        Ending::ReturnFeed => 2,
+    }
 }
 
 // Where a text that starts at `start` and stops at an LF, or at the end of the input, has its end: before an LF, and before

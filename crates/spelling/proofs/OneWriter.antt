@@ -5,12 +5,10 @@ use mathlib.Core.Path.{_≡_, refl, sym, ap, _∙_}
 use mathlib.Core.List.{List}
 use native.Mathlib.Decide.{ℕ-discrete}
 use Rattle.text.specs.Answer.{numberOf}
+use Rattle.text.proofs.CopyLaws.{same-outcome}
 use Rattle.genotype.specs.declared.allele.Allele.{Allele}
-use Rattle.spelling.specs.Demands.{Outcome, Writer, WritesShortest, Refusals, Untouched, Meets, OneWriter}
+use Rattle.spelling.specs.Demands.{Writer, WritesShortest, Refusals, Untouched, Meets, OneWriter}
 use Rattle.spelling.proofs.Shortest.{one-text}
-
-same-outcome : {o o′ : Outcome} → o .answer ≡ o′ .answer → o .output ≡ o′ .output → o ≡ o′
-same-outcome p q = λ i. record { answer = p i; output = q i }
 
 module _ (major minor : ℕ) (as′ : List Allele) (out : List ℕ) (at : ℕ) where
   same-refusal : (write other : Writer) → Meets write → Meets other → (numberOf (write major minor as′ out at .answer) ≡ 0 → ⊥)

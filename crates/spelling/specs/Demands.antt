@@ -8,6 +8,7 @@ use mathlib.Core.List.{List, [], _∷_}
 use lib.ListN.{length, take, drop}
 use Rattle.text.specs.Answer.{Answer, says, numberOf}
 use Rattle.text.specs.Over.{overAt}
+use Rattle.text.specs.Outcome.{Outcome}
 use Rattle.text.specs.First.{FirstOf}
 use Rattle.genotype.specs.Means.{Means, allPhased}
 use Rattle.genotype.specs.Row.{rowOf}
@@ -19,11 +20,7 @@ use Rattle.spelling.specs.Paper.{writePaper}
 use Rattle.spelling.specs.Write.{listAnswer, listLeft, WritesRow}
 use Rattle.spelling.specs.declared.write.Write.{Write}
 
--- a writer is given a file format, a list, an output and a place in it, and answers on paper and leaves an output
-pub record Outcome : Type 0 where
-  pub answer : Answer
-  pub output : List ℕ
-
+-- a writer is given a file format, a list, an output and a place in it
 abbrev pub Writer : Type 0
 Writer = ℕ → ℕ → List Allele → List ℕ → ℕ → Outcome
 
