@@ -1,133 +1,135 @@
--- The columns that the joiner takes are those that begin a line with ending LF, column by column; so what it writes is read. Assumes nothing.
-use Prim.Native.Nat.{ℕ, zero, suc, _+_, _<_, suc-le-suc}
-use mathlib.Core.Path.{_≡_, refl, sym, _∙_}
-use mathlib.Core.Bool.{Bool, true, false, not, _&&_, _||_}
-use mathlib.Core.Logic.{⊎-elim}
-use mathlib.Core.List.{List, [], _∷_, _++_, append-assoc}
+-- The joiner meets its statements: outside the output by 6, else by one of the three ways of its columns; and two that meet them are one.
+-- Assumes nothing.
+use Prim.Native.Nat.{ℕ, _+_, _≤_, _<_}
+use mathlib.Core.Path.{_≡_, refl, sym, ap, _∙_}
+use mathlib.Core.List.{List, [], _∷_}
 use native.Mathlib.Omega.{arith}
-use lib.ListN.{length, getD, length-append}
-use borrow.Author.Tests.{not-false}
-use Rattle.text.specs.Pick.{pick}
-use Rattle.text.specs.Answer.{numberOf}
-use Rattle.text.specs.Bytes.{isEmpty, endsIn}
-use Rattle.text.specs.Utf8.{isUtf8}
-use Rattle.text.proofs.ByteLaws.{empty-some, some-empty}
-use Rattle.text.specs.Verdict.{fine, refused}
-use Rattle.pieces.specs.Pieces.{joined, lacks}
-use Rattle.pieces.proofs.CountLaws.{lacks-free, free-lacks}
-use Rattle.pieces.proofs.PieceLaws.{joined-one, joined-more}
-use Rattle.line.specs.Line.{feed, endingBytes, readAnswer}
-use Rattle.line.specs.Demands.{Column, Ended, by-feed, Stands}
-use Rattle.line.proofs.ColumnLaws.{return-tab, feed-bytes, utf8-each, utf8-all, or-none, required-count, count-required}
-use Rattle.line.proofs.ShapeLaws.{begins-read}
-use Rattle.join.specs.Join.{isBad, columnJudged, columnsJudged, lineText}
-use Rattle.join.specs.Demands.{Taken, Forth, Back}
-use Rattle.join.proofs.JoinLaws.{isLast, judged-cons}
+use native.Mathlib.Decide.{ℕ-discrete, decLe}
+use lib.ListN.{length, drop, length-drop}
+use borrow.Author.Tests.{le-leb, lt-leb, eq-eqb, ne-eqb}
+use Rattle.text.specs.Answer.{Answer, says, numberOf}
+use Rattle.text.specs.Over.{overAt}
+use Rattle.text.proofs.CopyLaws.{room-fits, room-lacks, same-outcome}
+use Rattle.text.specs.Verdict.{fine}
+use Rattle.line.specs.Line.{Ending}
+use Rattle.line.specs.Demands.{MayEnd}
+use Rattle.line.proofs.ColumnLaws.{count-required}
+use Rattle.join.specs.Join.{columnsJudged, lineText, columnsAnswer}
+use Rattle.join.specs.Demands.{Joiner, joiner, IsLine, Written, WritesLine, Fault, bad, broken, FirstFault, Refused, beyond, few, fault, short, Refusals, Untouched, Meets, OneJoiner}
+use Rattle.join.proofs.FaultLaws.{fault-judged, line-faultless, line-is, Way, uncounted, faulted, lined, way}
 
--- ---- one column
+-- no fault has the number 0
+fault-some : {cs : List (List ℕ)} {e : Ending} {k n : ℕ} → Fault cs e k n → n ≡ 0 → ⊥
+fault-some (bad b) z = omega arith
+fault-some (broken b u) z = omega arith
 
-record Fine (c : List ℕ) : Type 0 where
-  column : Column c
-  utf8 : isUtf8 c ≡ true
+-- ---- ours, way by way
 
-module _ (c : List ℕ) where
-  bad-column : isBad c ≡ false → Column c
-  unfolding isBad
-  bad-column h =
-      let p = or-none (isEmpty c) _ h in
-      let q = or-none (not (lacks 9 c)) _ (p .1) in
-      record { some = empty-some c (p .0); no-tab = lacks-free c (not-false _ (q .0)); no-feed = lacks-free c (not-false _ (q .1)) }
+module _ (cs : List (List ℕ)) (e : Ending) (out : List ℕ) (at : ℕ) where
+  answer-beyond : length out < at → joiner cs e out at .answer ≡ says 6 []
+  unfolding joiner
+  answer-beyond h = rw (lt-leb _ _ h)
 
-  column-bad : Column c → isBad c ≡ false
-  unfolding isBad
-  column-bad g = rw (some-empty c (g .some), free-lacks c (g .no-tab), free-lacks c (g .no-feed))
+  module _ (h : at ≤ length out) where
+    answer-inside : joiner cs e out at .answer ≡ columnsAnswer cs e (drop at out)
+    unfolding joiner
+    answer-inside = rw (le-leb _ _ h)
 
--- ---- columns that are fine
+    answer-few : (MayEnd (length cs) → ⊥) → joiner cs e out at .answer ≡ says 19 []
+    unfolding columnsAnswer
+    answer-few n = answer-inside ∙ by (way cs e)
+      where
+        by : Way cs e → columnsAnswer cs e (drop at out) ≡ says 19 []
+        by (uncounted m q) = rw q
+        by (faulted m f) = absurd (n m)
+        by (lined q l) = absurd (n (l .shaped .count))
 
--- of the first column, and of the others
-record First (i : ℕ) (c : List ℕ) (cs : List (List ℕ)) : Type 0 where
-  column : Fine c
-  last : (isLast cs && endsIn 13 c) ≡ false
-  rest : columnsJudged (i + 1) cs ≡ fine
+    answer-fault : {k n : ℕ} → MayEnd (length cs) → FirstFault cs e k n → joiner cs e out at .answer ≡ says n (k ∷ [])
+    unfolding columnsAnswer
+    answer-fault m f = answer-inside ∙ rw (count-required m, fault-judged cs e f)
 
-first-fine : (i : ℕ) (c : List ℕ) (cs : List (List ℕ)) → columnsJudged i (c ∷ cs) ≡ fine → First i c cs
-unfolding columnJudged
-first-fine i c cs h = by (isBad c || (isLast cs && endsIn 13 c)) (isUtf8 c) refl refl (rw judged-cons at h)
+    module _ (m : MayEnd (length cs)) (q : columnsJudged 0 cs e ≡ fine) where
+      pub answer-line : at + length (lineText cs e) ≤ length out → joiner cs e out at .answer ≡ says 0 (length (lineText cs e) ∷ [])
+      unfolding columnsAnswer
+      answer-line l = answer-inside ∙ rw (count-required m, q) (room-fits (lineText cs e) (drop at out) (simp length-drop (omega arith)))
+
+      answer-short : length out < at + length (lineText cs e) → joiner cs e out at .answer ≡ says 17 []
+      unfolding columnsAnswer
+      answer-short l = answer-inside ∙ rw (count-required m, q) (room-lacks (lineText cs e) (drop at out) (simp length-drop (omega arith)))
+
+  -- what is told by its number
+  data Told : Answer → Type 0 where
+    done : IsLine cs e (lineText cs e) → at + length (lineText cs e) ≤ length out → Told (says 0 (length (lineText cs e) ∷ []))
+    refuses : {a : Answer} → (numberOf a ≡ 0 → ⊥) → Refused cs e out at a → Told a
+
+  told : Told (joiner cs e out at .answer)
+  told = by (decLe at (length out)) (way cs e)
+    where
+      roomy : at ≤ length out → columnsJudged 0 cs e ≡ fine → IsLine cs e (lineText cs e) → Dec (at + length (lineText cs e) ≤ length out)
+          → Told (joiner cs e out at .answer)
+      roomy h q l (yes r) = rw (answer-line h (l .shaped .count) q r) (done l r)
+      roomy h q l (no r) = rw (answer-short h (l .shaped .count) q (omega arith)) (refuses (λ z. omega arith) (short h l (omega arith)))
+
+      by : Dec (at ≤ length out) → Way cs e → Told (joiner cs e out at .answer)
+      by (no h) w = rw (answer-beyond (omega arith)) (refuses (λ z. omega arith) (beyond (omega arith)))
+      by (yes h) (uncounted m q) = rw (answer-few h m) (refuses (λ z. omega arith) (few h m))
+      by (yes h) (faulted m f) = rw (answer-fault h m f) (refuses (λ z. fault-some (f .here) z) (fault h m f))
+      by (yes h) (lined q l) = roomy h q l (decLe (at + length (lineText cs e)) (length out))
+
+  -- a refusal that is due is given
+  due : {a : Answer} → Refused cs e out at a → joiner cs e out at .answer ≡ a
+  due (beyond h) = answer-beyond h
+  due (few h m) = answer-few h m
+  due (fault h m f) = answer-fault h m f
+  due (short {t} h l o) = by (way cs e)
+    where
+      by : Way cs e → joiner cs e out at .answer ≡ says 17 []
+      by (uncounted m q) = absurd (m (l .shaped .count))
+      by (faulted m f) = absurd (line-faultless l _ _ (f .within) (f .here))
+      by (lined q d) = answer-short h (l .shaped .count) q (rw (line-is l) at o)
+
+pub writes-line : WritesLine joiner
+unfolding WritesLine
+writes-line cs e out at z = by (told cs e out at) refl
   where
-    by : (b u : Bool) → (isBad c || (isLast cs && endsIn 13 c)) ≡ b → isUtf8 c ≡ u → pick b (refused 18 i) (pick u (columnsJudged (i + 1) cs) (refused 5 i)) ≡ fine → First i c cs
-    by true u e f h = absurd (let z : _≡_ {A = ℕ} 0 1 = cc in omega arith)
-    by false true e f h = let p = or-none (isBad c) _ e in record { column = record { column = bad-column c (p .0); utf8 = f }; last = p .1; rest = h }
-    by false false e f h = absurd (let z : _≡_ {A = ℕ} 0 1 = cc in omega arith)
+    by : {a : Answer} → Told cs e out at a → joiner cs e out at .answer ≡ a → Written cs e out at (joiner cs e out at)
+    unfolding joiner
+    by (done l r) q = record { text = lineText cs e; line = l; count = q; fits = r; bytes = rw (eq-eqb _ _ z) }
+    by (refuses n f) q = absurd (n (sym (ap numberOf q) ∙ z))
 
-fine-first : (i : ℕ) (c : List ℕ) (cs : List (List ℕ)) → First i c cs → columnsJudged i (c ∷ cs) ≡ fine
-unfolding columnJudged
-fine-first i c cs g = rw (judged-cons, column-bad c (g .column .column), g .last, g .column .utf8) (g .rest)
-
--- each is a column
-fine-each : (i : ℕ) (cs : List (List ℕ)) → columnsJudged i cs ≡ fine → (k : ℕ) → k < length cs → Fine (getD cs k [])
-fine-each i [] h k l = absurd (omega arith)
-fine-each i (c ∷ cs) h zero l = first-fine i c cs h .column
-fine-each i (c ∷ cs) h (suc k) l = fine-each (i + 1) cs (first-fine i c cs h .rest) k (omega arith)
-
--- and the line's text doesn't end in CR
-fine-return : (i : ℕ) (cs : List (List ℕ)) → 0 < length cs → columnsJudged i cs ≡ fine → endsIn 13 (joined 9 cs) ≡ false
-unfolding isLast
-fine-return i [] n h = absurd (omega arith)
-fine-return i (c ∷ []) n h = rw joined-one (first-fine i c [] h .last)
-fine-return i (c ∷ d ∷ cs) n h =
-    rw (joined-more, return-tab) (fine-return (i + 1) (d ∷ cs) (omega arith) (first-fine i c (d ∷ cs) h .rest))
-
--- such columns are fine
-each-fine : (i : ℕ) (cs : List (List ℕ)) → ((k : ℕ) → k < length cs → Fine (getD cs k [])) → endsIn 13 (joined 9 cs) ≡ false → columnsJudged i cs ≡ fine
-unfolding columnsJudged isLast
-each-fine i [] g e = refl
-each-fine i (c ∷ []) g e = fine-first i c [] (record { column = g 0 (omega arith); last = rw joined-one at e; rest = refl })
-each-fine i (c ∷ d ∷ cs) g e =
-    fine-first i c (d ∷ cs)
-    (record {
-      column = g 0 (omega arith);
-      last = refl;
-      rest = each-fine (i + 1) (d ∷ cs) (λ k l. g (suc k) (suc-le-suc l)) (rw (joined-more, return-tab) at e);
-    })
-
--- ---- forth and back
-
-line-feed : (cs : List (List ℕ)) (rest : List ℕ) → joined 9 cs ++ (endingBytes feed ++ rest) ≡ lineText cs ++ rest
-unfolding lineText
-line-feed cs rest = rw (feed-bytes, append-assoc)
-
-pub forth : Forth lineText
-unfolding Forth
-forth cs rest k =
-    let n = required-count (length cs) (k .count) in
-    let some : 0 < length cs = ⊎-elim (λ h. omega arith) (λ h. omega arith) n in
-    let each = fine-each 0 cs (k .judged) in
-    record {
-      shaped = record { count = n; each = λ i l. each i l .column; whole = line-feed cs rest; ended = by-feed (fine-return 0 cs some (k .judged)) };
-      utf8 = utf8-all cs (λ i l. each i l .utf8);
-    }
-
-pub back : Back lineText
-unfolding Back
-back s cs rest b =
-    record {
-      taken =
-          record {
-            count = count-required (b .shaped .count);
-            judged = each-fine 0 cs (λ i l. record { column = b .shaped .each i l; utf8 = utf8-each cs (b .utf8) i l }) (by (b .shaped .ended));
-          };
-      same = sym (line-feed cs rest) ∙ b .shaped .whole;
-    }
+pub refusals : Refusals joiner
+unfolding Refusals
+refusals cs e out at a n = (λ q. by (told cs e out at) q, due cs e out at)
   where
-    by : Ended (joined 9 cs) feed rest → endsIn 13 (joined 9 cs) ≡ false
-    by (by-feed h) = h
+    by : {b : Answer} → Told cs e out at b → b ≡ a → Refused cs e out at a
+    by (done l r) q = absurd (n (sym (ap numberOf q)))
+    by (refuses m f) q = rw q at f
 
--- what is written is read: the answer is 0
-pub forth-read : (cs : List (List ℕ)) (rest : List ℕ) → Taken cs → numberOf (readAnswer (lineText cs ++ rest) 0) ≡ 0
-unfolding lineText Forth
-forth-read cs rest k = begins-read (lineText cs ++ rest) 0 (simp length-append (omega arith)) (forth cs rest k)
+pub untouched : Untouched joiner
+unfolding Untouched joiner
+untouched cs e out at n = rw (ne-eqb _ _ n)
 
--- and stands for the same columns
-pub forth-columns : (cs : List (List ℕ)) (rest : List ℕ) → Taken cs → (a : Stands (lineText cs ++ rest) 0 (readAnswer (lineText cs ++ rest) 0)) → a .columns ≡ cs
-unfolding Forth
-forth-columns cs rest k a = sym (a .only cs feed rest (forth cs rest k) .0)
+pub meets : Meets joiner
+meets = record { writes-line = writes-line; refusals = refusals; untouched = untouched }
+
+-- ---- one joiner
+
+module _ (cs : List (List ℕ)) (e : Ending) (out : List ℕ) (at : ℕ) where
+  same-refusal : (join other : Joiner) → Meets join → Meets other → (numberOf (join cs e out at .answer) ≡ 0 → ⊥) → other cs e out at .answer ≡ join cs e out at .answer
+  unfolding Refusals
+  same-refusal join other m m′ n = m′ .refusals cs e out at _ n .1 (m .refusals cs e out at _ n .0 refl)
+
+pub one-joiner : OneJoiner
+unfolding OneJoiner WritesLine Untouched
+one-joiner join other m m′ cs e out at = by (ℕ-discrete (numberOf (join cs e out at .answer)) 0) (ℕ-discrete (numberOf (other cs e out at .answer)) 0)
+  where
+    by : Dec (numberOf (join cs e out at .answer) ≡ 0) → Dec (numberOf (other cs e out at .answer) ≡ 0) → join cs e out at ≡ other cs e out at
+    by (yes z) (yes z′) =
+        let w = m .writes-line cs e out at z in
+        let w′ = m′ .writes-line cs e out at z′ in
+        let t = line-is (w .line) ∙ sym (line-is (w′ .line)) in
+        same-outcome (w .count ∙ rw t (sym (w′ .count))) (w .bytes ∙ rw t (sym (w′ .bytes)))
+    by (no n) (no n′) =
+        same-outcome (sym (same-refusal cs e out at join other m m′ n)) (m .untouched cs e out at n ∙ sym (m′ .untouched cs e out at n′))
+    by (yes z) (no n′) = absurd (n′ (sym (ap numberOf (same-refusal cs e out at other join m′ m n′)) ∙ z))
+    by (no n) (yes z′) = absurd (n (sym (ap numberOf (same-refusal cs e out at join other m m′ n)) ∙ z′))

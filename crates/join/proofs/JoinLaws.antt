@@ -15,7 +15,7 @@ use borrow.Author.Tests.{eqb-true, eqb-false, lt-ltb, le-ltb, le-leb, lt-leb, eq
 use borrow.Rule.Slice.PartMut.{putMid}
 use Rattle.text.specs.Pick.{pick}
 use Rattle.text.specs.Answer.{Answer, says, numberOf}
-use Rattle.text.specs.Over.{overAt, roomAnswer}
+use Rattle.text.specs.Over.{over, overAt, roomFor, roomAnswer}
 use Rattle.text.specs.Bytes.{endsIn}
 use Rattle.text.specs.Utf8.{isUtf8, utf8Answer}
 use Rattle.text.specs.Paper.{utf8Paper}
@@ -23,12 +23,15 @@ use Rattle.text.specs.declared.utf8.Utf8.{Utf8}
 use Rattle.text.specs.declared.utf8.Utf8.the-variants as U
 use Rattle.text.proofs.ByteLaws.{none-empty, some-empty, ends-none, ends-at}
 use Rattle.text.proofs.CharLaws.{told-text, told-broken}
-use Rattle.text.proofs.CopyLaws.{room-fits, room-lacks}
-use Rattle.text.proofs.Lists.{rest-all, length-rest, rest-put, overAt-nil, overAt-append, overAt-before, length-overAt}
+use Rattle.text.proofs.CopyLaws.{room-fits, room-lacks, room-sized}
+use Rattle.text.proofs.Lists.{rest-all, length-rest, rest-put, over-nil, sets-over, overAt-append, length-overAt}
 use Rattle.text.specs.Verdict.{Verdict, fine, refused, fitted}
 use mathlib.Core.Logic.{inl, inr, ⊎-elim}
-use Rattle.line.proofs.ColumnLaws.{required-count, count-required}
-use Rattle.line.specs.Line.{required}
+use Rattle.line.specs.Line.{Ending, endingBytes, required}
+use Rattle.line.specs.Paper.{endingOf}
+use Rattle.line.specs.declared.ending.Ending.{Ending as DeclaredEnding}
+use Rattle.line.specs.declared.ending.Ending.the-variants as E
+use Rattle.line.proofs.ColumnLaws.{required-count, count-required, nothing-bytes, feed-bytes, return-feed-bytes}
 use Rattle.pieces.specs.Pieces.{countOf, lacks, joined}
 use Rattle.pieces.specs.Entries.{rising, entryList}
 use Rattle.pieces.specs.Inner.{endsAnswer, startOf, JoinsList}
@@ -39,7 +42,7 @@ use Rattle.pieces.specs.declared.joined.Joined.{Joined as Put}
 use Rattle.pieces.proofs.CountLaws.{lacks-yes, lacks-no}
 use Rattle.pieces.proofs.EntryLaws.{start-later, entries-length, entry-here, entry-past, ends-tell}
 use Rattle.pieces.proofs.JoinedLaws.{list-length, joined-fits}
-use Rattle.join.specs.Join.{isBad, columnJudged, columnsJudged, lineText, listAnswer, joinAnswer, JoinsAt}
+use Rattle.join.specs.Join.{isBad, losesReturn, columnJudged, columnsJudged, lineText, columnsAnswer, listAnswer, joinAnswer, JoinsAt}
 use Rattle.join.specs.Paper.{joinedPaper}
 use Rattle.join.specs.declared.columns.Joined.{Joined}
 use Rattle.join.specs.declared.columns.Joined.the-variants as J
@@ -75,14 +78,27 @@ module _ (c : List ℕ) where
   pub return-byte : (length c ≡ 0 → ⊥) → eqb (getD c (length c - 1) 0) 13 ≡ endsIn 13 c
   return-byte h = sym (ends-at 13 c (omega arith))
 
-  module _ (last : Bool) {t : Bool} (e : t ≡ isBad c) where
-    pub refused-bad : t ≡ true → true ≡ (isBad c || (last && endsIn 13 c))
+  module _ {x : DeclaredEnding} where
+    pub loses-nothing : x ≡ E.Nothing → false ≡ losesReturn (endingOf x) c
+    unfolding losesReturn
+    loses-nothing q = rw q
+
+    pub loses-feed : {u : Bool} → x ≡ E.Feed → u ≡ endsIn 13 c → u ≡ losesReturn (endingOf x) c
+    unfolding losesReturn
+    loses-feed q f = rw q f
+
+    pub loses-return-feed : x ≡ E.ReturnFeed → false ≡ losesReturn (endingOf x) c
+    unfolding losesReturn
+    loses-return-feed q = rw q
+
+  module _ (last : Bool) (x : DeclaredEnding) {t : Bool} (e : t ≡ isBad c) where
+    pub refused-bad : t ≡ true → true ≡ (isBad c || (last && losesReturn (endingOf x) c))
     refused-bad y = rw (← e, y)
 
-    pub refused-return : {u : Bool} → t ≡ false → last ≡ true → u ≡ endsIn 13 c → u ≡ (isBad c || (last && endsIn 13 c))
+    pub refused-return : {u : Bool} → t ≡ false → last ≡ true → u ≡ losesReturn (endingOf x) c → u ≡ (isBad c || (last && losesReturn (endingOf x) c))
     refused-return n l f = rw (← e, n, l) f
 
-    pub refused-not : t ≡ false → last ≡ false → false ≡ (isBad c || (last && endsIn 13 c))
+    pub refused-not : t ≡ false → last ≡ false → false ≡ (isBad c || (last && losesReturn (endingOf x) c))
     refused-not n l = rw (← e, n, l)
 
   module _ {x : Utf8} (e : utf8Paper x ≡ utf8Answer c) where
@@ -134,121 +150,150 @@ module _ (t ends : List ℕ) (i : ℕ) (h : i < length ends) where
 -- ---- judging the columns
 
 -- what is answered of the columns of a list, by 18, 5 and 17
-abbrev pub columnsAnswer : List ℕ → List ℕ → List ℕ → Answer
-columnsAnswer t ends l = fitted (columnsJudged 0 (entryList t ends)) (lineText (entryList t ends)) l
+abbrev pub judgedAnswer : List ℕ → List ℕ → Ending → List ℕ → Answer
+judgedAnswer t ends e l = fitted (columnsJudged 0 (entryList t ends) e) (lineText (entryList t ends) e) l
 
-pub judged-cons : (i : ℕ) (c : List ℕ) (cs : List (List ℕ))
-    → columnsJudged i (c ∷ cs) ≡ columnJudged i (isBad c || (isLast cs && endsIn 13 c)) c (columnsJudged (i + 1) cs)
+pub judged-cons : (i : ℕ) (c : List ℕ) (cs : List (List ℕ)) (e : Ending)
+    → columnsJudged i (c ∷ cs) e ≡ columnJudged i (isBad c || (isLast cs && losesReturn e c)) c (columnsJudged (i + 1) cs e)
 unfolding columnsJudged isLast
-judged-cons i c [] = refl
-judged-cons i c (d ∷ cs) = rw or-false
+judged-cons i c [] e = refl
+judged-cons i c (d ∷ cs) e = rw or-false
 
 -- the columns from i on are judged as all are from 0 on
-pub record Judging (t ends : List ℕ) (i : ℕ) : Type 0 where
+pub record Judging (t ends : List ℕ) (e : Ending) (i : ℕ) : Type 0 where
   pub within : i ≤ length ends
-  pub same : columnsJudged i (drop i (entryList t ends)) ≡ columnsJudged 0 (entryList t ends)
+  pub same : columnsJudged i (drop i (entryList t ends)) e ≡ columnsJudged 0 (entryList t ends) e
 
-pub judge-first : {t ends : List ℕ} → Judging t ends 0
+pub judge-first : {t ends : List ℕ} {e : Ending} → Judging t ends e 0
 judge-first = record { within = zero-le; same = refl }
 
-module _ {t ends : List ℕ} {i : ℕ} {c : List ℕ} {x : Bool} (g : Judging t ends i) (h : i < length ends) (e : c ≡ getD (entryList t ends) i [])
-    (f : x ≡ (isBad c || (eqb (i + 1) (length ends) && endsIn 13 c))) where
-  judge-here : columnJudged i x c (columnsJudged (i + 1) (drop (i + 1) (entryList t ends))) ≡ columnsJudged 0 (entryList t ends)
+module _ {t ends : List ℕ} {e : Ending} {i : ℕ} {c : List ℕ} {x : Bool} (g : Judging t ends e i) (h : i < length ends) (q : c ≡ getD (entryList t ends) i [])
+    (f : x ≡ (isBad c || (eqb (i + 1) (length ends) && losesReturn e c))) where
+  judge-here : columnJudged i x c (columnsJudged (i + 1) (drop (i + 1) (entryList t ends)) e) ≡ columnsJudged 0 (entryList t ends) e
   judge-here =
-      rw (f, ← column-last t ends i h, e)
-      (sym (judged-cons i (getD (entryList t ends) i []) (drop (i + 1) (entryList t ends)))
+      rw (f, ← column-last t ends i h, q)
+      (sym (judged-cons i (getD (entryList t ends) i []) (drop (i + 1) (entryList t ends)) e)
       ∙ (rw (entry-here t ends i h) at (g .same)))
 
-  pub judge-bad : (l : List ℕ) → x ≡ true → joinedPaper (J.Bad i) ≡ columnsAnswer t ends l
+  pub judge-bad : (l : List ℕ) → x ≡ true → joinedPaper (J.Bad i) ≡ judgedAnswer t ends e l
   unfolding joinedPaper columnJudged
   judge-bad l y = rw (← judge-here, y)
 
   module _ {u : Bool} (n : x ≡ false) (v : u ≡ isUtf8 c) where
-    pub judge-broken : (l : List ℕ) → not u ≡ true → joinedPaper (J.NotUtf8 i) ≡ columnsAnswer t ends l
+    pub judge-broken : (l : List ℕ) → not u ≡ true → joinedPaper (J.NotUtf8 i) ≡ judgedAnswer t ends e l
     unfolding joinedPaper columnJudged
     judge-broken l w = rw (← judge-here, n, ← v, not-true u w)
 
-    pub judge-turn : not u ≡ false → Judging t ends (i + 1)
+    pub judge-turn : not u ≡ false → Judging t ends e (i + 1)
     unfolding columnJudged
     judge-turn w = record { within = omega arith; same = rw (n, ← v, not-false u w) at judge-here }
 
+-- ---- the room
+
+module _ (end tabs size room : ℕ) where
+  short : room < end + tabs + size → joinedPaper J.Short ≡ roomFor (end + tabs + size) room
+  unfolding joinedPaper
+  short h = rw (lt-leb _ _ h)
+
+  pub fit-no-end : room < end → joinedPaper J.Short ≡ roomFor (end + tabs + size) room
+  fit-no-end h = short (omega arith)
+
+  module _ (h : end ≤ room) where
+    pub fit-no-tabs : room - end < tabs → joinedPaper J.Short ≡ roomFor (end + tabs + size) room
+    fit-no-tabs l = short (omega arith)
+
+    module _ (l : tabs ≤ room - end) {n : ℕ} (e : n ≡ size) where
+      pub fit-no-ending : room - end - tabs < n → joinedPaper J.Short ≡ roomFor (end + tabs + size) room
+      fit-no-ending k = short (omega arith)
+
+      module _ (k : n ≤ room - end - tabs) where
+        pub fit-tabs : room < 2 ^ 64 → Fits w64 (end + tabs)
+        fit-tabs z = record { fits = omega arith }
+
+        pub fit-all : room < 2 ^ 64 → Fits w64 (end + tabs + n)
+        fit-all z = record { fits = omega arith }
+
+        pub fit-done : joinedPaper (J.Done (end + tabs + n)) ≡ roomFor (end + tabs + size) room
+        unfolding joinedPaper
+        fit-done = rw (le-leb (end + tabs + size) room (omega arith), e)
+
 -- ---- the line
 
--- as long as the text up to the last end, and a byte for each column
-line-length : (t ends : List ℕ) → rising 0 ends (length t) ≡ true → 0 < length ends → length (lineText (entryList t ends)) ≡ startOf ends (length ends) + length ends
+-- as long as the text up to the last end, a tab for each column but one, and the ending
+line-length : (t ends : List ℕ) (e : Ending) → rising 0 ends (length t) ≡ true → 0 < length ends
+    → length (lineText (entryList t ends) e) ≡ startOf ends (length ends) + (length ends - 1) + length (endingBytes e)
 unfolding lineText
-line-length t ends r s =
+line-length t ends e r s =
     let n = list-length 9 t ends r (λ z. omega arith) in
-    let e = last-is ends s in
-    length-append (joined 9 (entryList t ends)) (10 ∷ []) ∙ omega arith
-
--- a byte stored behind what was laid over a list
-overAt-behind : (at : ℕ) (vs l : List ℕ) (b : ℕ) → at + length vs < length l → set (overAt at vs l) (at + length vs) b ≡ overAt at (vs ++ b ∷ []) l
-overAt-behind at vs l b h =
-    let n = length-overAt at vs l (omega arith) in
-    ap (λ (z : List ℕ). set z (at + length vs) b) (sym (overAt-nil (at + length vs + 1) (overAt at vs l)))
-    ∙ overAt-before (overAt at vs l) (at + length vs) [] b (omega arith)
-    ∙ sym (overAt-append at vs (b ∷ []) l (omega arith))
+    let q = last-is ends s in
+    length-append (joined 9 (entryList t ends)) (endingBytes e) ∙ omega arith
 
 -- ---- the answer after the columns
 
-module _ {t ends : List ℕ} {i : ℕ} (l : List ℕ) {end : ℕ} (g : Judging t ends i) (r : rising 0 ends (length t) ≡ true) (s : 0 < length ends) (h : length ends ≤ i)
-    (e : end ≡ startOf ends (length ends)) where
-  all-fine : columnsJudged 0 (entryList t ends) ≡ fine
+module _ {t ends : List ℕ} {e : Ending} {i : ℕ} (l : List ℕ) (g : Judging t ends e i) (r : rising 0 ends (length t) ≡ true) (s : 0 < length ends) (h : length ends ≤ i) where
+  all-fine : columnsJudged 0 (entryList t ends) e ≡ fine
   unfolding columnsJudged
-  all-fine = sym (g .same) ∙ ap (columnsJudged i) (entry-past t ends i h)
+  all-fine = sym (g .same) ∙ rw (entry-past t ends i h)
 
-  line-sum : length (lineText (entryList t ends)) ≡ end + i
-  line-sum = let n = line-length t ends r s in let w = g .within in omega arith
+  pub judge-some : 1 ≤ i
+  judge-some = omega arith
 
-  judge-short : length l < end + i → joinedPaper J.Short ≡ columnsAnswer t ends l
-  unfolding joinedPaper
-  judge-short o = let n = line-sum in rw all-fine (sym (room-lacks (lineText (entryList t ends)) l (omega arith)))
-
-  pub judge-no-end : length l < end → joinedPaper J.Short ≡ columnsAnswer t ends l
-  judge-no-end o = judge-short (omega arith)
-
-  module _ (k : end ≤ length l) where
-    pub judge-no-marks : length l - end < i → joinedPaper J.Short ≡ columnsAnswer t ends l
-    judge-no-marks o = judge-short (omega arith)
-
-    module _ (o : i ≤ length l - end) where
-      pub judge-sum : length l < 2 ^ 64 → Fits w64 (end + i)
-      judge-sum z = record { fits = omega arith }
-
-      pub judge-done : joinedPaper (J.Done (end + i)) ≡ columnsAnswer t ends l
-      unfolding joinedPaper
-      judge-done =
-          let n = line-sum in
-          rw (all-fine, room-fits (lineText (entryList t ends)) l (omega arith), n)
+  pub judge-room : (x : Joined) {end : ℕ} → end ≡ startOf ends (length ends) → joinedPaper x ≡ roomFor (end + (i - 1) + length (endingBytes e)) (length l)
+      → joinedPaper x ≡ judgedAnswer t ends e l
+  judge-room x {end} q f =
+      let n = line-length t ends e r s in
+      let w = g .within in
+      f ∙ rw all-fine (room-sized (lineText (entryList t ends) e) l (omega arith))
 
 -- ---- the answer for a list
 
-module _ (t ends : List ℕ) {x : Ends} (e : endsPaper x ≡ endsAnswer t ends) where
-  pub list-wrong : (l : List ℕ) → x ≡ N.Wrong → joinedPaper J.Wrong ≡ listAnswer t ends l
+module _ (t ends : List ℕ) {x : Ends} (p : endsPaper x ≡ endsAnswer t ends) where
+  pub list-wrong : (e : Ending) (l : List ℕ) → x ≡ N.Wrong → joinedPaper J.Wrong ≡ listAnswer t ends e l
   unfolding joinedPaper listAnswer
-  list-wrong l q = rw (rw q at (ends-tell t ends x e))
+  list-wrong e l q = rw (rw q at (ends-tell t ends x p))
 
   module _ (q : x ≡ N.Good) where
     pub list-rising : rising 0 ends (length t) ≡ true
-    list-rising = rw q at (ends-tell t ends x e)
+    list-rising = rw q at (ends-tell t ends x p)
 
     module _ {u : Bool} (n : u ≡ not (required (length ends))) where
-      pub list-few : (l : List ℕ) → u ≡ false → joinedPaper J.Few ≡ listAnswer t ends l
-      unfolding joinedPaper listAnswer
-      list-few l y = rw (list-rising, not-false (required (length ends)) (sym n ∙ y))
+      pub list-few : (e : Ending) (l : List ℕ) → u ≡ false → joinedPaper J.Few ≡ listAnswer t ends e l
+      unfolding joinedPaper listAnswer columnsAnswer
+      list-few e l y = rw (list-rising, entries-length, not-false (required (length ends)) (sym n ∙ y))
 
-      pub list-columns : (l : List ℕ) (r : Joined) → u ≡ true → joinedPaper r ≡ columnsAnswer t ends l → joinedPaper r ≡ listAnswer t ends l
-      unfolding listAnswer
-      list-columns l r y f = rw (list-rising, not-true (required (length ends)) (sym n ∙ y)) f
+      pub list-columns : (e : Ending) (l : List ℕ) (r : Joined) → u ≡ true → joinedPaper r ≡ judgedAnswer t ends e l → joinedPaper r ≡ listAnswer t ends e l
+      unfolding listAnswer columnsAnswer
+      list-columns e l r y f = rw (list-rising, entries-length, not-true (required (length ends)) (sym n ∙ y)) f
+
+-- ---- the ending
+
+module _ {x : DeclaredEnding} (l : List ℕ) where
+  pub put-nothing : x ≡ E.Nothing → l ≡ over (endingBytes (endingOf x)) l
+  put-nothing q = rw (q, nothing-bytes) (sym (over-nil l))
+
+  module _ (h : length (endingBytes (endingOf x)) ≤ length l) where
+    pub put-feed : x ≡ E.Feed → set l 0 10 ≡ over (endingBytes (endingOf x)) l
+    put-feed q = rw (q, feed-bytes) (sets-over (10 ∷ []) l (rw (q, feed-bytes) at h))
+
+    pub put-return-feed : x ≡ E.ReturnFeed → set (set l 0 13) 1 10 ≡ over (endingBytes (endingOf x)) l
+    put-return-feed q = rw (q, return-feed-bytes) (sets-over (13 ∷ 10 ∷ []) l (rw (q, return-feed-bytes) at h))
+
+    pub room-feed : x ≡ E.Feed → 0 < length l
+    room-feed q = let k = rw (q, feed-bytes) at h in omega arith
+
+    pub room-return : x ≡ E.ReturnFeed → 0 < length l
+    room-return q = let k = rw (q, return-feed-bytes) at h in omega arith
+
+    pub room-return-feed : x ≡ E.ReturnFeed → 1 < length l
+    room-return-feed q = let k = rw (q, return-feed-bytes) at h in omega arith
 
 -- ---- the joiner
 
 -- what an answer that is done tells of a list and the rest of the output
-record Ready (t ends l : List ℕ) : Type 0 where
+record Ready (t ends : List ℕ) (e : Ending) (l : List ℕ) : Type 0 where
   rises : rising 0 ends (length t) ≡ true
-  room : length (lineText (entryList t ends)) ≤ length l
-  answer : listAnswer t ends l ≡ says 0 (length (lineText (entryList t ends)) ∷ [])
+  room : length (lineText (entryList t ends) e) ≤ length l
+  answer : listAnswer t ends e l ≡ says 0 (length (lineText (entryList t ends) e) ∷ [])
 
 module _ (vs l : List ℕ) where
   -- what is done is fine
@@ -264,10 +309,10 @@ module _ (vs l : List ℕ) where
       by false true e = f e
       by false false e = absurd (false≢true e)
 
-  columns-told : (i : ℕ) (cs : List (List ℕ)) → Told (columnsJudged i cs)
+  columns-told : (i : ℕ) (cs : List (List ℕ)) (e : Ending) → Told (columnsJudged i cs e)
   unfolding Told columnsJudged
-  columns-told i [] = λ e. refl
-  columns-told i (c ∷ cs) = rw judged-cons (judged-told i (isBad c || (isLast cs && endsIn 13 c)) c (columnsJudged (i + 1) cs) (columns-told (i + 1) cs))
+  columns-told i [] e = λ z. refl
+  columns-told i (c ∷ cs) e = rw judged-cons (judged-told i (isBad c || (isLast cs && losesReturn e c)) c (columnsJudged (i + 1) cs e) (columns-told (i + 1) cs e))
 
   room-told : eqb (numberOf (roomAnswer vs l)) 0 ≡ true → length vs ≤ length l
   room-told e = by (decLe (length vs) (length l))
@@ -276,21 +321,21 @@ module _ (vs l : List ℕ) where
       by (yes h) = h
       by (no h) = absurd (false≢true (rw (room-lacks vs l (omega arith)) at e))
 
-ready : (t ends l : List ℕ) → eqb (numberOf (listAnswer t ends l)) 0 ≡ true → Ready t ends l
-unfolding listAnswer Told
-ready t ends l e = by (rising 0 ends (length t)) (required (length ends)) refl refl e
+ready : (t ends : List ℕ) (e : Ending) (l : List ℕ) → eqb (numberOf (listAnswer t ends e l)) 0 ≡ true → Ready t ends e l
+unfolding listAnswer columnsAnswer Told
+ready t ends e l z = by (rising 0 ends (length t)) (required (length (entryList t ends))) refl refl z
   where
     line : List ℕ
-    line = lineText (entryList t ends)
+    line = lineText (entryList t ends) e
 
-    by : (a b : Bool) → rising 0 ends (length t) ≡ a → required (length ends) ≡ b
-        → eqb (numberOf (pick a (pick b (says 19 []) (columnsAnswer t ends l)) (says 16 []))) 0 ≡ true → Ready t ends l
-    by true false r c e =
-        let f = columns-told line l 0 (entryList t ends) e in
-        let k = room-told line l (rw f at e) in
+    by : (a b : Bool) → rising 0 ends (length t) ≡ a → required (length (entryList t ends)) ≡ b
+        → eqb (numberOf (pick a (pick b (says 19 []) (judgedAnswer t ends e l)) (says 16 []))) 0 ≡ true → Ready t ends e l
+    by true false r c z =
+        let f = columns-told line l 0 (entryList t ends) e z in
+        let k = room-told line l (rw f at z) in
         record { rises = r; room = k; answer = rw (r, c, f, room-fits line l k) }
-    by true true r c e = absurd (false≢true e)
-    by false b r c e = absurd (false≢true e)
+    by true true r c z = absurd (false≢true z)
+    by false b r c z = absurd (false≢true z)
 
 -- an answer other than done
 refusal : (r : Joined) → OneOf (1 ∷ 2 ∷ 3 ∷ 4 ∷ 5 ∷ 6 ∷ []) (tagOf the-type r) → eqb (numberOf (joinedPaper r)) 0 ≡ false
@@ -303,17 +348,17 @@ refusal J.Short h = refl
 refusal (J.Bad i) h = refl
 refusal J.Few h = refl
 
-module _ (t ends : List ℕ) (at : ℕ) (out : List ℕ) where
-  pub join-beyond : length out < at → JoinsAt t ends at out J.Beyond out
+module _ (t ends : List ℕ) (e : Ending) (at : ℕ) (out : List ℕ) where
+  pub join-beyond : length out < at → JoinsAt t ends e at out J.Beyond out
   unfolding joinedPaper joinAnswer
   join-beyond h = record { answer = rw (lt-leb _ _ h); bytes = rw (lt-leb _ _ h) }
 
-  module _ (r : Joined) (h : at ≤ length out) (e : joinedPaper r ≡ listAnswer t ends (take (length out - at) (drop at out))) where
-    join-answer : joinAnswer t ends at out ≡ joinedPaper r
+  module _ (r : Joined) (h : at ≤ length out) (f : joinedPaper r ≡ listAnswer t ends e (take (length out - at) (drop at out))) where
+    join-answer : joinAnswer t ends e at out ≡ joinedPaper r
     unfolding joinAnswer
-    join-answer = rw (le-leb _ _ h) (sym (rw (rest-all out at) at e))
+    join-answer = rw (le-leb _ _ h) (sym (rw (rest-all out at) at f))
 
-    pub join-refused : OneOf (1 ∷ 2 ∷ 3 ∷ 4 ∷ 5 ∷ 6 ∷ []) (tagOf the-type r) → JoinsAt t ends at out r out
+    pub join-refused : OneOf (1 ∷ 2 ∷ 3 ∷ 4 ∷ 5 ∷ 6 ∷ []) (tagOf the-type r) → JoinsAt t ends e at out r out
     join-refused o = record { answer = sym join-answer; bytes = rw (join-answer, refusal r o) }
 
     module _ {n : ℕ} (q : r ≡ J.Done n) where
@@ -321,22 +366,19 @@ module _ (t ends : List ℕ) (at : ℕ) (out : List ℕ) where
       unfolding joinedPaper
       done = rw q
 
-      join-ready : Ready t ends (take (length out - at) (drop at out))
-      join-ready = ready t ends _ (rw (← e) done)
+      join-ready : Ready t ends e (take (length out - at) (drop at out))
+      join-ready = ready t ends e _ (rw (← f) done)
 
-      join-count : n ≡ length (lineText (entryList t ends))
+      join-count : n ≡ length (lineText (entryList t ends) e)
       unfolding joinedPaper
       join-count =
-          let z : says 0 (n ∷ []) ≡ says 0 (length (lineText (entryList t ends)) ∷ []) = (rw q at e) ∙ join-ready .answer in
+          let z : says 0 (n ∷ []) ≡ says 0 (length (lineText (entryList t ends) e) ∷ []) = (rw q at f) ∙ join-ready .answer in
           cc
 
-      -- the columns, and the LF
-      join-length : n ≡ length (joined 9 (entryList t ends)) + 1
+      -- the columns, and the ending
+      join-length : n ≡ length (joined 9 (entryList t ends)) + length (endingBytes e)
       unfolding lineText
-      join-length = join-count ∙ length-append (joined 9 (entryList t ends)) (10 ∷ [])
-
-      pub join-some : 1 ≤ at + n
-      join-some = let k = join-length in omega arith
+      join-length = join-count ∙ length-append (joined 9 (entryList t ends)) (endingBytes e)
 
       join-room : at + n ≤ length out
       join-room = let g = join-ready .room in let c = join-count in let k = length-rest out at in omega arith
@@ -344,31 +386,54 @@ module _ (t ends : List ℕ) (at : ℕ) (out : List ℕ) where
       pub join-sum : length out < 2 ^ 64 → Fits w64 (at + n)
       join-sum z = let k = join-room in record { fits = omega arith }
 
-      module _ {x : Put} {ys : List ℕ} (w : JoinsList 9 t ends (take (length out - at) (drop at out)) x ys) where
-        join-put : putMid at (length out - at) out ys ≡ overAt at (joined 9 (entryList t ends)) out
-        join-put =
-            let k = join-length in
-            let m = join-room in
-            let s = length-rest out at in
-            rest-put at (joined 9 (entryList t ends)) out ys (joined-fits w (join-ready .rises) (omega arith))
+      module _ {size : ℕ} (z : size ≡ length (endingBytes e)) where
+        pub join-some : size ≤ at + n
+        join-some = let k = join-length in omega arith
 
-        pub join-last : at + n - 1 < length (putMid at (length out - at) out ys)
-        join-last =
-            let k = join-length in
-            let m = join-room in
-            rw (join-put, length-overAt at (joined 9 (entryList t ends)) out (omega arith)) (omega arith)
+        end-is : at + n - size ≡ at + length (joined 9 (entryList t ends))
+        end-is = let k = join-length in omega arith
 
-        pub join-done : JoinsAt t ends at out (J.Done n) (set (putMid at (length out - at) out ys) (at + n - 1) 10)
-        unfolding lineText
-        join-done =
-            let k = join-length in
-            let m = join-room in
-            let z : at + n - 1 ≡ at + length (joined 9 (entryList t ends)) = omega arith in
-            record {
-              answer = rw (← q) (sym join-answer);
-              bytes = rw (join-answer, done, join-put, z) (overAt-behind at (joined 9 (entryList t ends)) out 10 (omega arith));
-            }
+        module _ {x : Put} {ys : List ℕ} (w : JoinsList 9 t ends (take (length out - at) (drop at out)) x ys) where
+          -- what the columns leave
+          columns-put : putMid at (length out - at) out ys ≡ overAt at (joined 9 (entryList t ends)) out
+          columns-put =
+              let k = join-length in
+              let m = join-room in
+              let s = length-rest out at in
+              rest-put at (joined 9 (entryList t ends)) out ys (joined-fits w (join-ready .rises) (omega arith))
 
-pub ruleset join-laws = (join-beyond, join-refused, join-some, join-sum, join-done)
+          columns-length : length (putMid at (length out - at) out ys) ≡ length out
+          columns-length =
+              let k = join-length in
+              let m = join-room in
+              rw columns-put (length-overAt at (joined 9 (entryList t ends)) out (omega arith))
 
-pub ruleset laws = (count-held, bad-empty, bad-tab, bad-feed, return-not, return-byte, refused-bad, refused-return, refused-not, utf8-yes, utf8-no, count-eight, count-ten, count-some, last-is, judge-first, judge-bad, judge-broken, judge-turn, judge-no-end, judge-no-marks, judge-sum, judge-done, list-wrong, list-rising, list-few, list-columns)
+          pub join-end : at + n - size ≤ length (putMid at (length out - at) out ys)
+          join-end = let k = join-room in let c = columns-length in omega arith
+
+          pub join-fits : length (endingBytes e) ≤ length (take (length (putMid at (length out - at) out ys) - (at + n - size)) (drop (at + n - size) (putMid at (length out - at) out ys)))
+          join-fits =
+              let l = length-rest (putMid at (length out - at) out ys) (at + n - size) in
+              let k = join-room in
+              let c = columns-length in
+              let p = end-is in
+              let m = join-length in
+              omega arith
+
+          -- and what the ending leaves behind them
+          pub join-done : {zs : List ℕ} → zs ≡ over (endingBytes e) (take (length (putMid at (length out - at) out ys) - (at + n - size)) (drop (at + n - size) (putMid at (length out - at) out ys)))
+              → JoinsAt t ends e at out (J.Done n) (putMid (at + n - size) (length (putMid at (length out - at) out ys) - (at + n - size)) (putMid at (length out - at) out ys) zs)
+          unfolding lineText
+          join-done {zs} p =
+              let k = join-length in
+              let m = join-room in
+              record {
+                answer = rw (← q) (sym join-answer);
+                bytes =
+                    rest-put (at + n - size) (endingBytes e) (putMid at (length out - at) out ys) zs p
+                    ∙ rw (end-is, columns-put, join-answer, done) (sym (overAt-append at (joined 9 (entryList t ends)) (endingBytes e) out (omega arith)));
+              }
+
+pub ruleset join-laws = (join-beyond, join-refused, join-some, join-sum, join-end, join-fits, join-done)
+
+pub ruleset laws = (count-held, bad-empty, bad-tab, bad-feed, return-not, return-byte, loses-nothing, loses-feed, loses-return-feed, refused-bad, refused-return, refused-not, utf8-yes, utf8-no, count-eight, count-ten, count-some, last-is, judge-first, judge-bad, judge-broken, judge-turn, fit-no-end, fit-no-tabs, fit-no-ending, fit-tabs, fit-all, fit-done, judge-some, judge-room, list-wrong, list-rising, list-few, list-columns, put-nothing, put-feed, put-return-feed, room-feed, room-return, room-return-feed)

@@ -1,4 +1,5 @@
 pub mod JoinLaws
 pub mod Determined
-pub mod Demands
 pub mod CaseLaws
+pub mod FaultLaws
+pub mod Demands

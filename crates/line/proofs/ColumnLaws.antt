@@ -77,6 +77,10 @@ pub feed-bytes : endingBytes feed ≡ 10 ∷ []
 unfolding endingBytes
 feed-bytes = refl
 
+pub return-feed-bytes : endingBytes return-feed ≡ 13 ∷ 10 ∷ []
+unfolding endingBytes
+return-feed-bytes = refl
+
 line-same : {s t t′ : List ℕ} {e e′ : Ending} {rest rest′ : List ℕ} → line t e rest ≡ line t′ e′ rest′ → LineCut s t e rest
     → LineCut s t′ e′ rest′
 line-same {t = t} {t′ = t′} {e = e} {e′ = e′} {rest = rest} {rest′ = rest′} q c =

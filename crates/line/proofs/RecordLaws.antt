@@ -62,7 +62,7 @@ recorded s at {next} {r} h =
 -- ---- pieces that are not empty
 
 -- joined, they have no fewer bytes than there are pieces
-joined-length : (b : ℕ) (ps : List (List ℕ)) → ((i : ℕ) → i < length ps → 0 < length (getD ps i [])) → length ps ≤ length (joined b ps)
+pub joined-length : (b : ℕ) (ps : List (List ℕ)) → ((i : ℕ) → i < length ps → 0 < length (getD ps i [])) → length ps ≤ length (joined b ps)
 joined-length b [] h = rw (joined-none b) (omega arith)
 joined-length b (p ∷ []) h = rw (joined-one b p) (h 0 (omega arith))
 joined-length b (p ∷ q ∷ ps) h =

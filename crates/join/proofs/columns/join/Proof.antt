@@ -1,5 +1,5 @@
--- `join::columns::join` meets its contract: where the answer is done, the columns and an LF behind them fit; no other answer writes. Assumes nothing.
-use Rattle.join.proofs.JoinLaws.{join-last, join-laws}
+-- `join::columns::join` meets its contract: where the answer is done, the columns and the ending behind them fit; no other answer writes. Assumes nothing.
+use Rattle.join.proofs.JoinLaws.{join-fits, join-laws}
 use borrow.Author.Needs.{needs}
 use Rattle.join.proofs.columns.join.Statement.{statement}
 use Rattle.join.proofs.columns.join.Tie as tie
@@ -40,18 +40,31 @@ part-put-joined-end c = search (needs, join-laws)
 put-joined-requires : tie.Need-put-joined-requires
 put-joined-requires c κs = search (needs, join-laws)
 
-add-last : tie.Need-add-last
-add-last c = search (needs, join-laws)
+add-end : tie.Need-add-end
+add-end c = search (needs, join-laws)
 
-sub-last : tie.Need-sub-last
-sub-last c = search (needs, join-laws)
+ending-size-requires : tie.Need-ending-size-requires
+ending-size-requires c κs = search (needs, join-laws)
 
-slice-write-out : tie.Need-slice-write-out
-slice-write-out c =
-    let d = c .before .before in
+sub-end : tie.Need-sub-end
+sub-end c = search (needs, join-laws)
+
+sub-put-ending : tie.Need-sub-put-ending
+sub-put-ending c = search (needs, join-laws)
+
+part-put-ending-start : tie.Need-part-put-ending-start
+part-put-ending-start c = search (needs, join-laws)
+
+part-put-ending-end : tie.Need-part-put-ending-end
+part-put-ending-end c = search (needs, join-laws)
+
+put-ending-requires : tie.Need-put-ending-requires
+put-ending-requires c κs =
+    let z = c .before in
+    let d = z .before .before .before in
     let k = d .before .before .before in
     let j = k .before .before in
-    join-last _ _ _ _ _ (j .before .before .before .if1 .left) (j .judge .ensures) (k .r .given .1) (d .put-joined .ensures)
+    join-fits _ _ _ _ _ _ (j .before .before .before .if1 .left) (j .judge .ensures) (k .r .given .1) (z .ending-size .ensures) (d .put-joined .ensures)
 
 same-length-2 : tie.Need-same-length-2
 same-length-2 c = search (needs, join-laws)
@@ -75,8 +88,12 @@ join-spec =
     part-put-joined-start
     part-put-joined-end
     put-joined-requires
-    add-last
-    sub-last
-    slice-write-out
+    add-end
+    ending-size-requires
+    sub-end
+    sub-put-ending
+    part-put-ending-start
+    part-put-ending-end
+    put-ending-requires
     same-length-2
     returns-3)

@@ -1,17 +1,18 @@
--- `join::columns::judge_columns` meets its contract: the columns from i on are judged as all are from 0 on; then the line's length is the last end and a byte for each column. Assumes nothing.
+-- `join::columns::judge_columns` meets its contract: the columns from i on are judged as all are from 0 on; then the line's length is the last end, a tab for each column but one, and the ending. Assumes nothing.
 use Prim.Native.Nat.{_-_}
 use borrow.Author.Needs.{needs}
 use lib.ListN.{length}
+use Rattle.line.specs.Paper.{endingOf}
 use Rattle.pieces.proofs.PlaceLaws.{entry-shown}
 use Rattle.join.proofs.JoinLaws.{Judging, laws}
 use Rattle.join.proofs.columns.judge_columns.Statement.{statement}
 use Rattle.join.proofs.columns.judge_columns.Tie as tie
 
 abbrev Inv-loop : tie.InvT-loop
-Inv-loop text ends rest i₀ i = Judging text ends i
+Inv-loop text ends ending rest i₀ i = Judging text ends (endingOf ending) i
 
 abbrev μ-loop : tie.MeasureT-loop
-μ-loop text ends rest i₀ i = length ends - i
+μ-loop text ends ending rest i₀ i = length ends - i
 
 loop-holds : tie.Need-loop-holds Inv-loop μ-loop
 loop-holds c = search (needs, laws)
@@ -46,20 +47,14 @@ loop-again c = search (needs, laws, entry-shown _ _ _ (c .before .before .before
 last-end-requires : tie.Need-last-end-requires Inv-loop μ-loop
 last-end-requires c κs = search (needs, laws)
 
+sub-fit : tie.Need-sub-fit Inv-loop μ-loop
+sub-fit c = search (needs, laws)
+
+fit-requires : tie.Need-fit-requires Inv-loop μ-loop
+fit-requires c κs = search (needs, laws)
+
 returns-3 : tie.Need-returns-3 Inv-loop μ-loop
 returns-3 c = search (needs, laws)
-
-sub-if4 : tie.Need-sub-if4 Inv-loop μ-loop
-sub-if4 c = search (needs, laws)
-
-returns-4 : tie.Need-returns-4 Inv-loop μ-loop
-returns-4 c = search (needs, laws)
-
-add-t12 : tie.Need-add-t12 Inv-loop μ-loop
-add-t12 c = search (needs, laws)
-
-returns-5 : tie.Need-returns-5 Inv-loop μ-loop
-returns-5 c = search (needs, laws)
 
 pub judge-columns-spec : {M : Type 1} → statement M
 judge-columns-spec =
@@ -78,8 +73,6 @@ judge-columns-spec =
     loop-less
     loop-again
     last-end-requires
-    returns-3
-    sub-if4
-    returns-4
-    add-t12
-    returns-5)
+    sub-fit
+    fit-requires
+    returns-3)
