@@ -68,11 +68,11 @@ module _ (cs : List (List ℕ)) (e : Ending) (out : List ℕ) (at : ℕ) where
       roomy : at ≤ length out → columnsJudged 0 cs e ≡ fine → IsLine cs e (lineText cs e) → Dec (at + length (lineText cs e) ≤ length out)
           → Told (joiner cs e out at .answer)
       roomy h q l (yes r) = rw (answer-line h (l .shaped .count) q r) (done l r)
-      roomy h q l (no r) = rw (answer-short h (l .shaped .count) q (omega arith)) (refuses (λ z. omega arith) (short h l (omega arith)))
+      roomy h q l (no r) = rw (answer-short h (l .shaped .count) q (omega arith)) (refuses {a = says 17 []} (λ z. omega arith) (short h l (omega arith)))
 
       by : Dec (at ≤ length out) → Way cs e → Told (joiner cs e out at .answer)
-      by (no h) w = rw (answer-beyond (omega arith)) (refuses (λ z. omega arith) (beyond (omega arith)))
-      by (yes h) (uncounted m q) = rw (answer-few h m) (refuses (λ z. omega arith) (few h m))
+      by (no h) w = rw (answer-beyond (omega arith)) (refuses {a = says 6 []} (λ z. omega arith) (beyond (omega arith)))
+      by (yes h) (uncounted m q) = rw (answer-few h m) (refuses {a = says 19 []} (λ z. omega arith) (few h m))
       by (yes h) (faulted m f) = rw (answer-fault h m f) (refuses (λ z. fault-some (f .here) z) (fault h m f))
       by (yes h) (lined q l) = roomy h q l (decLe (at + length (lineText cs e)) (length out))
 
@@ -89,11 +89,10 @@ module _ (cs : List (List ℕ)) (e : Ending) (out : List ℕ) (at : ℕ) where
       by (lined q d) = answer-short h (l .shaped .count) q (rw (line-is l) at o)
 
 pub writes-line : WritesLine joiner
-unfolding WritesLine
+unfolding WritesLine joiner
 writes-line cs e out at z = by (told cs e out at) refl
   where
     by : {a : Answer} → Told cs e out at a → joiner cs e out at .answer ≡ a → Written cs e out at (joiner cs e out at)
-    unfolding joiner
     by (done l r) q = record { text = lineText cs e; line = l; count = q; fits = r; bytes = rw (eq-eqb _ _ z) }
     by (refuses n f) q = absurd (n (sym (ap numberOf q) ∙ z))
 
