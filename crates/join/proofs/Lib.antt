@@ -3,3 +3,4 @@ pub mod Determined
 pub mod CaseLaws
 pub mod FaultLaws
 pub mod Demands
+pub mod BackForth
