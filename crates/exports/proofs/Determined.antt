@@ -58,5 +58,5 @@ determined =
       alt-count = λ column r r′ e e′. e ∙ sym e′;
       write-filters = λ t ends out at l. one-writing _ _ l;
       write-alts = λ t ends out at l. one-writing _ _ l;
-      join = λ t ends out at l. one-writing _ _ l;
+      join = λ t ends ending out at l. one-writing _ _ l;
     }

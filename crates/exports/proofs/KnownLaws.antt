@@ -1,16 +1,20 @@
 -- What is told of a line, of an INFO entry and of an allele, and of an answer that is known to be one. Assumes nothing.
 use Prim.Native.Nat.{ℕ}
-use mathlib.Core.Path.{_≡_, refl, _∙_}
+use mathlib.Core.Path.{_≡_, refl, ap, _∙_}
 use mathlib.Core.List.{List, [], _∷_}
 use Rattle.text.specs.Answer.{says}
 use Rattle.text.specs.declared.range.Range.{Range}
 use Rattle.text.specs.Pick.{oneIf}
 use Rattle.line.specs.Place.{rangeOf}
-use Rattle.line.specs.Paper.{readPaper}
+use Rattle.line.specs.Line.{endingNumber}
+use Rattle.line.specs.Paper.{endingOf, readPaper}
+use Rattle.line.specs.Promises.{SizesEnding, GivesEnding}
+use Rattle.line.specs.declared.ending.Ending.{Ending}
 use Rattle.line.specs.declared.read.Record.{Record}
 use Rattle.line.specs.declared.read.Read.{Read}
 use Rattle.line.specs.declared.read.Read.the-variants as R
 use Rattle.line.specs.declared.place.Name.the-variants as N
+use Rattle.line.proofs.LineLaws.{ending-size}
 use Rattle.line.proofs.CaseLaws as L
 use Rattle.info.specs.Paper as IP
 use Rattle.info.specs.declared.step.Entry.{Entry}
@@ -38,8 +42,10 @@ allele-known e = rw e
 -- ---- the values of a line, and of an allele
 
 module _ {r : ℕ} {l l′ : List ℕ} where
-  pub line-told : (line : Record) (next : ℕ) {chrom pos id reference alt qual filter info format samples : Range}
-      → Tells (says 0 (next ∷ chrom .start ∷ chrom .len ∷ pos .start ∷ pos .len ∷ id .start ∷ id .len ∷ reference .start ∷ reference .len ∷ alt .start ∷ alt .len ∷ qual .start ∷ qual .len ∷ filter .start ∷ filter .len ∷ info .start ∷ info .len ∷ format .start ∷ format .len ∷ samples .start ∷ samples .len ∷ [])) l r l′
+  pub line-told : (line : Record) (next : ℕ) {x : Ending} {size : ℕ} {chrom pos id reference alt qual filter info format samples : Range}
+      → Tells (says 0 (next ∷ size ∷ chrom .start ∷ chrom .len ∷ pos .start ∷ pos .len ∷ id .start ∷ id .len ∷ reference .start ∷ reference .len ∷ alt .start ∷ alt .len ∷ qual .start ∷ qual .len ∷ filter .start ∷ filter .len ∷ info .start ∷ info .len ∷ format .start ∷ format .len ∷ samples .start ∷ samples .len ∷ [])) l r l′
+      → GivesEnding line x
+      → SizesEnding x size
       → chrom ≡ rangeOf line N.Chrom
       → pos ≡ rangeOf line N.Pos
       → id ≡ rangeOf line N.Id
@@ -51,7 +57,9 @@ module _ {r : ℕ} {l l′ : List ℕ} where
       → format ≡ rangeOf line N.Format
       → samples ≡ rangeOf line N.Samples
       → Tells (readPaper (R.Line line next)) l r l′
-  line-told line next t a b c d e f g h i j = told-case (L.read-line refl ∙ rw (a, b, c, d, e, f, g, h, i, j)) t
+  line-told line next {x} {size} t k m a b c d e f g h i j =
+      let z : size ≡ endingNumber (endingOf (line .ending)) = m ∙ ending-size (endingOf x) ∙ ap (λ (y : Ending). endingNumber (endingOf y)) k in
+      told-case (L.read-line refl ∙ rw (z, a, b, c, d, e, f, g, h, i, j)) t
 
   pub allele-told : (a : Allele) (next : ℕ) {n m p : ℕ} → n ≡ a .number → m ≡ oneIf (a .missing) → p ≡ oneIf (a .phased)
       → Tells (says 0 (next ∷ n ∷ m ∷ p ∷ [])) l r l′ → Tells (GP.stepPaper (G.Found a next)) l r l′

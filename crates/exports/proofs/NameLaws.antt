@@ -1,17 +1,23 @@
--- A field by its number, and what its text answers. Assumes nothing.
+-- A field by its number, and what its text answers; an ending by its number, and what is joined with it. Assumes nothing.
 use Prim.Native.Nat.{ℕ, _<_, _≤_}
 use mathlib.Core.Path.{_≡_, sym}
-use mathlib.Core.List.{List, []}
+use mathlib.Core.List.{List, [], _∷_}
 use lib.ListN.{List·getD-eq-default}
 use native.Mathlib.Omega.{arith}
 use borrow.Author.Tests.{le-leb, lt-leb}
 use Rattle.text.specs.Answer.{Answer, says}
 use Rattle.text.specs.declared.range.Range.{Range}
+use Rattle.line.specs.Line.{Ending, nothing, feed, return-feed}
+use Rattle.line.specs.Paper.{endingOf}
+use Rattle.line.specs.declared.ending.Ending.the-variants as E
 use Rattle.line.specs.declared.place.Name.{Name}
 use Rattle.line.specs.declared.place.Name.the-variants as N
 use Rattle.fields.specs.Fields.{textAnswer}
-use Rattle.exports.specs.Told.{Tells}
-use Rattle.exports.specs.Places.{names, nameOf, namedAnswer}
+use Rattle.join.specs.Join.{JoinsAt}
+use Rattle.join.specs.Paper.{joinedPaper}
+use Rattle.join.specs.declared.columns.Joined.{Joined}
+use Rattle.exports.specs.Told.{Tells, TellsWriting}
+use Rattle.exports.specs.Places.{names, nameOf, namedAnswer, endingBy, endedAnswer, endedLeft}
 
 -- the field of a number that is known, and of any other
 pub name-is : {n k : ℕ} {x : Name} → n ≡ k → x ≡ nameOf k → x ≡ nameOf n
@@ -36,5 +42,32 @@ module _ (s : List ℕ) (n : ℕ) (r : Range) {q : ℕ} {l l′ : List ℕ} wher
   pub named-text : {m : Name} {p : Answer} → n ≤ 9 → m ≡ nameOf n → p ≡ textAnswer s m r → Tells p l q l′ → Tells (namedAnswer s n r) l q l′
   unfolding namedAnswer
   named-text h e f t = rw (le-leb _ _ h, ← e, ← f) t
+
+-- ---- endings
+
+module _ {n : ℕ} where
+  pub ending-nothing : n ≡ 0 → endingOf E.Nothing ≡ endingBy n
+  unfolding endingBy
+  ending-nothing e = rw e
+
+  pub ending-feed : n ≡ 1 → endingOf E.Feed ≡ endingBy n
+  unfolding endingBy
+  ending-feed e = rw e
+
+  pub ending-last : (n ≡ 0 → ⊥) → (n ≡ 1 → ⊥) → endingOf E.ReturnFeed ≡ endingBy n
+  unfolding endingBy
+  ending-last a b = let h : 2 ≤ n = omega arith in sym (List·getD-eq-default (nothing ∷ feed ∷ []) return-feed h)
+
+module _ (t ends : List ℕ) (n at : ℕ) (out : List ℕ) {q : ℕ} {l l′ : List ℕ} where
+  pub ended-none : 2 < n → Tells (says 10 []) l q l′ → TellsWriting (endedAnswer t ends n at out) (endedLeft t ends n at out) l q out l′
+  unfolding endedAnswer endedLeft
+  ended-none h k = record { told = rw (lt-leb _ _ h) k; output = rw (lt-leb _ _ h) }
+
+  pub ended-joined : {e : Ending} {r : Joined} {out′ : List ℕ} → n ≤ 2 → e ≡ endingBy n → JoinsAt t ends e at out r out′ → Tells (joinedPaper r) l q l′
+      → TellsWriting (endedAnswer t ends n at out) (endedLeft t ends n at out) l q out′ l′
+  unfolding endedAnswer endedLeft
+  ended-joined h e j k = record { told = rw (le-leb _ _ h, ← e, ← j .answer) k; output = rw (le-leb _ _ h, ← e) (j .bytes) }
+
+pub ruleset ending-laws = (ending-nothing, ending-feed, ending-last, ended-none, ended-joined)
 
 pub ruleset laws = (named-none, named-text)

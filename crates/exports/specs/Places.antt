@@ -1,4 +1,4 @@
--- Fields by number. Assumes nothing.
+-- Fields and endings by number. Assumes nothing.
 use Prim.Native.Nat.{ℕ}
 use mathlib.Core.List.{List, [], _∷_}
 use lib.ListN.{getD}
@@ -6,9 +6,11 @@ use lib.Dec.{leb}
 use Rattle.text.specs.Pick.{pick}
 use Rattle.text.specs.Answer.{Answer, says}
 use Rattle.text.specs.declared.range.Range.{Range}
+use Rattle.line.specs.Line.{Ending, nothing, feed, return-feed}
 use Rattle.line.specs.declared.place.Name.{Name}
 use Rattle.line.specs.declared.place.Name.the-variants as N
 use Rattle.fields.specs.Fields.{textAnswer}
+use Rattle.join.specs.Join.{joinAnswer, lineLeft}
 
 -- the fields, in the order of a line's columns; the samples come after them
 abbrev pub names : List Name
@@ -21,3 +23,14 @@ nameOf n = getD names n N.Samples
 -- 10 where there is no such field
 unfoldable pub namedAnswer : List ℕ → ℕ → Range → Answer
 namedAnswer s n r = pick (leb n 9) (textAnswer s (nameOf n) r) (says 10 [])
+
+-- the ending with this number
+unfoldable pub endingBy : ℕ → Ending
+endingBy n = getD (nothing ∷ feed ∷ []) n return-feed
+
+-- 10 where there is no such ending, before anything else
+unfoldable pub endedAnswer : List ℕ → List ℕ → ℕ → ℕ → List ℕ → Answer
+endedAnswer t ends n at out = pick (leb n 2) (joinAnswer t ends (endingBy n) at out) (says 10 [])
+
+unfoldable pub endedLeft : List ℕ → List ℕ → ℕ → ℕ → List ℕ → List ℕ
+endedLeft t ends n at out = pick (leb n 2) (lineLeft t ends (endingBy n) at out) out

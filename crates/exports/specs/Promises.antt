@@ -28,9 +28,8 @@ use Rattle.genotype.specs.Reading as Genotype
 use Rattle.genotype.specs.Answers.{textAnswer, checkedText, slicesAnswer, checkedSlices}
 use Rattle.spelling.specs.Permitted.{from44}
 use Rattle.spelling.specs.Write as Spelling
-use Rattle.join.specs.Join.{joinAnswer, lineLeft}
 use Rattle.exports.specs.Told.{Judges, Tells, TellsWriting, TellsReading}
-use Rattle.exports.specs.Places.{namedAnswer}
+use Rattle.exports.specs.Places.{namedAnswer, endedAnswer, endedLeft}
 
 -- ---- characters and decimal numbers
 
@@ -130,8 +129,8 @@ WritesFilters t ends out at l r out′ l′ = TellsWriting (Lists.writeAnswer Fi
 abbrev pub WritesAlts : List ℕ → List ℕ → List ℕ → ℕ → List ℕ → ℕ → List ℕ → List ℕ → Type 0
 WritesAlts t ends out at l r out′ l′ = TellsWriting (Lists.writeAnswer Alts t ends out at) (Lists.listLeft Alts t ends out at) l r out′ l′
 
-abbrev pub JoinsColumns : List ℕ → List ℕ → List ℕ → ℕ → List ℕ → ℕ → List ℕ → List ℕ → Type 0
-JoinsColumns t ends out at l r out′ l′ = TellsWriting (joinAnswer t ends at out) (lineLeft t ends at out) l r out′ l′
+abbrev pub JoinsColumns : List ℕ → List ℕ → ℕ → List ℕ → ℕ → List ℕ → ℕ → List ℕ → List ℕ → Type 0
+JoinsColumns t ends ending out at l r out′ l′ = TellsWriting (endedAnswer t ends ending at out) (endedLeft t ends ending at out) l r out′ l′
 
 -- ---- one outcome
 
@@ -173,4 +172,4 @@ pub record Determined : Type 0 where
   pub alt-count : (column : List ℕ) → OneAnswer (CountsAlts column)
   pub write-filters : (t ends out : List ℕ) (at : ℕ) (l : List ℕ) → OneWriting (WritesFilters t ends out at l)
   pub write-alts : (t ends out : List ℕ) (at : ℕ) (l : List ℕ) → OneWriting (WritesAlts t ends out at l)
-  pub join : (t ends out : List ℕ) (at : ℕ) (l : List ℕ) → OneWriting (JoinsColumns t ends out at l)
+  pub join : (t ends : List ℕ) (ending : ℕ) (out : List ℕ) (at : ℕ) (l : List ℕ) → OneWriting (JoinsColumns t ends ending out at l)

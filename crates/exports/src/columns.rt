@@ -6,6 +6,7 @@ use crate::told::tell_one;
 use crate::told::wide;
 use join::columns::Joined;
 use join::columns::join;
+use line::ending::Ending;
 use lists::alternate_bases;
 use lists::alternate_bases::judge_alt;
 use lists::alternate_bases::write_alts;
@@ -15,10 +16,12 @@ use lists::write::Kind;
 use lists::write::Verdict;
 use lists::write::Write;
 ghost use mathlib.Core.Path.{_≡_};
+ghost use Rattle.line.specs.Paper.{endingOf};
 ghost use Rattle.lists.specs.Kind.{invalidOf};
 ghost use Rattle.lists.specs.Paper.{verdictPaper, writePaper};
 ghost use Rattle.join.specs.Paper.{joinedPaper};
 ghost use Rattle.exports.specs.Told.{Judges, Tells};
+ghost use Rattle.exports.specs.Places.{endingBy};
 ghost use Rattle.exports.specs.Promises.{JudgesFilter, JudgesAlt, CountsAlts, WritesFilters, WritesAlts, JoinsColumns};
 
 // The number of an invalid entry.
@@ -122,17 +125,33 @@ fn tell_joined(joined: Joined, values: &mut [u64; VALUES]) -> u64
     }
 }
 
-// Writes columns with tabs between and a final LF, from the place `at` of the output on: 0, 5, 6, 16, 17, 18 or 19. One value at
-// most: how many bytes were written, or with 5 and 18 the index of the column. Only 0 changes the output.
+// The ending with a number up to 2; any other number is taken for 2.
+fn ending_by(n: u64) -> Ending
+    ensures { λ r. ⌜ endingOf r ≡ endingBy n ⌝ }
+{
+    match n {
+        0 => Ending::Nothing,
+        1 => Ending::Feed,
+        _ => Ending::ReturnFeed,
+    }
+}
+
+// Writes columns with tabs between and the ending with the number `ending`, 0 for nothing, 1 for LF, 2 for CR LF, from the place
+// `at` of the output on: 10 where that number is above 2; else 0, 5, 6, 16, 17, 18 or 19. One value at most: how many bytes were
+// written, or with 5 and 18 the index of the column. Only 0 changes the output.
 #[no_mangle]
 pub extern "C" fn bruncadorza_join(
     text: &[u8],
     ends: &[usize],
+    ending: u64,
     out: &mut [u8],
     at: usize,
     values: &mut [u64; VALUES],
 ) -> u64
-    ensures { λ r. ⌜ JoinsColumns (now (text .entry)) (now (ends .entry)) (now (out .entry)) at (now (values .entry)) r (now (out .exit)) (now (values .exit)) ⌝ }
+    ensures { λ r. ⌜ JoinsColumns (now (text .entry)) (now (ends .entry)) ending (now (out .entry)) at (now (values .entry)) r (now (out .exit)) (now (values .exit)) ⌝ }
 {
-    tell_joined(join(text, ends, out, at), values)
+    if ending > 2 {
+        return tell_none(10, values);
+    }
+    tell_joined(join(text, ends, ending_by(ending), out, at), values)
 }

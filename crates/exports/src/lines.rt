@@ -11,7 +11,9 @@ use fields::field::place_in;
 use fields::field::text_in;
 use fields::pos::Position;
 use fields::pos::read_pos;
+use line::ending::ending_size;
 use line::place::Name;
+use line::place::ending_of;
 use line::place::place_of;
 use line::read::Read;
 use line::read::Record;
@@ -25,10 +27,11 @@ ghost use Rattle.exports.specs.Told.{Tells};
 ghost use Rattle.exports.specs.Places.{nameOf};
 ghost use Rattle.exports.specs.Promises.{ReadsLine, FindsText, FindsPlace, ReadsPos};
 
-// The next place, and the ten places of a record.
+// The next place, and the ending and the ten places of a record.
 fn tell_line(line: Record, next: usize, values: &mut [u64; LINE_VALUES]) -> u64
     ensures { λ r. ⌜ Tells (readPaper (R.Line line next)) (now (values .entry)) r (now (values .exit)) ⌝ }
 {
+    let ending = ending_size(ending_of(line));
     let chrom = place_of(line, Name::Chrom);
     let pos = place_of(line, Name::Pos);
     let id = place_of(line, Name::Id);
@@ -41,6 +44,7 @@ fn tell_line(line: Record, next: usize, values: &mut [u64; LINE_VALUES]) -> u64
     let samples = place_of(line, Name::Samples);
     let vs = [
         next,
+        ending,
         chrom.start,
         chrom.len,
         pos.start,
@@ -79,8 +83,9 @@ fn tell_read(read: Read, values: &mut [u64; LINE_VALUES]) -> u64
     }
 }
 
-// Reads the line at the place `at`: 0 to 6. 21 values at most: the next place, and of a line the start and the length of each of
-// its ten fields, CHROM, POS, ID, REF, ALT, QUAL, FILTER, INFO, FORMAT and the samples.
+// Reads the line at the place `at`: 0 to 6. 22 values at most: the next place, and of a line how it ended, 0 for the end of the
+// input, 1 for LF, 2 for CR LF, and the start and the length of each of its ten fields, CHROM, POS, ID, REF, ALT, QUAL, FILTER,
+// INFO, FORMAT and the samples.
 #[no_mangle]
 pub extern "C" fn bruncadorza_read_line(s: &[u8], at: usize, values: &mut [u64; LINE_VALUES]) -> u64
     ensures { λ r. ⌜ ReadsLine (now (s .entry)) at (now (values .entry)) r (now (values .exit)) ⌝ }

@@ -10,7 +10,7 @@ use Rattle.text.specs.declared.copy.Written.{Written}
 use Rattle.text.specs.declared.copy.Written.the-variants.{Done, Short}
 use Rattle.decimal.specs.Shortest.{shortest}
 use Rattle.line.specs.Line.{lineOf, readAnswer}
-use Rattle.line.specs.Paper.{recordPlaces}
+use Rattle.line.specs.Paper.{recordValues}
 use Rattle.line.specs.declared.read.Record.{Record}
 use Rattle.listing.specs.Output.{rowBytes, readAfter, refusedAfter}
 use Rattle.listing.specs.Listing.{sizeOf}
@@ -47,7 +47,7 @@ TakesTurn w last phase at r = turnPaper r ≡ turnMove last phase w at
 
 -- the line reader gave this record and next place
 pub record ReadAt (w : List ℕ) (at next : ℕ) (r : Record) : Type 0 where
-  pub read : readAnswer w at ≡ says 0 (next ∷ recordPlaces r)
+  pub read : readAnswer w at ≡ says 0 (next ∷ recordValues r)
 
 -- a space and a number, and how many bytes they are
 abbrev pub spaced : ℕ → List ℕ

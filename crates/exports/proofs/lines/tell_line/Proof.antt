@@ -1,8 +1,14 @@
--- The values are the next place and the ten places, as the paper has them. Assumes nothing.
+-- The values are the next place, the ending and the ten places, as the paper has them. Assumes nothing.
 use borrow.Author.Needs.{needs}
 use Rattle.exports.proofs.KnownLaws.{line-told}
 use Rattle.exports.proofs.lines.tell_line.Statement.{statement}
 use Rattle.exports.proofs.lines.tell_line.Tie as tie
+
+ending-of-requires : tie.Need-ending-of-requires
+ending-of-requires c κs = search needs
+
+ending-size-requires : tie.Need-ending-size-requires
+ending-size-requires c κs = search needs
 
 place-of-requires : tie.Need-place-of-requires
 place-of-requires c κs = search needs
@@ -43,6 +49,8 @@ tell-requires c κs = search needs
 returns : tie.Need-returns
 returns c =
     line-told _ _ (c .tell .ensures)
+    (c .before .before .before .before .before .before .before .before .before .before .before .before .before .before .ending-of .ensures)
+    (c .before .before .before .before .before .before .before .before .before .before .before .before .before .ending-size .ensures)
     (c .before .before .before .before .before .before .before .before .before .before .before .before .place-of .ensures)
     (c .before .before .before .before .before .before .before .before .before .before .before .place-of2 .ensures)
     (c .before .before .before .before .before .before .before .before .before .before .place-of3 .ensures)
@@ -55,4 +63,4 @@ returns c =
     (c .before .before .before .place-of10 .ensures)
 
 pub tell-line-spec : {M : Type 1} → statement M
-tell-line-spec = tie.close (tie.spec place-of-requires place-of-requires-2 place-of-requires-3 place-of-requires-4 place-of-requires-5 place-of-requires-6 place-of-requires-7 place-of-requires-8 place-of-requires-9 place-of-requires-10 slice-aggregate-tell tell-requires returns)
+tell-line-spec = tie.close (tie.spec ending-of-requires ending-size-requires place-of-requires place-of-requires-2 place-of-requires-3 place-of-requires-4 place-of-requires-5 place-of-requires-6 place-of-requires-7 place-of-requires-8 place-of-requires-9 place-of-requires-10 slice-aggregate-tell tell-requires returns)
