@@ -15,7 +15,8 @@ use borrow.Author.Tests.{eqb-true, eqb-false, lt-ltb, le-ltb, le-leb, lt-leb, eq
 use borrow.Rule.Slice.PartMut.{putMid}
 use Rattle.text.specs.Pick.{pick}
 use Rattle.text.specs.Answer.{Answer, says, numberOf}
-use Rattle.text.specs.Over.{over, overAt, roomFor, roomAnswer}
+use Rattle.text.specs.Over.{over, overAt, roomFor, roomAnswer, Writes}
+use Rattle.text.specs.declared.copy.Written.{Written}
 use Rattle.text.specs.Bytes.{endsIn}
 use Rattle.text.specs.Utf8.{isUtf8, utf8Answer}
 use Rattle.text.specs.Paper.{utf8Paper}
@@ -23,8 +24,8 @@ use Rattle.text.specs.declared.utf8.Utf8.{Utf8}
 use Rattle.text.specs.declared.utf8.Utf8.the-variants as U
 use Rattle.text.proofs.ByteLaws.{none-empty, some-empty, ends-none, ends-at}
 use Rattle.text.proofs.CharLaws.{told-text, told-broken}
-use Rattle.text.proofs.CopyLaws.{room-fits, room-lacks, room-sized}
-use Rattle.text.proofs.Lists.{rest-all, length-rest, rest-put, over-nil, sets-over, overAt-append, length-overAt}
+use Rattle.text.proofs.CopyLaws.{room-fits, room-lacks, room-sized, writes-fits}
+use Rattle.text.proofs.Lists.{rest-all, length-rest, rest-put, over-nil, overAt-append, length-overAt}
 use Rattle.text.specs.Verdict.{Verdict, fine, refused, fitted}
 use mathlib.Core.Logic.{inl, inr, ⊎-elim}
 use Rattle.line.specs.Line.{Ending, endingBytes, required}
@@ -271,21 +272,12 @@ module _ {x : DeclaredEnding} (l : List ℕ) where
   pub put-nothing : x ≡ E.Nothing → l ≡ over (endingBytes (endingOf x)) l
   put-nothing q = rw (q, nothing-bytes) (sym (over-nil l))
 
-  module _ (h : length (endingBytes (endingOf x)) ≤ length l) where
-    pub put-feed : x ≡ E.Feed → set l 0 10 ≡ over (endingBytes (endingOf x)) l
-    put-feed q = rw (q, feed-bytes) (sets-over (10 ∷ []) l (rw (q, feed-bytes) at h))
+  module _ (h : length (endingBytes (endingOf x)) ≤ length l) {r : Written} {l′ : List ℕ} where
+    pub put-feed : x ≡ E.Feed → Writes (10 ∷ []) l r l′ → l′ ≡ over (endingBytes (endingOf x)) l
+    put-feed q w = rw (q, feed-bytes) (writes-fits w (rw (q, feed-bytes) at h))
 
-    pub put-return-feed : x ≡ E.ReturnFeed → set (set l 0 13) 1 10 ≡ over (endingBytes (endingOf x)) l
-    put-return-feed q = rw (q, return-feed-bytes) (sets-over (13 ∷ 10 ∷ []) l (rw (q, return-feed-bytes) at h))
-
-    pub room-feed : x ≡ E.Feed → 0 < length l
-    room-feed q = let k = rw (q, feed-bytes) at h in omega arith
-
-    pub room-return : x ≡ E.ReturnFeed → 0 < length l
-    room-return q = let k = rw (q, return-feed-bytes) at h in omega arith
-
-    pub room-return-feed : x ≡ E.ReturnFeed → 1 < length l
-    room-return-feed q = let k = rw (q, return-feed-bytes) at h in omega arith
+    pub put-return-feed : x ≡ E.ReturnFeed → Writes (13 ∷ 10 ∷ []) l r l′ → l′ ≡ over (endingBytes (endingOf x)) l
+    put-return-feed q w = rw (q, return-feed-bytes) (writes-fits w (rw (q, return-feed-bytes) at h))
 
 -- ---- the joiner
 
@@ -436,4 +428,4 @@ module _ (t ends : List ℕ) (e : Ending) (at : ℕ) (out : List ℕ) where
 
 pub ruleset join-laws = (join-beyond, join-refused, join-some, join-sum, join-end, join-fits, join-done)
 
-pub ruleset laws = (count-held, bad-empty, bad-tab, bad-feed, return-not, return-byte, loses-nothing, loses-feed, loses-return-feed, refused-bad, refused-return, refused-not, utf8-yes, utf8-no, count-eight, count-ten, count-some, last-is, judge-first, judge-bad, judge-broken, judge-turn, fit-no-end, fit-no-tabs, fit-no-ending, fit-tabs, fit-all, fit-done, judge-some, judge-room, list-wrong, list-rising, list-few, list-columns, put-nothing, put-feed, put-return-feed, room-feed, room-return, room-return-feed)
+pub ruleset laws = (count-held, bad-empty, bad-tab, bad-feed, return-not, return-byte, loses-nothing, loses-feed, loses-return-feed, refused-bad, refused-return, refused-not, utf8-yes, utf8-no, count-eight, count-ten, count-some, last-is, judge-first, judge-bad, judge-broken, judge-turn, fit-no-end, fit-no-tabs, fit-no-ending, fit-tabs, fit-all, fit-done, judge-some, judge-room, list-wrong, list-rising, list-few, list-columns, put-nothing, put-feed, put-return-feed)

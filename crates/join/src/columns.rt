@@ -6,6 +6,7 @@ use pieces::entries::Ends;
 use pieces::entries::entry_text;
 use pieces::entries::judge_ends;
 use pieces::joined::put_joined;
+use text::copy::copy;
 use text::utf8::Utf8;
 use text::utf8::check_utf8;
 ghost use mathlib.Core.Path.{_≡_};
@@ -186,11 +187,10 @@ fn put_ending(ending: Ending, out: &mut [u8])
     match ending {
         Ending::Nothing => {}
         Ending::Feed => {
-            out[0] = b'\n';
+            copy(b"\n", out);
         }
         Ending::ReturnFeed => {
-            out[0] = b'\r';
-            out[1] = b'\n';
+            copy(b"\r\n", out);
         }
     }
 }

@@ -10,17 +10,20 @@ enum-told c = search (needs, laws)
 enum-told-2 : tie.Need-enum-told-2
 enum-told-2 c = search (needs, laws)
 
-slice-write-out : tie.Need-slice-write-out
-slice-write-out c = search (needs, laws)
+slice-aggregate-copy : tie.Need-slice-aggregate-copy
+slice-aggregate-copy c = search (needs, laws)
+
+copy-requires : tie.Need-copy-requires
+copy-requires c κs = search (needs, laws)
 
 enum-told-3 : tie.Need-enum-told-3
 enum-told-3 c = search (needs, laws)
 
-slice-write-out-2 : tie.Need-slice-write-out-2
-slice-write-out-2 c = search (needs, laws)
+slice-aggregate-copy-2 : tie.Need-slice-aggregate-copy-2
+slice-aggregate-copy-2 c = search (needs, laws)
 
-slice-write-out-3 : tie.Need-slice-write-out-3
-slice-write-out-3 c = search (needs, laws)
+copy-requires-2 : tie.Need-copy-requires-2
+copy-requires-2 c κs = search (needs, laws)
 
 returns : tie.Need-returns
 returns c = search (needs, laws)
@@ -43,10 +46,11 @@ put-ending-spec =
     (tie.spec
     enum-told
     enum-told-2
-    slice-write-out
+    slice-aggregate-copy
+    copy-requires
     enum-told-3
-    slice-write-out-2
-    slice-write-out-3
+    slice-aggregate-copy-2
+    copy-requires-2
     returns
     same-length
     returns-2
