@@ -18,7 +18,7 @@ use Rattle.text.proofs.Lists.{take-overAt}
 use Rattle.text.proofs.CopyLaws.{same-outcome}
 use Rattle.pieces.specs.Pieces.{joined}
 use Rattle.pieces.specs.Entries.{entryList}
-use Rattle.line.specs.Line.{Ending, nothing, endingBytes, readAnswer}
+use Rattle.line.specs.Line.{Ending, endingBytes, readAnswer}
 use Rattle.line.specs.Paper.{endingOf, recordValues}
 use Rattle.line.specs.Demands as Line
 use Rattle.line.specs.Demands.{Begins, Reader, Stands, One, OneReader}
@@ -27,10 +27,10 @@ use Rattle.line.proofs.RecordLaws.{joined-length}
 use Rattle.line.proofs.CaseLaws.{read-record}
 use Rattle.line.proofs.One.{one}
 use Rattle.line.proofs.Meets as LineMeets
-use Rattle.join.specs.Join.{lineText, columnsAnswer, listAnswer, joinAnswer}
-use Rattle.join.specs.Demands.{Joiner, joiner, IsLine, WritesLine, Refused, beyond, few, fault, short, Refusals, Meets, OneJoiner, Exact, HasRead, Back, Forth, Follow, EntriesJoiner, Rejoins}
+use Rattle.join.specs.Join.{lineText, listAnswer, joinAnswer}
+use Rattle.join.specs.Demands.{Joiner, joiner, IsLine, WritesLine, Refused, beyond, few, fault, short, Refusals, Meets, Exact, HasRead, Back, Forth, Follow, EntriesJoiner, Rejoins}
 use Rattle.join.proofs.FaultLaws.{line-whole, line-faultless, line-again, line-is}
-use Rattle.join.proofs.Demands.{answer-line, meets, one-joiner}
+use Rattle.join.proofs.Demands.{meets}
 
 -- ---- refused exactly when there is no line
 

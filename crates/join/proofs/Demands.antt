@@ -8,7 +8,6 @@ use native.Mathlib.Decide.{ℕ-discrete, decLe}
 use lib.ListN.{length, drop, length-drop}
 use borrow.Author.Tests.{le-leb, lt-leb, eq-eqb, ne-eqb}
 use Rattle.text.specs.Answer.{Answer, says, numberOf}
-use Rattle.text.specs.Over.{overAt}
 use Rattle.text.proofs.CopyLaws.{room-fits, room-lacks, same-outcome}
 use Rattle.text.specs.Verdict.{fine}
 use Rattle.line.specs.Line.{Ending}
@@ -49,7 +48,7 @@ module _ (cs : List (List ℕ)) (e : Ending) (out : List ℕ) (at : ℕ) where
     answer-fault m f = answer-inside ∙ rw (count-required m, fault-judged cs e f)
 
     module _ (m : MayEnd (length cs)) (q : columnsJudged 0 cs e ≡ fine) where
-      pub answer-line : at + length (lineText cs e) ≤ length out → joiner cs e out at .answer ≡ says 0 (length (lineText cs e) ∷ [])
+      answer-line : at + length (lineText cs e) ≤ length out → joiner cs e out at .answer ≡ says 0 (length (lineText cs e) ∷ [])
       unfolding columnsAnswer
       answer-line l = answer-inside ∙ rw (count-required m, q) (room-fits (lineText cs e) (drop at out) (simp length-drop (omega arith)))
 

@@ -21,13 +21,14 @@ use Rattle.line.specs.Line.{Ending, endingBytes, endingNumber, line, lin
 use Rattle.line.specs.Place.{rangeOf, columnNumber, columnOf, columnStart}
 use Rattle.line.specs.Paper.{endingOf, recordPlaces, recordValues}
 use Rattle.line.specs.Promises.{GivesPlace, MakesRecord}
-use Rattle.line.specs.Demands.{Column, Begins, Lies, TenPlaces, Stands, One}
+use Rattle.line.specs.Demands.{Column, Begins, Lies, TenPlaces, Stands, One, TellsEnding}
 use Rattle.line.specs.declared.ending.Ending.{Ending as DeclaredEnding}
 use Rattle.line.specs.declared.read.Record.{Record}
 use Rattle.line.specs.declared.place.Name.{Name}
 use Rattle.line.specs.declared.place.Name.the-variants as N
 use Rattle.line.proofs.LineLaws.{ending-known}
-use Rattle.line.proofs.ShapeLaws.{shaped-line, shaped-split}
+use Rattle.line.proofs.ShapeLaws.{shaped-line, shaped-split, begins-only}
+use Rattle.line.proofs.CaseLaws.{read-record}
 use Rattle.line.proofs.One.{one, lie-cuts, fieldOf, CutsOut}
 
 -- ---- what was read
@@ -58,6 +59,13 @@ recorded s at {next} {r} h =
       ends = ending-known _ _ n;
       lie = rw p at (o .lie);
     }
+
+-- so the ending asked of it is its line's
+pub tells-ending : TellsEnding
+unfolding TellsEnding
+tells-ending s at next r x read q cs e rest b =
+    let g : Recorded s at r = recorded s at {next = next} (sym read ∙ read-record refl) in
+    rw q (g .ends) ∙ sym (begins-only (g .begin) b .1)
 
 -- ---- pieces that are not empty
 

@@ -11,6 +11,11 @@ use Rattle.text.specs.Demands.{Characters}
 use Rattle.pieces.specs.Pieces.{joined}
 use Rattle.pieces.specs.Demands.{Free, startIn}
 use Rattle.line.specs.Line.{Ending, nothing, feed, return-feed, endingBytes, endingNumber, allUtf8}
+use Rattle.line.specs.Paper.{endingOf}
+use Rattle.line.specs.Promises.{ReadsLine, GivesEnding}
+use Rattle.line.specs.declared.ending.Ending.{Ending as DeclaredEnding}
+use Rattle.line.specs.declared.read.Record.{Record}
+use Rattle.line.specs.declared.read.Read.the-variants as R
 
 -- INFO and the samples may be the last column, k counted from 1; columns 1 to 7, and FORMAT, must be ended by a tab
 abbrev pub MayEnd : ℕ → Type 0
@@ -109,6 +114,13 @@ pub record Stands (s : List ℕ) (at : ℕ) (a : Answer) : Type 0 where
 
 unfoldable pub One : Reader → Type 0
 One read = (s : List ℕ) (at : ℕ) → numberOf (read s at) ≡ 0 → Stands s at (read s at)
+
+-- ---- the ending
+
+-- asked of a record that the line reader made, it is the one that columns begin what is left with
+unfoldable pub TellsEnding : Type 0
+TellsEnding = (s : List ℕ) (at next : ℕ) (r : Record) (x : DeclaredEnding) → ReadsLine s at (R.Line r next) → GivesEnding r x
+    → (cs : List (List ℕ)) (e : Ending) (rest : List ℕ) → Begins (drop at s) cs e rest → endingOf x ≡ e
 
 -- ---- faults
 
