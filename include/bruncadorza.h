@@ -52,7 +52,8 @@ enum bruncadorza_number {
     BRUNCADORZA_INFO_AFTER_KEY = 7,   /* INFO: the `;` after a key is the last byte */
     BRUNCADORZA_INFO_NO_KEY = 8,      /* INFO: an empty key */
     BRUNCADORZA_INFO_AFTER_VALUE = 9, /* INFO: the `;` after a value is the last byte */
-    BRUNCADORZA_NOTHING = 10,         /* no such entry, sample, key, subfield or field; the steps over INFO or a genotype are done */
+    BRUNCADORZA_NOTHING = 10,         /* no such entry, sample, key, subfield, field or ending; the steps over INFO or a genotype
+                                         are done */
     BRUNCADORZA_GENOTYPE_EMPTY = 11,  /* the genotype text or list is empty */
     BRUNCADORZA_BAD_NUMBER = 12,      /* a number is bad, or an allele's is not 0 beside a missing mark */
     BRUNCADORZA_BAD_PHASING = 13,     /* the file format is below 4.4 and the first phasing is not the implied one */
@@ -60,7 +61,8 @@ enum bruncadorza_number {
     BRUNCADORZA_BAD_ALT = 15,         /* an ALT entry is invalid */
     BRUNCADORZA_BAD_LENGTHS = 16,     /* the ends of a list fall or pass its text; parallel slices differ in length */
     BRUNCADORZA_SHORT = 17,           /* the output or the lent row is too short */
-    BRUNCADORZA_BAD_COLUMN = 18,      /* joiner: a column is empty, holds a tab or an LF, or is the last and ends in CR */
+    BRUNCADORZA_BAD_COLUMN = 18,      /* joiner: a column is empty, holds a tab or an LF, or is the last, ends in CR, and the ending
+                                         is LF */
     BRUNCADORZA_FEW_COLUMNS = 19,     /* joiner: fewer than eight columns, or nine */
     BRUNCADORZA_ABOVE_ALT = 20,       /* checked reader: an allele number is above the ALT count */
     BRUNCADORZA_BAD_POS = 21          /* POS is bad */
@@ -78,6 +80,13 @@ enum bruncadorza_name {
     BRUNCADORZA_INFO = 7,
     BRUNCADORZA_FORMAT = 8,
     BRUNCADORZA_SAMPLES = 9
+};
+
+/* How a line ends, as bruncadorza_read_line answers it and bruncadorza_join takes it: the number is how many bytes it has. */
+enum bruncadorza_ending {
+    BRUNCADORZA_ENDING_NOTHING = 0,    /* the end of the input */
+    BRUNCADORZA_ENDING_FEED = 1,       /* LF */
+    BRUNCADORZA_ENDING_RETURN_FEED = 2 /* CR LF */
 };
 
 /* How long the array `values` is: for bruncadorza_read_line, and for every other function that has values. */
@@ -103,8 +112,8 @@ uint64_t bruncadorza_print_decimal(uint64_t n, uint8_t *out, size_t out_n,
 
 /* Lines */
 
-/* Reads the line at the place `at`. 0: the next place, then the start and the length of each of the ten fields. 1 to 6: the
-   next place, from which to go on. */
+/* Reads the line at the place `at`. 0: the next place, the ending (enum bruncadorza_ending), then the start and the length of each
+   of the ten fields. 1 to 6: the next place, from which to go on. */
 uint64_t bruncadorza_read_line(const uint8_t *s, size_t s_n, size_t at,
                                uint64_t values[BRUNCADORZA_LINE_VALUES]);
 
@@ -227,9 +236,10 @@ uint64_t bruncadorza_write_alts(const uint8_t *text, size_t text_n, const size_t
                                 uint8_t *out, size_t out_n, size_t at,
                                 uint64_t values[BRUNCADORZA_VALUES]);
 
-/* Writes columns with tabs between and a final LF, from the place `at` of `out` on. 0: how many bytes were written. 5, 18: the
-   index of the column. Or 6, 16, 17, 19. Only 0 changes `out`. */
-uint64_t bruncadorza_join(const uint8_t *text, size_t text_n, const size_t *ends, size_t ends_n,
+/* Writes columns with tabs between and an ending (enum bruncadorza_ending) behind, from the place `at` of `out` on. 0: how many
+   bytes were written. 5, 18: the index of the column. 10 where `ending` is above 2, whatever else is wrong. Or 6, 16, 17, 19. Only
+   0 changes `out`. */
+uint64_t bruncadorza_join(const uint8_t *text, size_t text_n, const size_t *ends, size_t ends_n, uint64_t ending,
                           uint8_t *out, size_t out_n, size_t at,
                           uint64_t values[BRUNCADORZA_VALUES]);
 

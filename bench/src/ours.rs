@@ -25,13 +25,16 @@ unsafe extern "C" {
     ) -> u64;
     fn bruncadorza_check_utf8(text: Bytes, text_n: usize) -> u64;
     fn bruncadorza_join(
-        text: Bytes, text_n: usize, ends: *const usize, ends_n: usize, out: *mut u8, out_n: usize, at: usize,
-        values: &mut Values,
+        text: Bytes, text_n: usize, ends: *const usize, ends_n: usize, ending: u64, out: *mut u8, out_n: usize,
+        at: usize, values: &mut Values,
     ) -> u64;
 }
 
-/// Every line of the body. A visitor gets its length and the values that follow the next place: the start and the
-/// length of each field.
+/// The ending LF, as the joiner takes it.
+const FEED: u64 = 1;
+
+/// Every line of the body. A visitor gets its length and the values that follow the next place and the ending: the start
+/// and the length of each field.
 #[inline]
 fn each_line(input: &Input, mut visit: impl FnMut(usize, &[u64], &mut Tally)) -> Tally {
     let body = &input.body[..];
@@ -45,7 +48,7 @@ fn each_line(input: &Input, mut visit: impl FnMut(usize, &[u64], &mut Tally)) ->
         }
         assert_eq!(number, 0, "a line in order");
         let next = values[1] as usize;
-        visit(next - at, &values[2..], &mut tally);
+        visit(next - at, &values[3..], &mut tally);
         at = next;
     }
 }
@@ -218,8 +221,8 @@ pub fn join(input: &Input, room: &mut Room) -> Tally {
         let (columns, rest) = text.split_at(ends[count - 1]);
         let number = unsafe {
             bruncadorza_join(
-                columns.as_ptr(), columns.len(), ends.as_ptr(), ends.len(), room.out.as_mut_ptr(), room.out.len(),
-                room.written, &mut room.values,
+                columns.as_ptr(), columns.len(), ends.as_ptr(), ends.len(), FEED, room.out.as_mut_ptr(),
+                room.out.len(), room.written, &mut room.values,
             )
         };
         assert_eq!(number, 0, "columns in order");

@@ -74,11 +74,11 @@ static void lines(void) {
     static const char text[] = "1\t7\t.\tA\tC,G\t.\tPASS\tDP=9;DB\tGT\t0|2\t./1\r\n#";
     const uint8_t *s = (const uint8_t *)text;
     const size_t n = sizeof text - 1;
-    const uint64_t expected[21] = {39, 0, 1, 2, 1, 4, 1, 6, 1, 8, 3, 12, 1, 14, 4, 19, 7, 27, 2, 30, 7};
+    const uint64_t expected[22] = {39, BRUNCADORZA_ENDING_RETURN_FEED, 0, 1, 2, 1, 4, 1, 6, 1, 8, 3, 12, 1, 14, 4, 19, 7, 27, 2, 30, 7};
     uint64_t values[BRUNCADORZA_LINE_VALUES];
     uint64_t place[BRUNCADORZA_VALUES];
 
-    CHECK(bruncadorza_read_line(s, n, 0, values) == BRUNCADORZA_DONE && are(values, 21, expected));
+    CHECK(bruncadorza_read_line(s, n, 0, values) == BRUNCADORZA_DONE && are(values, 22, expected));
     CHECK(bruncadorza_field_text(s, n, BRUNCADORZA_INFO, 19, 7, place) == BRUNCADORZA_DONE && two(place, 19, 7));
     CHECK(bruncadorza_field_text(s, n, BRUNCADORZA_ID, 4, 1, place) == BRUNCADORZA_DONE && two(place, 5, 0));
     CHECK(bruncadorza_field_text(s, n, BRUNCADORZA_QUAL, 12, 1, place) == BRUNCADORZA_DONE && none(place));
@@ -98,6 +98,41 @@ static void lines(void) {
     CHECK(bruncadorza_read_pos(BYTES("0a"), values) == BRUNCADORZA_BAD_POS && one(values, 1));
     CHECK(bruncadorza_read_pos(BYTES("+"), values) == BRUNCADORZA_BAD_POS && one(values, 1));
     CHECK(bruncadorza_read_pos(BYTES("18446744073709551616"), values) == BRUNCADORZA_BAD_POS && one(values, 19));
+}
+
+/* A line of eight columns of one byte each, without an ending. */
+#define LINE "1\t7\t.\tA\tC\t.\t.\tx"
+#define LINE_N 15
+
+/* Whether `values` are those of LINE at the place `at`, with an ending of so many bytes. */
+static int are_line(const uint64_t *values, uint64_t at, uint64_t ending) {
+    uint64_t expected[22];
+    uint64_t i;
+    expected[0] = at + LINE_N + ending;
+    expected[1] = ending;
+    for (i = 0; i < 10; i += 1) {
+        expected[2 + 2 * i] = i < 8 ? at + 2 * i : at + LINE_N;
+        expected[3 + 2 * i] = i < 8 ? 1 : 0;
+    }
+    return are(values, 22, expected);
+}
+
+static void read_endings(void) {
+    uint64_t values[BRUNCADORZA_LINE_VALUES];
+
+    values[23] = 77;
+    CHECK(bruncadorza_read_line(BYTES(LINE "\n" LINE "\r\n" LINE), 0, values) == BRUNCADORZA_DONE && are_line(values, 0, BRUNCADORZA_ENDING_FEED));
+    CHECK(bruncadorza_read_line(BYTES(LINE "\n" LINE "\r\n" LINE), 16, values) == BRUNCADORZA_DONE && are_line(values, 16, BRUNCADORZA_ENDING_RETURN_FEED));
+    CHECK(bruncadorza_read_line(BYTES(LINE "\n" LINE "\r\n" LINE), 33, values) == BRUNCADORZA_DONE && are_line(values, 33, BRUNCADORZA_ENDING_NOTHING));
+    CHECK(bruncadorza_read_line(BYTES(LINE "\n"), 0, values) == BRUNCADORZA_DONE && are_line(values, 0, BRUNCADORZA_ENDING_FEED));
+    CHECK(bruncadorza_read_line(BYTES(LINE "\r\n"), 0, values) == BRUNCADORZA_DONE && are_line(values, 0, BRUNCADORZA_ENDING_RETURN_FEED));
+    CHECK(bruncadorza_read_line(BYTES(LINE), 0, values) == BRUNCADORZA_DONE && are_line(values, 0, BRUNCADORZA_ENDING_NOTHING));
+    /* A CR that no LF follows, and one before a CR LF, belong to INFO. */
+    CHECK(bruncadorza_read_line(BYTES(LINE "\r"), 0, values) == BRUNCADORZA_DONE && values[0] == 22);
+    CHECK(values[1] == 16 && values[2] == BRUNCADORZA_ENDING_NOTHING && values[17] == 14 && values[18] == 2);
+    CHECK(bruncadorza_read_line(BYTES(LINE "\r\r\n"), 0, values) == BRUNCADORZA_DONE && values[0] == 22);
+    CHECK(values[1] == 18 && values[2] == BRUNCADORZA_ENDING_RETURN_FEED && values[17] == 14 && values[18] == 2);
+    CHECK(values[23] == 77);
 }
 
 static void infos(void) {
@@ -259,13 +294,47 @@ static void joined_columns(void) {
     uint8_t out[17] = "eeeeeeeeeeeeeeee";
     uint64_t values[BRUNCADORZA_VALUES];
 
-    CHECK(bruncadorza_join(BYTES("17.AC..x"), ends, 7, out, 17, 0, values) == BRUNCADORZA_FEW_COLUMNS && none(values));
-    CHECK(bruncadorza_join(BYTES("17\tAC..x"), ends, 8, out, 17, 0, values) == BRUNCADORZA_BAD_COLUMN && one(values, 2));
-    CHECK(bruncadorza_join(BYTES("17.AC..\xFF"), ends, 8, out, 17, 0, values) == BRUNCADORZA_NOT_UTF8 && one(values, 7));
-    CHECK(bruncadorza_join(BYTES("17.AC..x"), ends, 8, out, 17, 2, values) == BRUNCADORZA_SHORT && none(values));
+    CHECK(bruncadorza_join(BYTES("17.AC..x"), ends, 7, BRUNCADORZA_ENDING_FEED, out, 17, 0, values) == BRUNCADORZA_FEW_COLUMNS && none(values));
+    CHECK(bruncadorza_join(BYTES("17\tAC..x"), ends, 8, BRUNCADORZA_ENDING_FEED, out, 17, 0, values) == BRUNCADORZA_BAD_COLUMN && one(values, 2));
+    CHECK(bruncadorza_join(BYTES("17.AC..\xFF"), ends, 8, BRUNCADORZA_ENDING_FEED, out, 17, 0, values) == BRUNCADORZA_NOT_UTF8 && one(values, 7));
+    CHECK(bruncadorza_join(BYTES("17.AC..x"), ends, 8, BRUNCADORZA_ENDING_FEED, out, 17, 2, values) == BRUNCADORZA_SHORT && none(values));
     CHECK(memcmp(out, "eeeeeeeeeeeeeeee", 17) == 0);
-    CHECK(bruncadorza_join(BYTES("17.AC..x"), ends, 8, out, 17, 0, values) == BRUNCADORZA_DONE && one(values, 16));
-    CHECK(memcmp(out, "1\t7\t.\tA\tC\t.\t.\tx\n", 17) == 0);
+    CHECK(bruncadorza_join(BYTES("17.AC..x"), ends, 8, BRUNCADORZA_ENDING_FEED, out, 17, 0, values) == BRUNCADORZA_DONE && one(values, 16));
+    CHECK(memcmp(out, LINE "\n", 17) == 0);
+}
+
+/* The three endings, and numbers that are none. */
+static void joined_endings(void) {
+    const size_t ends[8] = {1, 2, 3, 4, 5, 6, 7, 8};
+    uint8_t out[18] = "eeeeeeeeeeeeeeeee";
+    uint64_t values[BRUNCADORZA_VALUES];
+
+    CHECK(bruncadorza_join(BYTES("17.AC..x"), ends, 8, BRUNCADORZA_ENDING_NOTHING, out, 14, 0, values) == BRUNCADORZA_SHORT && none(values));
+    CHECK(bruncadorza_join(BYTES("17.AC..x"), ends, 8, BRUNCADORZA_ENDING_FEED, out, 15, 0, values) == BRUNCADORZA_SHORT && none(values));
+    CHECK(bruncadorza_join(BYTES("17.AC..x"), ends, 8, BRUNCADORZA_ENDING_RETURN_FEED, out, 16, 0, values) == BRUNCADORZA_SHORT && none(values));
+    CHECK(bruncadorza_join(BYTES("17.AC..x"), ends, 8, 3, out, 18, 0, values) == BRUNCADORZA_NOTHING && none(values));
+    CHECK(bruncadorza_join(BYTES("17.AC..x"), ends, 8, UINT64_MAX, out, 18, 0, values) == BRUNCADORZA_NOTHING && none(values));
+    CHECK(bruncadorza_join(BYTES("17.AC..x"), ends, 8, (UINT64_C(1) << 32) + 1, out, 18, 0, values) == BRUNCADORZA_NOTHING && none(values));
+    CHECK(memcmp(out, "eeeeeeeeeeeeeeeee", 18) == 0);
+    CHECK(bruncadorza_join(BYTES("17.AC..x"), ends, 8, BRUNCADORZA_ENDING_NOTHING, out, 15, 0, values) == BRUNCADORZA_DONE && one(values, 15));
+    CHECK(memcmp(out, LINE "ee", 18) == 0);
+    CHECK(bruncadorza_join(BYTES("17.AC..x"), ends, 8, BRUNCADORZA_ENDING_FEED, out, 16, 0, values) == BRUNCADORZA_DONE && one(values, 16));
+    CHECK(memcmp(out, LINE "\ne", 18) == 0);
+    CHECK(bruncadorza_join(BYTES("17.AC..x"), ends, 8, BRUNCADORZA_ENDING_RETURN_FEED, out, 17, 0, values) == BRUNCADORZA_DONE && one(values, 17));
+    CHECK(memcmp(out, LINE "\r\n", 18) == 0);
+    CHECK(bruncadorza_join(BYTES("17.AC..x"), ends, 8, BRUNCADORZA_ENDING_NOTHING, out, 18, 3, values) == BRUNCADORZA_DONE && one(values, 15));
+    CHECK(memcmp(out, "1\t7" LINE, 18) == 0);
+
+    /* A last column that ends in CR is refused before an LF alone. */
+    CHECK(bruncadorza_join(BYTES("17.AC..\r"), ends, 8, BRUNCADORZA_ENDING_FEED, out, 18, 0, values) == BRUNCADORZA_BAD_COLUMN && one(values, 7));
+    CHECK(memcmp(out, "1\t7" LINE, 18) == 0);
+    CHECK(bruncadorza_join(BYTES("17.AC..\r"), ends, 8, BRUNCADORZA_ENDING_NOTHING, out, 18, 0, values) == BRUNCADORZA_DONE && one(values, 15));
+    CHECK(memcmp(out, "1\t7\t.\tA\tC\t.\t.\t\r.\tx", 18) == 0);
+    CHECK(bruncadorza_join(BYTES("17.AC..\r"), ends, 8, BRUNCADORZA_ENDING_RETURN_FEED, out, 18, 0, values) == BRUNCADORZA_DONE && one(values, 17));
+    CHECK(memcmp(out, "1\t7\t.\tA\tC\t.\t.\t\r\r\nx", 18) == 0);
+    /* At the end of any other column a CR is taken. */
+    CHECK(bruncadorza_join(BYTES("17.AC.\rx"), ends, 8, BRUNCADORZA_ENDING_FEED, out, 18, 0, values) == BRUNCADORZA_DONE && one(values, 16));
+    CHECK(memcmp(out, "1\t7\t.\tA\tC\t.\t\r\tx\n\nx", 18) == 0);
 }
 
 /* Behind the values nothing is changed. */
@@ -285,9 +354,12 @@ static void behind_values(void) {
     CHECK(values[2] == 77 && values[7] == 77);
     CHECK(bruncadorza_genotype_judge(BYTES("0|x"), 2, values) == BRUNCADORZA_BAD_NUMBER && two(values, 1, 2));
     CHECK(values[3] == 77 && values[7] == 77);
+    CHECK(bruncadorza_join(NULL, 0, NULL, 0, 3, NULL, 0, 0, values) == BRUNCADORZA_NOTHING && none(values));
+    CHECK(values[1] == 1 && values[2] == 2 && values[3] == 77 && values[7] == 77);
 }
 
-/* A place beyond the output is refused first and missing room last, whatever else is wrong. */
+/* A place beyond the output is refused first and missing room last, whatever else is wrong. Only the joiner has a refusal before
+   these: of a number that is no ending. */
 static void order_of_writers(void) {
     const size_t ends[8] = {1, 2, 3, 4, 5, 6, 7, 8};
     const size_t fallen[2] = {2, 1};
@@ -308,11 +380,17 @@ static void order_of_writers(void) {
     CHECK(bruncadorza_write_alts(BYTES("C,"), ends, 2, out, 1, 1, values) == BRUNCADORZA_BAD_ALT && one(values, 1));
     CHECK(bruncadorza_write_alts(BYTES("CG"), ends, 2, out, 1, 1, values) == BRUNCADORZA_SHORT && none(values));
 
-    CHECK(bruncadorza_join(BYTES("17\tAC..x"), fallen, 2, out, 1, 2, values) == BRUNCADORZA_BEYOND && none(values));
-    CHECK(bruncadorza_join(BYTES("17\tAC..x"), fallen, 2, out, 1, 1, values) == BRUNCADORZA_BAD_LENGTHS && none(values));
-    CHECK(bruncadorza_join(BYTES("17\tAC..x"), ends, 7, out, 1, 1, values) == BRUNCADORZA_FEW_COLUMNS && none(values));
-    CHECK(bruncadorza_join(BYTES("17\tAC..x"), ends, 8, out, 1, 1, values) == BRUNCADORZA_BAD_COLUMN && one(values, 2));
-    CHECK(bruncadorza_join(BYTES("17.AC..x"), ends, 8, out, 1, 1, values) == BRUNCADORZA_SHORT && none(values));
+    CHECK(bruncadorza_join(BYTES("17\tAC..x"), fallen, 2, 3, out, 1, 2, values) == BRUNCADORZA_NOTHING && none(values));
+    CHECK(bruncadorza_join(BYTES("17\tAC..x"), fallen, 2, UINT64_MAX, out, 1, 2, values) == BRUNCADORZA_NOTHING && none(values));
+    CHECK(bruncadorza_join(BYTES("17\tAC..x"), fallen, 2, 3, out, 1, 1, values) == BRUNCADORZA_NOTHING && none(values));
+    CHECK(bruncadorza_join(BYTES("17\tAC..x"), ends, 8, 3, out, 1, 2, values) == BRUNCADORZA_NOTHING && none(values));
+    CHECK(bruncadorza_join(BYTES("17\tAC..x"), ends, 7, 3, out, 1, 1, values) == BRUNCADORZA_NOTHING && none(values));
+    CHECK(bruncadorza_join(BYTES("17\tAC..x"), ends, 8, 3, out, 1, 1, values) == BRUNCADORZA_NOTHING && none(values));
+    CHECK(bruncadorza_join(BYTES("17\tAC..x"), fallen, 2, BRUNCADORZA_ENDING_FEED, out, 1, 2, values) == BRUNCADORZA_BEYOND && none(values));
+    CHECK(bruncadorza_join(BYTES("17\tAC..x"), fallen, 2, BRUNCADORZA_ENDING_FEED, out, 1, 1, values) == BRUNCADORZA_BAD_LENGTHS && none(values));
+    CHECK(bruncadorza_join(BYTES("17\tAC..x"), ends, 7, BRUNCADORZA_ENDING_FEED, out, 1, 1, values) == BRUNCADORZA_FEW_COLUMNS && none(values));
+    CHECK(bruncadorza_join(BYTES("17\tAC..x"), ends, 8, BRUNCADORZA_ENDING_FEED, out, 1, 1, values) == BRUNCADORZA_BAD_COLUMN && one(values, 2));
+    CHECK(bruncadorza_join(BYTES("17.AC..x"), ends, 8, BRUNCADORZA_ENDING_FEED, out, 1, 1, values) == BRUNCADORZA_SHORT && none(values));
 
     CHECK(bruncadorza_write_genotype(numbers, 2, both_missing, 1, phased, 2, 4, 3, out, 1, 2, values) == BRUNCADORZA_BEYOND && none(values));
     CHECK(bruncadorza_write_genotype(numbers, 2, both_missing, 1, phased, 2, 4, 3, out, 1, 1, values) == BRUNCADORZA_BAD_LENGTHS && none(values));
@@ -354,12 +432,14 @@ static void empty_slices(void) {
     CHECK(bruncadorza_alt_count(NULL, 0) == 0);
     CHECK(bruncadorza_write_filters(NULL, 0, NULL, 0, NULL, 0, 0, values) == BRUNCADORZA_SHORT && none(values));
     CHECK(bruncadorza_write_alts(NULL, 0, NULL, 0, NULL, 0, 0, values) == BRUNCADORZA_SHORT && none(values));
-    CHECK(bruncadorza_join(NULL, 0, NULL, 0, NULL, 0, 0, values) == BRUNCADORZA_FEW_COLUMNS && none(values));
+    CHECK(bruncadorza_join(NULL, 0, NULL, 0, BRUNCADORZA_ENDING_FEED, NULL, 0, 0, values) == BRUNCADORZA_FEW_COLUMNS && none(values));
+    CHECK(bruncadorza_join(NULL, 0, NULL, 0, 3, NULL, 0, 0, values) == BRUNCADORZA_NOTHING && none(values));
 }
 
 int main(void) {
     leaves();
     lines();
+    read_endings();
     infos();
     samples();
     judged_genotypes();
@@ -367,6 +447,7 @@ int main(void) {
     written_genotypes();
     written_lists();
     joined_columns();
+    joined_endings();
     behind_values();
     order_of_writers();
     empty_slices();

@@ -83,7 +83,7 @@ extern "C" {
         values: &mut [u64; VALUES],
     ) -> u64;
     fn bruncadorza_join(
-        text: *const u8, text_n: usize, ends: *const usize, ends_n: usize, out: *mut u8, out_n: usize, at: usize,
+        text: *const u8, text_n: usize, ends: *const usize, ends_n: usize, ending: u64, out: *mut u8, out_n: usize, at: usize,
         values: &mut [u64; VALUES],
     ) -> u64;
 }
@@ -369,13 +369,14 @@ pub(crate) fn write_alts(text: &[u8], ends: &[usize], out: &mut [u8], at: usize)
     })
 }
 
-pub(crate) fn join(text: &[u8], ends: &[usize], out: &mut [u8], at: usize) -> Told {
+pub(crate) fn join(text: &[u8], ends: &[usize], ending: u64, out: &mut [u8], at: usize) -> Told {
     Told::by(|values| unsafe {
         bruncadorza_join(
             text.as_ptr(),
             text.len(),
             ends.as_ptr(),
             ends.len(),
+            ending,
             out.as_mut_ptr(),
             out.len(),
             at,

@@ -2,6 +2,7 @@
 //! it.
 
 use crate::ffi::{self, size};
+use crate::line::Ending;
 
 /// What came of joining.
 #[derive(Clone, Copy, Debug, PartialEq, Eq)]
@@ -16,7 +17,7 @@ pub enum Joined {
     Wrong,
     /// 17: the line does not fit.
     Short,
-    /// 18: the column with this index is empty, holds a tab or an LF, or is the last and ends in CR.
+    /// 18: the column with this index is empty, holds a tab or an LF, or is the last, ends in CR, and the ending is LF.
     Bad(usize),
     /// 19: there are fewer than eight columns, or nine.
     Few,
@@ -37,9 +38,9 @@ impl Joined {
     }
 }
 
-/// Writes columns with tabs between and a final LF, from the place `at` of the output on. A refusal changes nothing.
-pub fn join(text: &[u8], ends: &[usize], out: &mut [u8], at: usize) -> Joined {
-    let told = ffi::join(text, ends, out, at);
+/// Writes columns with tabs between and an ending behind, from the place `at` of the output on. A refusal changes nothing.
+pub fn join(text: &[u8], ends: &[usize], ending: Ending, out: &mut [u8], at: usize) -> Joined {
+    let told = ffi::join(text, ends, ending as u64, out, at);
     match (told.number, told.values()) {
         (0, &[count]) => Joined::Done(size(count)),
         (5, &[index]) => Joined::NotUtf8(size(index)),
@@ -48,6 +49,8 @@ pub fn join(text: &[u8], ends: &[usize], out: &mut [u8], at: usize) -> Joined {
         (17, []) => Joined::Short,
         (18, &[index]) => Joined::Bad(size(index)),
         (19, []) => Joined::Few,
-        _ => told.excluded("0 with how many bytes, 5 or 18 with an index, or 6, 16, 17 or 19"),
+        _ => told.excluded(
+            "0 with how many bytes, 5 or 18 with an index, or 6, 16, 17 or 19; 10 only for endings above 2",
+        ),
     }
 }

@@ -5,12 +5,13 @@
 //! the library's crates. Each answer has a `number()`: 0, or its refusal's number in docs/RULES.md, section 2.
 //!
 //! ```
-//! use bruncadorza::line::{read_line, Name, Read};
+//! use bruncadorza::line::{read_line, Ending, Name, Read};
 //! use bruncadorza::{genotype, info, samples};
 //!
 //! let input = b"1\t7\t.\tA\tC,G\t.\tPASS\tDP=9;DB\tDP:GT\t9:0|2\t8:./1\n";
 //! let Read::Line(record, next) = read_line(input, 0) else { panic!("refused") };
 //! assert_eq!(next, input.len());
+//! assert_eq!(record.ending(), Ending::Feed);
 //! assert_eq!(record.text(Name::Chrom), Some(&b"1"[..]));
 //! assert_eq!(record.text(Name::Qual), None);
 //!

@@ -1,4 +1,4 @@
-//! Lines, and the places of their ten fields.
+//! Lines, how they ended, and the places of their ten fields.
 
 use crate::ffi::{self, range, size};
 use crate::fields::{text_in, Text};
@@ -45,10 +45,27 @@ impl Name {
     ];
 }
 
+/// How a line ends.
+#[derive(Clone, Copy, Debug, PartialEq, Eq, Hash)]
+pub enum Ending {
+    /// By the end of the input: no byte.
+    Nothing,
+    /// LF
+    Feed,
+    /// CR LF
+    ReturnFeed,
+}
+
+impl Ending {
+    /// All three, each at the number of its bytes.
+    pub const ALL: [Ending; 3] = [Ending::Nothing, Ending::Feed, Ending::ReturnFeed];
+}
+
 /// A line that was read, with the text that it was read from.
 #[derive(Clone, Copy, Debug, PartialEq, Eq)]
 pub struct Record<'a> {
     source: &'a [u8],
+    ending: Ending,
     places: [Range; 10],
 }
 
@@ -56,6 +73,11 @@ impl<'a> Record<'a> {
     /// The text that the line was read from, whole.
     pub fn source(&self) -> &'a [u8] {
         self.source
+    }
+
+    /// How the line ended. [`join`](crate::join::join) writes the same bytes again if it is given this.
+    pub fn ending(&self) -> Ending {
+        self.ending
     }
 
     /// Where the column of a field stands in the source, a `.` as it stands.
@@ -133,10 +155,11 @@ impl Read<'_> {
 pub fn read_line(s: &[u8], at: usize) -> Read<'_> {
     let told = ffi::read_line(s, at);
     match (told.number, told.values()) {
-        (0, [next, places @ ..]) if places.len() == 20 => {
+        (0, [next, ending @ 0..=2, places @ ..]) if places.len() == 20 => {
             let place = |i: usize| range(places[2 * i], places[2 * i + 1]);
             let record = Record {
                 source: s,
+                ending: Ending::ALL[size(*ending)],
                 places: std::array::from_fn(place),
             };
             Read::Line(record, size(*next))
@@ -147,6 +170,8 @@ pub fn read_line(s: &[u8], at: usize) -> Read<'_> {
         (4, &[next]) => Read::Cut(size(next)),
         (5, &[next]) => Read::NotUtf8(size(next)),
         (6, &[next]) => Read::Beyond(size(next)),
-        _ => told.excluded("0 with the next place and ten places, or 1 to 6 with the next place"),
+        _ => told.excluded(
+            "0 with the next place, the ending and ten places, or 1 to 6 with the next place",
+        ),
     }
 }

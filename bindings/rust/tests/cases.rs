@@ -2,7 +2,7 @@
 //! docs/RULES.md, section 15, gives. The answers stored come from the Rust or a model of the rules, none from the library.
 //!
 //! Functions that no verb asks for (the judges of a genotype and of an entry, the iterators) are held to the answers of the verbs
-//! beside them, and so are all steps over a genotype together.
+//! beside them, and so are all steps over a genotype together. The line reader and the joiner are held to each other.
 
 use std::collections::BTreeMap;
 use std::fmt::Write as _;
@@ -14,6 +14,7 @@ use bruncadorza::{
     alleles, decimal, fields, genotype, info, join, line, lists, samples, spelling, text,
 };
 use genotype::Allele;
+use line::Ending;
 
 /// Every verb that a case can have.
 const VERBS: [&str; 31] = [
@@ -55,6 +56,9 @@ const FIELDS: [&str; 10] = [
     "chrom", "pos", "id", "ref", "alt", "qual", "filter", "info", "format", "samples",
 ];
 
+/// The endings of a line, as cases have them, in the order of `Ending::ALL`.
+const ENDINGS: [&str; 3] = ["none", "lf", "crlf"];
+
 #[test]
 fn the_wrapper_answers_every_stored_case() {
     let folder = Path::new(env!("CARGO_MANIFEST_DIR")).join("../../crates/cases");
@@ -83,6 +87,14 @@ fn a_wrong_answer_is_seen() {
         ("decimal 3161", "12 2"),
         ("print 2 42", "0 2 3433"),
         ("line - 0", "1 1"),
+        (
+            "line 3109310931093109310931093109310d0a 0",
+            "0 17 lf 0 1 2 1 4 1 6 1 8 1 10 1 12 1 14 1 15 0 15 0",
+        ),
+        (
+            "line 310931093109310931093109310931 0",
+            "0 15 0 1 2 1 4 1 6 1 8 1 10 1 12 1 14 1 15 0 15 0",
+        ),
         ("field chrom - 0", "2"),
         ("place 61 0 1", "6"),
         ("pos 30", "0 0"),
@@ -119,7 +131,15 @@ fn a_wrong_answer_is_seen() {
         ("alts 1 0 2c 1", "15 1 ee"),
         ("altcount -", "1"),
         ("altcount 2e", "1"),
-        ("join 1 0 - -", "19 00"),
+        ("join 1 0 lf - -", "19 00"),
+        (
+            "join 17 0 crlf 3131313131313131 1,2,3,4,5,6,7,8",
+            "0 16 3109310931093109310931093109310aee",
+        ),
+        (
+            "join 15 0 none 313131313131310d 1,2,3,4,5,6,7,8",
+            "18 7 eeeeeeeeeeeeeeeeeeeeeeeeeeeeee",
+        ),
     ] {
         let difference = hold(case.as_bytes(), format!("{answer}\n").as_bytes());
         assert!(difference.is_err(), "{case}: {answer} was taken");
@@ -128,6 +148,72 @@ fn a_wrong_answer_is_seen() {
         hold(b"utf8 -\n", b"0\n0\n").is_err(),
         "an answer too many was taken"
     );
+}
+
+/// What is read and joined again is the same bytes, wherever a line stands in its buffer and in the output.
+#[test]
+fn a_line_read_and_joined_is_the_same_bytes() {
+    let other = b"2\t9\tx\tG\tT\t3\tq\tDP\r\n";
+    let mut held = [0; 3];
+    for line in [
+        &b"1\t7\t.\tA\tC,G\t.\tPASS\tDP=9;DB"[..],
+        b"1\t7\t.\tA\tC,G\t.\tPASS\tDP=9;DB\tGT\t0|2",
+        b"1\t7\t.\tA\tC,G\t.\tPASS\tDP=9;DB\tGT:DP\t0|2:9\t./1:8\t.",
+        b"1\r\t7\t.\tA\tC\t.\t.\tx\r",
+        b"1\t7\t.\tA\tC\t.\t.\t\r\r",
+        b"1\t7\t.\tA\tC\t.\t.\tx\tGT\t\r",
+    ] {
+        for (ending, bytes) in Ending::ALL.into_iter().zip([&b""[..], b"\n", b"\r\n"]) {
+            if ending == Ending::Feed && line.ends_with(b"\r") {
+                continue;
+            }
+            // alone, at the start, in the middle, at the end
+            for (before, behind) in [(0, 0), (0, 1), (1, 1), (1, 0)] {
+                if ending == Ending::Nothing && behind == 1 {
+                    continue;
+                }
+                let start = other.repeat(before);
+                let source = [&start[..], line, bytes, &other.repeat(behind)].concat();
+                let read = line::read_line(&source, start.len());
+                let line::Read::Line(record, next) = read else {
+                    panic!("{source:?}: {}", read.number());
+                };
+                assert_eq!(record.ending(), ending);
+                assert_eq!(next, start.len() + line.len() + bytes.len());
+                held_by_joiner(record, start.len(), next);
+                held[ending as usize] += 1;
+            }
+        }
+    }
+    assert_eq!(held, [12, 12, 24]);
+}
+
+/// Before an LF alone a CR at the end of the last column would be read as part of the ending.
+#[test]
+fn a_last_return_is_refused_before_a_feed_alone() {
+    let ends = [1, 2, 3, 4, 5, 6, 7, 9];
+    for (ending, expected, line) in [
+        (
+            Ending::Nothing,
+            join::Joined::Done(16),
+            &b"1\t7\t.\tA\tC\t.\t.\tx\r"[..],
+        ),
+        (Ending::Feed, join::Joined::Bad(7), b""),
+        (
+            Ending::ReturnFeed,
+            join::Joined::Done(18),
+            b"1\t7\t.\tA\tC\t.\t.\tx\r\r\n",
+        ),
+    ] {
+        let mut out = [0xEE; 20];
+        assert_eq!(
+            join::join(b"17.AC..x\r", &ends, ending, &mut out, 0),
+            expected
+        );
+        let (written, rest) = out.split_at(line.len());
+        assert_eq!(written, line);
+        assert!(rest.iter().all(|&b| b == 0xEE));
+    }
 }
 
 /// How many cases of each verb were held, or the first difference. A line that is stored as no case is passed over, and counted
@@ -205,7 +291,10 @@ fn answer(words: &[&str]) -> String {
         ["filters", room, at, s, e] => filters(size(room), size(at), &bytes(s), &ends(e)),
         ["alts", room, at, s, e] => alts(size(room), size(at), &bytes(s), &ends(e)),
         ["altcount", s] => lists::alt_count(&bytes(s)).to_string(),
-        ["join", room, at, s, e] => join_columns(size(room), size(at), &bytes(s), &ends(e)),
+        ["join", room, at, ending, s, e] => {
+            let ending = Ending::ALL[index_of(&ENDINGS, ending)];
+            join_columns(size(room), size(at), ending, &bytes(s), &ends(e))
+        }
         _ => panic!("no such case: {words:?}"),
     }
 }
@@ -234,6 +323,12 @@ fn size(word: &str) -> usize {
 
 fn half(word: &str) -> u32 {
     word.parse().expect("a number of 32 bits")
+}
+
+/// Which of the names the word is.
+fn index_of(names: &[&str], word: &str) -> usize {
+    let found = names.iter().position(|name| *name == word);
+    found.expect("one of the names")
 }
 
 /// Numbers joined by commas, `-` for none.
@@ -334,7 +429,9 @@ fn print(room: usize, n: u64) -> String {
 fn read_line(s: &[u8], at: usize) -> String {
     let read = line::read_line(s, at);
     let mut out = said(read.number(), Some(read.next()));
-    if let line::Read::Line(record, _) = read {
+    if let line::Read::Line(record, next) = read {
+        held_by_joiner(record, at, next);
+        out = format!("{out} {}", ENDINGS[record.ending() as usize]);
         for name in line::Name::ALL {
             out = format!("{out} {}", at_place(record.place(name)));
         }
@@ -342,16 +439,48 @@ fn read_line(s: &[u8], at: usize) -> String {
     out
 }
 
+/// The columns of a line as one text, and the end of each.
+fn columns(record: line::Record) -> (Vec<u8>, Vec<usize>) {
+    let column = |name| record.place(name).of(record.source()).expect("a part");
+    let mut list: Vec<&[u8]> = line::Name::ALL[..8]
+        .iter()
+        .map(|&name| column(name))
+        .collect();
+    let format = column(line::Name::Format);
+    if !format.is_empty() {
+        list.push(format);
+        list.extend(samples::all(column(line::Name::Samples)));
+    }
+    let mut end = 0;
+    let past = |column: &&[u8]| {
+        end += column.len();
+        end
+    };
+    let ends = list.iter().map(past).collect();
+    (list.concat(), ends)
+}
+
+/// Joins a line's columns by its ending, at the start, in the middle and at the end of an output: the bytes that were read.
+fn held_by_joiner(record: line::Record, at: usize, next: usize) {
+    let read = &record.source()[at..next];
+    let (text, ends) = columns(record);
+    for (before, behind) in [(0, 0), (0, 3), (2, 3), (2, 0)] {
+        let mut out = vec![0xEE; before + read.len() + behind];
+        let joined = join::join(&text, &ends, record.ending(), &mut out, before);
+        assert_eq!(joined, join::Joined::Done(read.len()));
+        assert_eq!(
+            out,
+            [&vec![0xEE; before][..], read, &vec![0xEE; behind]].concat()
+        );
+    }
+}
+
 fn field(name: &str, s: &[u8], at: usize) -> String {
     let read = line::read_line(s, at);
     let line::Read::Line(record, _) = read else {
         return said(read.number(), None);
     };
-    let index = FIELDS
-        .iter()
-        .position(|field| *field == name)
-        .expect("a field");
-    let name = line::Name::ALL[index];
+    let name = line::Name::ALL[index_of(&FIELDS, name)];
     let place = record.text_place(name);
     assert_eq!(
         record.text(name),
@@ -660,9 +789,12 @@ fn held_by_judge(
     }
 }
 
-fn join_columns(room: usize, at: usize, s: &[u8], ends: &[usize]) -> String {
+fn join_columns(room: usize, at: usize, ending: Ending, s: &[u8], ends: &[usize]) -> String {
     let mut out = vec![0xEE; room];
-    let joined = join::join(s, ends, &mut out, at);
+    let joined = join::join(s, ends, ending, &mut out, at);
+    if let join::Joined::Done(n) = joined {
+        held_by_reader(&out[..at + n], at, ending, s, ends);
+    }
     let value = match joined {
         join::Joined::Done(n) | join::Joined::NotUtf8(n) | join::Joined::Bad(n) => Some(n),
         join::Joined::Beyond | join::Joined::Wrong | join::Joined::Short | join::Joined::Few => {
@@ -670,4 +802,14 @@ fn join_columns(room: usize, at: usize, s: &[u8], ends: &[usize]) -> String {
         }
     };
     format!("{} {}", said(joined.number(), value), hex(&out))
+}
+
+/// Reads a line that was joined: its columns and its ending are those that were given.
+fn held_by_reader(out: &[u8], at: usize, ending: Ending, s: &[u8], ends: &[usize]) {
+    let line::Read::Line(record, next) = line::read_line(out, at) else {
+        panic!("a line that was joined is refused");
+    };
+    assert_eq!((record.ending(), next), (ending, out.len()));
+    let text = &s[..ends[ends.len() - 1]];
+    assert_eq!(columns(record), (text.to_vec(), ends.to_vec()));
 }

@@ -23,10 +23,12 @@ use crate::words::numbers;
 use crate::words::word;
 use join::columns::Joined;
 use join::columns::join;
+use line::ending::Ending;
 use lists::alternate_bases::alt_count;
 use lists::alternate_bases::write_alts;
 use lists::filters::write_filters;
 use lists::write::Write;
+ghost use Prim.Native.Nat.{_<_};
 
 pub fn answer(
     case: &[u8],
@@ -40,7 +42,9 @@ pub fn answer(
         return Answer::NoCase;
     }
     match verb {
-        0 | 1 | 2 => answer_writer(case, verb, text, out, at),
+        0 => answer_join(case, text, out, at),
+        1 => answer_writer(case, Writer::Filters, 3, text, out, at),
+        2 => answer_writer(case, Writer::Alts, 3, text, out, at),
         3 => answer_count(case, text, out, at),
         _ => Answer::NoCase,
     }
@@ -48,7 +52,11 @@ pub fn answer(
 
 // How many arguments a verb has.
 fn takes(verb: usize) -> usize {
-    if verb == 3 { 1 } else { 4 }
+    match verb {
+        0 => 5,
+        3 => 1,
+        _ => 4,
+    }
 }
 
 // `altcount`, which is given a column alone.
@@ -59,32 +67,71 @@ fn answer_count(case: &[u8], text: &mut Text, out: &mut Buffer, at: Place) -> An
     Answer::Given(put_number(out, at, alt_count(part(text, 0, end)) as u64))
 }
 
-// `join`, `filters` and `alts`, which write.
-fn answer_writer(case: &[u8], verb: usize, text: &mut Text, out: &mut Buffer, at: Place) -> Answer {
+const ENDINGS: usize = 3;
+
+// `join`, which is given an ending too.
+fn answer_join(case: &[u8], text: &mut Text, out: &mut Buffer, at: Place) -> Answer {
+    let k = index_in(b"none lf crlf", ENDINGS, word(case, 3));
+    if k == ENDINGS {
+        return Answer::NoCase;
+    }
+    answer_writer(case, Writer::Columns(ending(k)), 4, text, out, at)
+}
+
+// Ending k, in the order of their words.
+fn ending(k: usize) -> Ending {
+    match k {
+        0 => Ending::Nothing,
+        1 => Ending::Feed,
+        _ => Ending::ReturnFeed,
+    }
+}
+
+// What writes a list: `join` with its ending, `filters` or `alts`.
+enum Writer {
+    Columns(Ending),
+    Filters,
+    Alts,
+}
+
+// A verb that writes. Word k is the text of its list, and the word after it the ends.
+fn answer_writer(
+    case: &[u8],
+    writer: Writer,
+    k: usize,
+    text: &mut Text,
+    out: &mut Buffer,
+    at: Place,
+) -> Answer
+    requires { ⌜ k < 65536 ⌝ }
+{
     let mut ends = [0usize; 1024];
-    answer_list(case, verb, text, &mut ends, out, at)
+    answer_list(case, writer, k, text, &mut ends, out, at)
 }
 
 fn answer_list(
     case: &[u8],
-    verb: usize,
+    writer: Writer,
+    k: usize,
     text: &mut Text,
     ends: &mut Row,
     out: &mut Buffer,
     at: Place,
-) -> Answer {
-    let Decoded::Upto(end) = decode(case, 3, text, 0) else {
+) -> Answer
+    requires { ⌜ k < 65536 ⌝ }
+{
+    let Decoded::Upto(end) = decode(case, k, text, 0) else {
         return Answer::NoCase;
     };
-    let Counted::Of(n) = numbers(case, 4, ends) else {
+    let Counted::Of(n) = numbers(case, k + 1, ends) else {
         return Answer::NoCase;
     };
-    answer_entries(case, verb, part(text, 0, end), first(ends, n), out, at)
+    answer_entries(case, writer, part(text, 0, end), first(ends, n), out, at)
 }
 
 fn answer_entries(
     case: &[u8],
-    verb: usize,
+    writer: Writer,
     s: &[u8],
     ends: &[usize],
     out: &mut Buffer,
@@ -98,7 +145,7 @@ fn answer_entries(
     };
     let mut space = [0xEEu8; 4096];
     Answer::Given(put_list(
-        verb,
+        writer,
         s,
         ends,
         front(&mut space, room as usize),
@@ -109,7 +156,7 @@ fn answer_entries(
 }
 
 fn put_list(
-    verb: usize,
+    writer: Writer,
     s: &[u8],
     ends: &[usize],
     lent: &mut [u8],
@@ -117,16 +164,16 @@ fn put_list(
     out: &mut Buffer,
     at: Place,
 ) -> Place {
-    let said = written(verb, s, ends, lent, from);
+    let said = written(writer, s, ends, lent, from);
     let next = put_said(out, at, said);
     then_hex(out, next, lent)
 }
 
-fn written(verb: usize, s: &[u8], ends: &[usize], lent: &mut [u8], from: usize) -> Said {
-    match verb {
-        0 => joined(join(s, ends, lent, from)),
-        1 => listed(write_filters(s, ends, lent, from), 14),
-        _ => listed(write_alts(s, ends, lent, from), 15),
+fn written(writer: Writer, s: &[u8], ends: &[usize], lent: &mut [u8], from: usize) -> Said {
+    match writer {
+        Writer::Columns(ending) => joined(join(s, ends, ending, lent, from)),
+        Writer::Filters => listed(write_filters(s, ends, lent, from), 14),
+        Writer::Alts => listed(write_alts(s, ends, lent, from), 15),
     }
 }
 

@@ -22,7 +22,9 @@ use fields::field::field;
 use fields::field::place_in;
 use fields::pos::Position;
 use fields::pos::read_pos;
+use line::ending::Ending;
 use line::place::Name;
+use line::place::ending_of;
 use line::place::place_of;
 use line::read::Read;
 use line::read::Record;
@@ -91,6 +93,7 @@ fn line(s: &[u8], from: usize, out: &mut Buffer, at: Place) -> Place {
     let next = told.next;
     let then = put_said(out, at, Said::With(number, next as u64));
     if let Read::Line(record, _) = read {
+        let then = then_ending(ending_of(record), out, then);
         return then_places(record, out, then);
     }
     then
@@ -111,6 +114,14 @@ fn tell(read: Read) -> Told {
         Read::Cut(next) => Told { number: 4, next },
         Read::NotUtf8(next) => Told { number: 5, next },
         Read::Beyond(next) => Told { number: 6, next },
+    }
+}
+
+fn then_ending(ending: Ending, out: &mut Buffer, at: Place) -> Place {
+    match ending {
+        Ending::Nothing => then_bytes(out, at, b"none"),
+        Ending::Feed => then_bytes(out, at, b"lf"),
+        Ending::ReturnFeed => then_bytes(out, at, b"crlf"),
     }
 }
 
