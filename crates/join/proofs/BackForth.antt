@@ -15,7 +15,7 @@ use Rattle.text.specs.Over.{overAt, laidAt}
 use Rattle.text.specs.Outcome.{Outcome}
 use Rattle.text.specs.Pick.{pick}
 use Rattle.text.proofs.Lists.{take-overAt}
-use Rattle.text.proofs.CopyLaws.{same-outcome}
+use Rattle.text.proofs.OutcomeLaws.{same-outcome}
 use Rattle.pieces.specs.Pieces.{joined}
 use Rattle.pieces.specs.Entries.{entryList}
 use Rattle.line.specs.Line.{Ending, endingBytes, readAnswer}

@@ -4,11 +4,12 @@ use Prim.Native.Nat.{ℕ, _+_, _≤_, _<_}
 use mathlib.Core.Path.{_≡_, refl, sym, ap, _∙_}
 use mathlib.Core.List.{List, [], _∷_}
 use native.Mathlib.Omega.{arith}
-use native.Mathlib.Decide.{ℕ-discrete, decLe}
+use native.Mathlib.Decide.{decLe}
 use lib.ListN.{length, drop, length-drop}
 use borrow.Author.Tests.{le-leb, lt-leb, eq-eqb, ne-eqb}
 use Rattle.text.specs.Answer.{Answer, says, numberOf}
-use Rattle.text.proofs.CopyLaws.{room-fits, room-lacks, same-outcome}
+use Rattle.text.proofs.CopyLaws.{room-fits, room-lacks}
+use Rattle.text.proofs.OutcomeLaws.{same-outcome, RefusedWhen, one-outcome}
 use Rattle.text.specs.Verdict.{fine}
 use Rattle.line.specs.Line.{Ending}
 use Rattle.line.specs.Demands.{MayEnd}
@@ -112,22 +113,16 @@ meets = record { writes-line = writes-line; refusals = refusals; untouched = unt
 
 -- ---- one joiner
 
-module _ (cs : List (List ℕ)) (e : Ending) (out : List ℕ) (at : ℕ) where
-  same-refusal : (join other : Joiner) → Meets join → Meets other → (numberOf (join cs e out at .answer) ≡ 0 → ⊥) → other cs e out at .answer ≡ join cs e out at .answer
-  unfolding Refusals
-  same-refusal join other m m′ n = m′ .refusals cs e out at _ n .1 (m .refusals cs e out at _ n .0 refl)
-
 pub one-joiner : OneJoiner
-unfolding OneJoiner WritesLine Untouched
-one-joiner join other m m′ cs e out at = by (ℕ-discrete (numberOf (join cs e out at .answer)) 0) (ℕ-discrete (numberOf (other cs e out at .answer)) 0)
+unfolding OneJoiner WritesLine Refusals Untouched
+one-joiner join other m m′ cs e out at = one-outcome (refused join m) (refused other m′) both
   where
-    by : Dec (numberOf (join cs e out at .answer) ≡ 0) → Dec (numberOf (other cs e out at .answer) ≡ 0) → join cs e out at ≡ other cs e out at
-    by (yes z) (yes z′) =
+    refused : (j : Joiner) → Meets j → RefusedWhen (Refused cs e out at) out (j cs e out at)
+    refused j g = record { given = g .refusals cs e out at; left = g .untouched cs e out at }
+
+    both : numberOf (join cs e out at .answer) ≡ 0 → numberOf (other cs e out at .answer) ≡ 0 → join cs e out at ≡ other cs e out at
+    both z z′ =
         let w = m .writes-line cs e out at z in
         let w′ = m′ .writes-line cs e out at z′ in
         let t = line-is (w .line) ∙ sym (line-is (w′ .line)) in
         same-outcome (w .count ∙ rw t (sym (w′ .count))) (w .bytes ∙ rw t (sym (w′ .bytes)))
-    by (no n) (no n′) =
-        same-outcome (sym (same-refusal cs e out at join other m m′ n)) (m .untouched cs e out at n ∙ sym (m′ .untouched cs e out at n′))
-    by (yes z) (no n′) = absurd (n′ (sym (ap numberOf (same-refusal cs e out at other join m′ m n′)) ∙ z))
-    by (no n) (yes z′) = absurd (n (sym (ap numberOf (same-refusal cs e out at join other m m′ n)) ∙ z′))

@@ -1,4 +1,5 @@
--- The line at a place: all that is left where no LF stands from it on; else what stands before the first LF, less one CR. Assumes nothing.
+-- The line at a place: all that is left where no LF stands from it on; else what stands before the first LF, less one CR; and an ending by how
+-- many bytes it has. Assumes nothing.
 use Prim.Native.Nat.{ℕ, _+_, _-_, _<_, _≤_}
 use mathlib.Core.Path.{_≡_, refl, sym, _∙_}
 use mathlib.Core.List.{List, [], dropLast}

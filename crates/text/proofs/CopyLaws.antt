@@ -9,7 +9,6 @@ use lib.Seq.{sets, drop-cons}
 use borrow.Author.Tests.{le-leb, lt-leb, ne-eqb}
 use Rattle.text.specs.Answer.{says, Answer, numberOf}
 use Rattle.text.specs.Over.{over, roomFor, roomAnswer, Writes, laid}
-use Rattle.text.specs.Outcome.{Outcome}
 use Rattle.text.specs.Paper.{writtenPaper}
 use Rattle.text.specs.declared.copy.Written.{Written}
 use Rattle.text.specs.declared.copy.Written.the-variants.{Done, Short}
@@ -69,10 +68,5 @@ writes-fits w h = w .bytes ∙ rw (le-leb _ _ h)
 -- a refusal lays nothing
 pub laid-refused : {X : Type 0} (a : Answer) (vs l : List X) → (numberOf a ≡ 0 → ⊥) → laid a vs l ≡ l
 laid-refused a vs l z = rw (ne-eqb _ _ z)
-
--- ---- what a writer answers and leaves
-
-pub same-outcome : {o o′ : Outcome} → o .answer ≡ o′ .answer → o .output ≡ o′ .output → o ≡ o′
-same-outcome p q = λ i. record { answer = p i; output = q i }
 
 pub ruleset laws = (copy-first, copy-turn, copy-past, copy-short)

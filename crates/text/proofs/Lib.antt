@@ -1,5 +1,6 @@
 pub mod Lists
 pub mod CopyLaws
+pub mod OutcomeLaws
 pub mod WrittenLaws
 pub mod Utf8Laws
 pub mod CharLaws
