@@ -117,7 +117,7 @@ One read = (s : List ℕ) (at : ℕ) → numberOf (read s at) ≡ 0 → Stands s
 
 -- ---- the ending
 
--- asked of a record that the line reader made, it is the one that columns begin what is left with
+-- a record that the line reader made has the ending with which columns begin what is left
 unfoldable pub TellsEnding : Type 0
 TellsEnding = (s : List ℕ) (at next : ℕ) (r : Record) (x : DeclaredEnding) → ReadsLine s at (R.Line r next) → GivesEnding r x
     → (cs : List (List ℕ)) (e : Ending) (rest : List ℕ) → Begins (drop at s) cs e rest → endingOf x ≡ e
