@@ -1,15 +1,14 @@
 -- A field by its number, and what its text answers; an ending by its number, and what is joined with it. Assumes nothing.
 use Prim.Native.Nat.{ℕ, _<_, _≤_}
 use mathlib.Core.Path.{_≡_, sym}
-use mathlib.Core.List.{List, [], _∷_}
+use mathlib.Core.List.{List, []}
 use lib.ListN.{List·getD-eq-default}
 use native.Mathlib.Omega.{arith}
 use borrow.Author.Tests.{le-leb, lt-leb}
 use Rattle.text.specs.Answer.{Answer, says}
 use Rattle.text.specs.declared.range.Range.{Range}
-use Rattle.line.specs.Line.{Ending, nothing, feed, return-feed}
-use Rattle.line.specs.Paper.{endingOf}
-use Rattle.line.specs.declared.ending.Ending.the-variants as E
+use Rattle.line.specs.Line.{Ending, endingBy}
+use Rattle.line.proofs.LineLaws.{named-nothing, named-feed, named-return-feed}
 use Rattle.line.specs.declared.place.Name.{Name}
 use Rattle.line.specs.declared.place.Name.the-variants as N
 use Rattle.fields.specs.Fields.{textAnswer}
@@ -17,7 +16,7 @@ use Rattle.join.specs.Join.{JoinsAt}
 use Rattle.join.specs.Paper.{joinedPaper}
 use Rattle.join.specs.declared.columns.Joined.{Joined}
 use Rattle.exports.specs.Told.{Tells, TellsWriting}
-use Rattle.exports.specs.Places.{names, nameOf, namedAnswer, endingBy, endedAnswer, endedLeft}
+use Rattle.exports.specs.Places.{names, nameOf, namedAnswer, endedAnswer, endedLeft}
 
 -- the field of a number that is known, and of any other
 pub name-is : {n k : ℕ} {x : Name} → n ≡ k → x ≡ nameOf k → x ≡ nameOf n
@@ -45,19 +44,6 @@ module _ (s : List ℕ) (n : ℕ) (r : Range) {q : ℕ} {l l′ : List ℕ} wher
 
 -- ---- endings
 
-module _ {n : ℕ} where
-  pub ending-nothing : n ≡ 0 → endingOf E.Nothing ≡ endingBy n
-  unfolding endingBy
-  ending-nothing e = rw e
-
-  pub ending-feed : n ≡ 1 → endingOf E.Feed ≡ endingBy n
-  unfolding endingBy
-  ending-feed e = rw e
-
-  pub ending-last : (n ≡ 0 → ⊥) → (n ≡ 1 → ⊥) → endingOf E.ReturnFeed ≡ endingBy n
-  unfolding endingBy
-  ending-last a b = let h : 2 ≤ n = omega arith in sym (List·getD-eq-default (nothing ∷ feed ∷ []) return-feed h)
-
 module _ (t ends : List ℕ) (n at : ℕ) (out : List ℕ) {q : ℕ} {l l′ : List ℕ} where
   pub ended-none : 2 < n → Tells (says 10 []) l q l′ → TellsWriting (endedAnswer t ends n at out) (endedLeft t ends n at out) l q out l′
   unfolding endedAnswer endedLeft
@@ -68,6 +54,6 @@ module _ (t ends : List ℕ) (n at : ℕ) (out : List ℕ) {q : ℕ} {l l′ : L
   unfolding endedAnswer endedLeft
   ended-joined h e j k = record { told = rw (le-leb _ _ h, ← e, ← j .answer) k; output = rw (le-leb _ _ h, ← e) (j .bytes) }
 
-pub ruleset ending-laws = (ending-nothing, ending-feed, ending-last, ended-none, ended-joined)
+pub ruleset ending-laws = (named-nothing, named-feed, named-return-feed, ended-none, ended-joined)
 
 pub ruleset laws = (named-none, named-text)

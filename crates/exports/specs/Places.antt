@@ -6,7 +6,7 @@ use lib.Dec.{leb}
 use Rattle.text.specs.Pick.{pick}
 use Rattle.text.specs.Answer.{Answer, says}
 use Rattle.text.specs.declared.range.Range.{Range}
-use Rattle.line.specs.Line.{Ending, nothing, feed, return-feed}
+use Rattle.line.specs.Line.{endingBy}
 use Rattle.line.specs.declared.place.Name.{Name}
 use Rattle.line.specs.declared.place.Name.the-variants as N
 use Rattle.fields.specs.Fields.{textAnswer}
@@ -24,13 +24,10 @@ nameOf n = getD names n N.Samples
 unfoldable pub namedAnswer : List ℕ → ℕ → Range → Answer
 namedAnswer s n r = pick (leb n 9) (textAnswer s (nameOf n) r) (says 10 [])
 
--- the ending with this number
-unfoldable pub endingBy : ℕ → Ending
-endingBy n = getD (nothing ∷ feed ∷ []) n return-feed
-
--- 10 where there is no such ending, before anything else
+-- what is joined with the ending of this number: 10 where there is none, before anything else
 unfoldable pub endedAnswer : List ℕ → List ℕ → ℕ → ℕ → List ℕ → Answer
 endedAnswer t ends n at out = pick (leb n 2) (joinAnswer t ends (endingBy n) at out) (says 10 [])
 
+-- and then the output stays
 unfoldable pub endedLeft : List ℕ → List ℕ → ℕ → ℕ → List ℕ → List ℕ
 endedLeft t ends n at out = pick (leb n 2) (lineLeft t ends (endingBy n) at out) out

@@ -16,12 +16,12 @@ use lists::write::Kind;
 use lists::write::Verdict;
 use lists::write::Write;
 ghost use mathlib.Core.Path.{_≡_};
+ghost use Rattle.line.specs.Line.{endingBy};
 ghost use Rattle.line.specs.Paper.{endingOf};
 ghost use Rattle.lists.specs.Kind.{invalidOf};
 ghost use Rattle.lists.specs.Paper.{verdictPaper, writePaper};
 ghost use Rattle.join.specs.Paper.{joinedPaper};
 ghost use Rattle.exports.specs.Told.{Judges, Tells};
-ghost use Rattle.exports.specs.Places.{endingBy};
 ghost use Rattle.exports.specs.Promises.{JudgesFilter, JudgesAlt, CountsAlts, WritesFilters, WritesAlts, JoinsColumns};
 
 // The number of an invalid entry.

@@ -3,18 +3,19 @@
 use Prim.Native.Nat.{ℕ, _+_, _-_, _<_, _≤_}
 use mathlib.Core.Path.{_≡_, refl, sym, ap, _∙_}
 use mathlib.Core.Bool.{Bool, true, false}
-use mathlib.Core.Logic.{⊎-elim}
-use mathlib.Core.List.{List, [], _∷_, _++_}
+use mathlib.Core.List.{List, [], _∷_}
 use native.Mathlib.Omega.{arith}
 use native.Mathlib.Decide.{ℕ-discrete}
 use lib.ListN.{length, drop, take, length-append, length-drop}
 use lib.Seq.{take-at}
 use lib.Dec.{leb}
 use Rattle.text.specs.Answer.{Answer, says, numberOf, valuesOf}
-use Rattle.text.specs.Over.{overAt, laidAt}
+use Rattle.text.specs.Over.{overAt}
 use Rattle.text.specs.Outcome.{Outcome}
 use Rattle.text.specs.Pick.{pick}
+use Rattle.text.specs.Place.{placed}
 use Rattle.text.proofs.Lists.{take-overAt}
+use Rattle.text.proofs.CopyLaws.{laidAt-refused}
 use Rattle.text.proofs.OutcomeLaws.{same-outcome}
 use Rattle.pieces.specs.Pieces.{joined}
 use Rattle.pieces.specs.Entries.{entryList}
@@ -23,7 +24,7 @@ use Rattle.line.specs.Paper.{endingOf, recordValues}
 use Rattle.line.specs.Demands as Line
 use Rattle.line.specs.Demands.{Begins, Reader, Stands, One, OneReader}
 use Rattle.line.proofs.ShapeLaws.{begins-read}
-use Rattle.line.proofs.RecordLaws.{joined-length}
+use Rattle.line.proofs.RecordLaws.{begins-some}
 use Rattle.line.proofs.CaseLaws.{read-record}
 use Rattle.line.proofs.One.{one}
 use Rattle.line.proofs.Meets as LineMeets
@@ -51,14 +52,6 @@ exactly join m cs e out at h room = (only-then, then)
     then n z = let w = m .writes-line cs e out at z in n (w .text) [] (w .line)
 
 -- ---- what is joined is read
-
--- columns that begin an input leave it not empty
-begins-some : {s : List ℕ} {cs : List (List ℕ)} {e : Ending} {rest : List ℕ} → Begins s cs e rest → 0 < length s
-begins-some {cs = cs} {e = e} {rest = rest} b =
-    let l = joined-length 9 cs (λ i l. b .shaped .each i l .some) in
-    let n : 8 ≤ length cs = ⊎-elim (λ h. omega arith) (λ h. omega arith) (b .shaped .count) in
-    let w = ap length (b .shaped .whole) in
-    omega (arith, length-append (joined 9 cs) (endingBytes e ++ rest))
 
 module _ (read : Reader) (g : Line.Meets read) where
   read-same : (s : List ℕ) (at : ℕ) → read s at ≡ readAnswer s at
@@ -130,12 +123,12 @@ unfolding joinAnswer listAnswer joiner
 entries-joiner =
     record {
       rises = λ t ends e at out r out′ h w. (w .answer ∙ rw h, w .bytes ∙ rw h);
-      falls = λ t ends e at out r out′ h w. (w .answer ∙ rw h, w .bytes ∙ rw h (none (leb at (length out)) at out (lineText (entryList t ends) e)));
+      falls = λ t ends e at out r out′ h w. (w .answer ∙ rw h, w .bytes ∙ rw h (laidAt-refused (placed at out (says 16 [])) at (lineText (entryList t ends) e) out (none (leb at (length out)))));
     }
   where
-    none : (b : Bool) (at : ℕ) (out vs : List ℕ) → laidAt (pick b (says 16 []) (says 6 [])) at vs out ≡ out
-    none true at out vs = refl
-    none false at out vs = refl
+    none : (b : Bool) → numberOf (pick b (says 16 []) (says 6 [])) ≡ 0 → ⊥
+    none true z = omega arith
+    none false z = omega arith
 
 -- ---- read and joined by ours
 

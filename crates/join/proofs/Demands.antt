@@ -6,22 +6,14 @@ use mathlib.Core.List.{List, [], _∷_}
 use native.Mathlib.Omega.{arith}
 use native.Mathlib.Decide.{decLe}
 use lib.ListN.{length, drop, length-drop}
-use borrow.Author.Tests.{le-leb, lt-leb, eq-eqb, ne-eqb}
+use borrow.Author.Tests.{le-leb, lt-leb, eq-eqb}
 use Rattle.text.specs.Answer.{Answer, says, numberOf}
-use Rattle.text.proofs.CopyLaws.{room-fits, room-lacks}
+use Rattle.text.proofs.CopyLaws.{room-fits, room-lacks, laidAt-refused}
 use Rattle.text.proofs.OutcomeLaws.{same-outcome, RefusedWhen, one-outcome}
-use Rattle.text.specs.Verdict.{fine}
 use Rattle.line.specs.Line.{Ending}
-use Rattle.line.specs.Demands.{MayEnd}
-use Rattle.line.proofs.ColumnLaws.{count-required}
-use Rattle.join.specs.Join.{columnsJudged, lineText, columnsAnswer}
-use Rattle.join.specs.Demands.{Joiner, joiner, IsLine, Written, WritesLine, Fault, bad, broken, FirstFault, Refused, beyond, few, fault, short, Refusals, Untouched, Meets, OneJoiner}
-use Rattle.join.proofs.FaultLaws.{fault-judged, line-faultless, line-is, Way, uncounted, faulted, lined, way}
-
--- no fault has the number 0
-fault-some : {cs : List (List ℕ)} {e : Ending} {k n : ℕ} → Fault cs e k n → n ≡ 0 → ⊥
-fault-some (bad b) z = omega arith
-fault-some (broken b u) z = omega arith
+use Rattle.join.specs.Join.{lineText, columnsAnswer}
+use Rattle.join.specs.Demands.{Joiner, joiner, IsLine, Written, WritesLine, Refused, beyond, few, fault, short, Refusals, Untouched, Meets, OneJoiner}
+use Rattle.join.proofs.FaultLaws.{line-is, Way, uncounted, faulted, lined, way, columns-few, columns-fault, columns-line, fault-some}
 
 -- ---- ours, way by way
 
@@ -30,63 +22,45 @@ module _ (cs : List (List ℕ)) (e : Ending) (out : List ℕ) (at : ℕ) where
   unfolding joiner
   answer-beyond h = rw (lt-leb _ _ h)
 
-  module _ (h : at ≤ length out) where
-    answer-inside : joiner cs e out at .answer ≡ columnsAnswer cs e (drop at out)
-    unfolding joiner
-    answer-inside = rw (le-leb _ _ h)
+  answer-inside : at ≤ length out → joiner cs e out at .answer ≡ columnsAnswer cs e (drop at out)
+  unfolding joiner
+  answer-inside h = rw (le-leb _ _ h)
 
-    answer-few : (MayEnd (length cs) → ⊥) → joiner cs e out at .answer ≡ says 19 []
-    unfolding columnsAnswer
-    answer-few n = answer-inside ∙ by (way cs e)
-      where
-        by : Way cs e → columnsAnswer cs e (drop at out) ≡ says 19 []
-        by (uncounted m q) = rw q
-        by (faulted m f) = absurd (n m)
-        by (lined q l) = absurd (n (l .shaped .count))
-
-    answer-fault : {k n : ℕ} → MayEnd (length cs) → FirstFault cs e k n → joiner cs e out at .answer ≡ says n (k ∷ [])
-    unfolding columnsAnswer
-    answer-fault m f = answer-inside ∙ rw (count-required m, fault-judged cs e f)
-
-    module _ (m : MayEnd (length cs)) (q : columnsJudged 0 cs e ≡ fine) where
-      answer-line : at + length (lineText cs e) ≤ length out → joiner cs e out at .answer ≡ says 0 (length (lineText cs e) ∷ [])
-      unfolding columnsAnswer
-      answer-line l = answer-inside ∙ rw (count-required m, q) (room-fits (lineText cs e) (drop at out) (simp length-drop (omega arith)))
-
-      answer-short : length out < at + length (lineText cs e) → joiner cs e out at .answer ≡ says 17 []
-      unfolding columnsAnswer
-      answer-short l = answer-inside ∙ rw (count-required m, q) (room-lacks (lineText cs e) (drop at out) (simp length-drop (omega arith)))
-
-  -- what is told by its number
-  data Told : Answer → Type 0 where
-    done : IsLine cs e (lineText cs e) → at + length (lineText cs e) ≤ length out → Told (says 0 (length (lineText cs e) ∷ []))
-    refuses : {a : Answer} → (numberOf a ≡ 0 → ⊥) → Refused cs e out at a → Told a
-
-  told : Told (joiner cs e out at .answer)
-  told = by (decLe at (length out)) (way cs e)
-    where
-      roomy : at ≤ length out → columnsJudged 0 cs e ≡ fine → IsLine cs e (lineText cs e) → Dec (at + length (lineText cs e) ≤ length out)
-          → Told (joiner cs e out at .answer)
-      roomy h q l (yes r) = rw (answer-line h (l .shaped .count) q r) (done l r)
-      roomy h q l (no r) = rw (answer-short h (l .shaped .count) q (omega arith)) (refuses {a = says 17 []} (λ z. omega arith) (short h l (omega arith)))
-
-      by : Dec (at ≤ length out) → Way cs e → Told (joiner cs e out at .answer)
-      by (no h) w = rw (answer-beyond (omega arith)) (refuses {a = says 6 []} (λ z. omega arith) (beyond (omega arith)))
-      by (yes h) (uncounted m q) = rw (answer-few h m) (refuses {a = says 19 []} (λ z. omega arith) (few h m))
-      by (yes h) (faulted m f) = rw (answer-fault h m f) (refuses (λ z. fault-some (f .here) z) (fault h m f))
-      by (yes h) (lined q l) = roomy h q l (decLe (at + length (lineText cs e)) (length out))
+  answer-short : {t : List ℕ} → at ≤ length out → IsLine cs e t → length out < at + length t → joiner cs e out at .answer ≡ says 17 []
+  answer-short {t} h l o =
+      let b : IsLine cs e (lineText cs e) = rw (line-is l) at l in
+      let k = ap length (line-is l) in
+      answer-inside h ∙ columns-line cs e (drop at out) b ∙ room-lacks (lineText cs e) (drop at out) (simp length-drop (omega arith))
 
   -- a refusal that is due is given
   due : {a : Answer} → Refused cs e out at a → joiner cs e out at .answer ≡ a
   due (beyond h) = answer-beyond h
-  due (few h m) = answer-few h m
-  due (fault h m f) = answer-fault h m f
-  due (short {t} h l o) = by (way cs e)
+  due (few h m) = answer-inside h ∙ columns-few cs e (drop at out) m
+  due (fault h m f) = answer-inside h ∙ columns-fault cs e (drop at out) m f
+  due (short h l o) = answer-short h l o
+
+  -- the answer is done, or one that is due
+  data Told : Answer → Type 0 where
+    done : IsLine cs e (lineText cs e) → at + length (lineText cs e) ≤ length out → Told (says 0 (length (lineText cs e) ∷ []))
+    refuses : {a : Answer} → (numberOf a ≡ 0 → ⊥) → Refused cs e out at a → Told a
+
+  refused : {a : Answer} → (numberOf a ≡ 0 → ⊥) → Refused cs e out at a → Told (joiner cs e out at .answer)
+  refused n r = rw (due r) (refuses n r)
+
+  told : Told (joiner cs e out at .answer)
+  told = by (decLe at (length out)) (way cs e)
     where
-      by : Way cs e → joiner cs e out at .answer ≡ says 17 []
-      by (uncounted m q) = absurd (m (l .shaped .count))
-      by (faulted m f) = absurd (line-faultless l _ _ (f .within) (f .here))
-      by (lined q d) = answer-short h (l .shaped .count) q (rw (line-is l) at o)
+      roomy : at ≤ length out → IsLine cs e (lineText cs e) → Dec (at + length (lineText cs e) ≤ length out) → Told (joiner cs e out at .answer)
+      roomy h l (yes r) =
+          let f = room-fits (lineText cs e) (drop at out) (simp length-drop (omega arith)) in
+          rw (answer-inside h, columns-line cs e (drop at out) l, f) (done l r)
+      roomy h l (no r) = refused {a = says 17 []} (λ z. omega arith) (short h l (omega arith))
+
+      by : Dec (at ≤ length out) → Way cs e → Told (joiner cs e out at .answer)
+      by (no h) w = refused {a = says 6 []} (λ z. omega arith) (beyond (omega arith))
+      by (yes h) (uncounted m q) = refused {a = says 19 []} (λ z. omega arith) (few h m)
+      by (yes h) (faulted m f) = refused (λ z. fault-some (f .here) z) (fault h m f)
+      by (yes h) (lined q l) = roomy h l (decLe (at + length (lineText cs e)) (length out))
 
 pub writes-line : WritesLine joiner
 unfolding WritesLine joiner
@@ -106,7 +80,7 @@ refusals cs e out at a n = (λ q. by (told cs e out at) q, due cs e out at)
 
 pub untouched : Untouched joiner
 unfolding Untouched joiner
-untouched cs e out at n = rw (ne-eqb _ _ n)
+untouched cs e out at n = laidAt-refused (joiner cs e out at .answer) at (lineText cs e) out n
 
 pub meets : Meets joiner
 meets = record { writes-line = writes-line; refusals = refusals; untouched = untouched }

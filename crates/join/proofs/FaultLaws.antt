@@ -1,7 +1,8 @@
--- The columns are judged as the statements have it: by the first column with a fault; where none has one, they are a line's. Assumes nothing.
-use Prim.Native.Nat.{ℕ, zero, suc, _+_, _-_, _<_}
-use mathlib.Core.Path.{_≡_, refl, sym, _∙_}
-use mathlib.Core.Bool.{Bool, true, false, not, _&&_, _||_, false≢true}
+-- The columns are judged as the statements have it: by the first column with a fault; where none has one, they are a line's; and so they are
+-- answered. Assumes nothing.
+use Prim.Native.Nat.{ℕ, zero, suc, _+_, _-_, _<_, _≤_}
+use mathlib.Core.Path.{_≡_, refl, sym, ap, _∙_}
+use mathlib.Core.Bool.{Bool, true, false, not, _&&_, _||_, or-false, false≢true}
 use mathlib.Core.Logic.{⊎-elim}
 use mathlib.Core.List.{List, [], _∷_, _++_, append-assoc, append-nil}
 use native.Mathlib.Omega.{arith}
@@ -9,9 +10,12 @@ use native.Mathlib.Decide.{decLt}
 use lib.ListN.{length, getD}
 use borrow.Author.Tests.{not-false}
 use Rattle.text.specs.Pick.{pick}
+use Rattle.text.specs.Answer.{says, numberOf}
+use Rattle.text.specs.Over.{roomAnswer}
 use Rattle.text.specs.Bytes.{isEmpty, endsIn}
 use Rattle.text.specs.Utf8.{isUtf8}
 use Rattle.text.proofs.ByteLaws.{empty-some, some-empty}
+use Rattle.text.proofs.CopyLaws.{room-fits, room-done}
 use Rattle.text.specs.Verdict.{Verdict, fine, refused}
 use Rattle.pieces.specs.Pieces.{joined, lacks}
 use Rattle.pieces.proofs.CountLaws.{lacks-free, free-lacks}
@@ -19,9 +23,8 @@ use Rattle.pieces.proofs.PieceLaws.{joined-one, joined-more}
 use Rattle.line.specs.Line.{Ending, nothing, feed, return-feed, endingBytes, required}
 use Rattle.line.specs.Demands.{MayEnd, Column, Ended, by-nothing, by-feed, by-return-feed, Begins}
 use Rattle.line.proofs.ColumnLaws.{return-tab, utf8-each, utf8-all, or-none, required-count, count-required}
-use Rattle.join.specs.Join.{isBad, losesReturn, columnJudged, columnsJudged, lineText}
+use Rattle.join.specs.Join.{isBad, losesReturn, columnJudged, columnsJudged, lineText, columnsAnswer}
 use Rattle.join.specs.Demands.{IsLine, Bad, no-column, lost, Fault, bad, broken, FirstFault}
-use Rattle.join.proofs.JoinLaws.{isLast, judged-cons}
 
 -- ---- one column
 
@@ -62,6 +65,17 @@ module _ (c : List ℕ) (cs : List (List ℕ)) (e : Ending) where
   fault-down : {k n : ℕ} → Fault (c ∷ cs) e (suc k) n → Fault cs e k n
   fault-down (bad b) = bad (bad-down b)
   fault-down (broken b u) = broken (λ d. b (bad-up d)) u
+
+-- nothing follows
+unfoldable pub isLast : List (List ℕ) → Bool
+isLast [] = true
+isLast (c ∷ cs) = false
+
+pub judged-cons : (i : ℕ) (c : List ℕ) (cs : List (List ℕ)) (e : Ending)
+    → columnsJudged i (c ∷ cs) e ≡ columnJudged i (isBad c || (isLast cs && losesReturn e c)) c (columnsJudged (i + 1) cs e)
+unfolding columnsJudged isLast
+judged-cons i c [] e = refl
+judged-cons i c (d ∷ cs) e = rw or-false
 
 -- the test of the first column
 abbrev headBad : List ℕ → List (List ℕ) → Ending → Bool
@@ -144,7 +158,7 @@ found i (c ∷ cs) e = rw judged-cons (found-first i c cs e (columnsJudged (i + 
 
 -- ---- a first fault is what is found
 
--- there is one
+-- there is only one
 first-one : {cs : List (List ℕ)} {e : Ending} {k j n m : ℕ} → FirstFault cs e k n → FirstFault cs e j m → (k ≡ j) × (n ≡ m)
 first-one {cs} {e} {k} {j} {n} {m} f g = by (decLt k j) (decLt j k)
   where
@@ -173,7 +187,7 @@ last-ends (c ∷ []) (suc k) l = absurd (omega arith)
 last-ends (c ∷ d ∷ cs) zero l = absurd (omega arith)
 last-ends (c ∷ d ∷ cs) (suc k) l = rw (joined-more, return-tab) (last-ends (d ∷ cs) k (omega arith))
 
--- what stands behind it
+-- the columns, their ending and a rest are the line's text and the rest
 pub line-whole : (cs : List (List ℕ)) (e : Ending) (rest : List ℕ) → joined 9 cs ++ (endingBytes e ++ rest) ≡ lineText cs e ++ rest
 unfolding lineText
 line-whole cs e rest = sym (append-assoc (joined 9 cs) (endingBytes e) rest)
@@ -235,7 +249,7 @@ module _ {s : List ℕ} {cs : List (List ℕ)} {e : Ending} {rest : List ℕ} (b
   pub line-again : {u : List ℕ} → (e ≡ nothing → u ≡ []) → Begins (lineText cs e ++ u) cs e u
   line-again = faultless-line (b .shaped .count) line-faultless
 
--- the line itself
+-- the line is their text
 pub line-is : {cs : List (List ℕ)} {e : Ending} {t : List ℕ} → IsLine cs e t → t ≡ lineText cs e
 line-is {cs} {e} b = sym (b .shaped .whole) ∙ line-whole cs e [] ∙ append-nil (lineText cs e)
 
@@ -256,3 +270,50 @@ way cs e = by (required (length cs)) refl
     by : (b : Bool) → required (length cs) ≡ b → Way cs e
     by true q = uncounted (λ n. false≢true (sym (count-required n) ∙ q)) q
     by false q = judged (required-count (length cs) q) refl (found 0 cs e)
+
+-- ---- the answer, by these
+
+module _ (cs : List (List ℕ)) (e : Ending) (l : List ℕ) where
+  pub columns-few : (MayEnd (length cs) → ⊥) → columnsAnswer cs e l ≡ says 19 []
+  unfolding columnsAnswer
+  columns-few n = by (way cs e)
+    where
+      by : Way cs e → columnsAnswer cs e l ≡ says 19 []
+      by (uncounted m q) = rw q
+      by (faulted m f) = absurd (n m)
+      by (lined q b) = absurd (n (b .shaped .count))
+
+  pub columns-fault : {k n : ℕ} → MayEnd (length cs) → FirstFault cs e k n → columnsAnswer cs e l ≡ says n (k ∷ [])
+  unfolding columnsAnswer
+  columns-fault m f = rw (count-required m, fault-judged cs e f)
+
+  pub columns-line : IsLine cs e (lineText cs e) → columnsAnswer cs e l ≡ roomAnswer (lineText cs e) l
+  unfolding columnsAnswer
+  columns-line b = by (way cs e)
+    where
+      by : Way cs e → columnsAnswer cs e l ≡ roomAnswer (lineText cs e) l
+      by (uncounted m q) = absurd (m (b .shaped .count))
+      by (faulted m f) = absurd (line-faultless b _ _ (f .within) (f .here))
+      by (lined q b) = rw (count-required (b .shaped .count), q)
+
+-- no fault has the number 0
+pub fault-some : {cs : List (List ℕ)} {e : Ending} {k n : ℕ} → Fault cs e k n → n ≡ 0 → ⊥
+fault-some (bad b) z = omega arith
+fault-some (broken b u) z = omega arith
+
+-- so an answer that is done has a line, which fits
+pub record Done (cs : List (List ℕ)) (e : Ending) (l : List ℕ) : Type 0 where
+  pub line : IsLine cs e (lineText cs e)
+  pub room : length (lineText cs e) ≤ length l
+  pub answer : columnsAnswer cs e l ≡ says 0 (length (lineText cs e) ∷ [])
+
+pub columns-done : (cs : List (List ℕ)) (e : Ending) (l : List ℕ) → numberOf (columnsAnswer cs e l) ≡ 0 → Done cs e l
+columns-done cs e l z = by (way cs e)
+  where
+    by : Way cs e → Done cs e l
+    by (uncounted m q) = absurd (let y = ap numberOf (columns-few cs e l m) in omega arith)
+    by (faulted m f) = absurd (fault-some (f .here) (sym (ap numberOf (columns-fault cs e l m f)) ∙ z))
+    by (lined q b) =
+        let a = columns-line cs e l b in
+        let r = room-done (lineText cs e) l (rw a at z) in
+        record { line = b; room = r; answer = a ∙ room-fits (lineText cs e) l r }

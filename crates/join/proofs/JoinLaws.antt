@@ -1,7 +1,7 @@
 -- Joining: each way through each function is a law of the definitions; the columns still to judge stand for all of them. Assumes nothing.
 use Prim.Native.Nat.{ℕ, _+_, _-_, _^_, _<_, _≤_, zero-le}
 use mathlib.Core.Path.{_≡_, refl, sym, _∙_}
-use mathlib.Core.Bool.{Bool, true, false, _&&_, _||_, not, or-false, false≢true}
+use mathlib.Core.Bool.{Bool, true, false, _&&_, _||_, not, false≢true}
 use mathlib.Core.List.{List, [], _∷_}
 use native.Mathlib.Omega.{arith}
 use native.Mathlib.Decide.{decLe}
@@ -15,7 +15,7 @@ use borrow.Author.Tests.{eqb-true, eqb-false, lt-ltb, le-ltb, le-leb, lt-leb, eq
 use borrow.Rule.Slice.PartMut.{putMid}
 use Rattle.text.specs.Pick.{pick}
 use Rattle.text.specs.Answer.{Answer, says, numberOf}
-use Rattle.text.specs.Over.{over, overAt, roomFor, roomAnswer, Writes}
+use Rattle.text.specs.Over.{over, overAt, roomFor, Writes}
 use Rattle.text.specs.declared.copy.Written.{Written}
 use Rattle.text.specs.Bytes.{endsIn}
 use Rattle.text.specs.Utf8.{isUtf8, utf8Answer}
@@ -24,9 +24,9 @@ use Rattle.text.specs.declared.utf8.Utf8.{Utf8}
 use Rattle.text.specs.declared.utf8.Utf8.the-variants as U
 use Rattle.text.proofs.ByteLaws.{none-empty, some-empty, ends-none, ends-at}
 use Rattle.text.proofs.CharLaws.{told-text, told-broken}
-use Rattle.text.proofs.CopyLaws.{room-fits, room-lacks, room-sized, writes-fits}
+use Rattle.text.proofs.CopyLaws.{room-sized, writes-fits}
 use Rattle.text.proofs.Lists.{rest-all, length-rest, rest-put, over-nil, overAt-append, length-overAt}
-use Rattle.text.specs.Verdict.{Verdict, fine, refused, fitted}
+use Rattle.text.specs.Verdict.{fine, fitted}
 use mathlib.Core.Logic.{inl, inr, ⊎-elim}
 use Rattle.line.specs.Line.{Ending, endingBytes, required}
 use Rattle.line.specs.Paper.{endingOf}
@@ -48,6 +48,7 @@ use Rattle.join.specs.Paper.{joinedPaper}
 use Rattle.join.specs.declared.columns.Joined.{Joined}
 use Rattle.join.specs.declared.columns.Joined.the-variants as J
 use Rattle.join.proofs.columns.Joined.{the-type}
+use Rattle.join.proofs.FaultLaws.{isLast, judged-cons, Done, columns-done}
 
 -- ---- one column
 
@@ -127,11 +128,6 @@ count-some n e y = ⊎-elim (λ z. omega arith) (λ l. omega arith) (required-co
 pub last-is : (ends : List ℕ) → 0 < length ends → getD ends (length ends - 1) 0 ≡ startOf ends (length ends)
 last-is ends h = start-later ends (length ends) (λ e. omega arith)
 
--- nothing follows
-unfoldable pub isLast : List (List ℕ) → Bool
-isLast [] = true
-isLast (c ∷ cs) = false
-
 last-length : (cs : List (List ℕ)) {k : ℕ} → k ≡ length cs → isLast cs ≡ eqb k 0
 unfolding isLast
 last-length [] e = rw e
@@ -153,12 +149,6 @@ module _ (t ends : List ℕ) (i : ℕ) (h : i < length ends) where
 -- what is answered of the columns of a list, by 18, 5 and 17
 abbrev pub judgedAnswer : List ℕ → List ℕ → Ending → List ℕ → Answer
 judgedAnswer t ends e l = fitted (columnsJudged 0 (entryList t ends) e) (lineText (entryList t ends) e) l
-
-pub judged-cons : (i : ℕ) (c : List ℕ) (cs : List (List ℕ)) (e : Ending)
-    → columnsJudged i (c ∷ cs) e ≡ columnJudged i (isBad c || (isLast cs && losesReturn e c)) c (columnsJudged (i + 1) cs e)
-unfolding columnsJudged isLast
-judged-cons i c [] e = refl
-judged-cons i c (d ∷ cs) e = rw or-false
 
 -- the columns from i on are judged as all are from 0 on
 pub record Judging (t ends : List ℕ) (e : Ending) (i : ℕ) : Type 0 where
@@ -284,50 +274,16 @@ module _ {x : DeclaredEnding} (l : List ℕ) where
 -- what an answer that is done tells of a list and the rest of the output
 record Ready (t ends : List ℕ) (e : Ending) (l : List ℕ) : Type 0 where
   rises : rising 0 ends (length t) ≡ true
-  room : length (lineText (entryList t ends) e) ≤ length l
-  answer : listAnswer t ends e l ≡ says 0 (length (lineText (entryList t ends) e) ∷ [])
+  line : Done (entryList t ends) e l
+  answer : listAnswer t ends e l ≡ columnsAnswer (entryList t ends) e l
 
-module _ (vs l : List ℕ) where
-  -- what is done is fine
-  Told : Verdict → Type 0
-  Told j = eqb (numberOf (fitted j vs l)) 0 ≡ true → j ≡ fine
-
-  judged-told : (i : ℕ) (b : Bool) (c : List ℕ) (next : Verdict) → Told next → Told (columnJudged i b c next)
-  unfolding Told columnJudged
-  judged-told i b c next f = by b (isUtf8 c)
-    where
-      by : (b u : Bool) → Told (pick b (refused 18 i) (pick u next (refused 5 i)))
-      by true u e = absurd (false≢true e)
-      by false true e = f e
-      by false false e = absurd (false≢true e)
-
-  columns-told : (i : ℕ) (cs : List (List ℕ)) (e : Ending) → Told (columnsJudged i cs e)
-  unfolding Told columnsJudged
-  columns-told i [] e = λ z. refl
-  columns-told i (c ∷ cs) e = rw judged-cons (judged-told i (isBad c || (isLast cs && losesReturn e c)) c (columnsJudged (i + 1) cs e) (columns-told (i + 1) cs e))
-
-  room-told : eqb (numberOf (roomAnswer vs l)) 0 ≡ true → length vs ≤ length l
-  room-told e = by (decLe (length vs) (length l))
-    where
-      by : Dec (length vs ≤ length l) → length vs ≤ length l
-      by (yes h) = h
-      by (no h) = absurd (false≢true (rw (room-lacks vs l (omega arith)) at e))
-
-ready : (t ends : List ℕ) (e : Ending) (l : List ℕ) → eqb (numberOf (listAnswer t ends e l)) 0 ≡ true → Ready t ends e l
-unfolding listAnswer columnsAnswer Told
-ready t ends e l z = by (rising 0 ends (length t)) (required (length (entryList t ends))) refl refl z
+ready : (t ends : List ℕ) (e : Ending) (l : List ℕ) → numberOf (listAnswer t ends e l) ≡ 0 → Ready t ends e l
+unfolding listAnswer
+ready t ends e l z = by (rising 0 ends (length t)) refl z
   where
-    line : List ℕ
-    line = lineText (entryList t ends) e
-
-    by : (a b : Bool) → rising 0 ends (length t) ≡ a → required (length (entryList t ends)) ≡ b
-        → eqb (numberOf (pick a (pick b (says 19 []) (judgedAnswer t ends e l)) (says 16 []))) 0 ≡ true → Ready t ends e l
-    by true false r c z =
-        let f = columns-told line l 0 (entryList t ends) e z in
-        let k = room-told line l (rw f at z) in
-        record { rises = r; room = k; answer = rw (r, c, f, room-fits line l k) }
-    by true true r c z = absurd (false≢true z)
-    by false b r c z = absurd (false≢true z)
+    by : (a : Bool) → rising 0 ends (length t) ≡ a → numberOf (pick a (columnsAnswer (entryList t ends) e l) (says 16 [])) ≡ 0 → Ready t ends e l
+    by true r z = record { rises = r; line = columns-done (entryList t ends) e l z; answer = rw r }
+    by false r z = absurd (omega arith)
 
 -- an answer other than done
 refusal : (r : Joined) → OneOf (1 ∷ 2 ∷ 3 ∷ 4 ∷ 5 ∷ 6 ∷ []) (tagOf the-type r) → eqb (numberOf (joinedPaper r)) 0 ≡ false
@@ -354,7 +310,7 @@ module _ (t ends : List ℕ) (e : Ending) (at : ℕ) (out : List ℕ) where
     join-refused o = record { answer = sym join-answer; bytes = rw (join-answer, refusal r o) }
 
     module _ {n : ℕ} (q : r ≡ J.Done n) where
-      done : eqb (numberOf (joinedPaper r)) 0 ≡ true
+      done : numberOf (joinedPaper r) ≡ 0
       unfolding joinedPaper
       done = rw q
 
@@ -364,7 +320,7 @@ module _ (t ends : List ℕ) (e : Ending) (at : ℕ) (out : List ℕ) where
       join-count : n ≡ length (lineText (entryList t ends) e)
       unfolding joinedPaper
       join-count =
-          let z : says 0 (n ∷ []) ≡ says 0 (length (lineText (entryList t ends) e) ∷ []) = (rw q at f) ∙ join-ready .answer in
+          let z : says 0 (n ∷ []) ≡ says 0 (length (lineText (entryList t ends) e) ∷ []) = (rw q at f) ∙ join-ready .answer ∙ join-ready .line .answer in
           cc
 
       -- the columns, and the ending
@@ -373,7 +329,7 @@ module _ (t ends : List ℕ) (e : Ending) (at : ℕ) (out : List ℕ) where
       join-length = join-count ∙ length-append (joined 9 (entryList t ends)) (endingBytes e)
 
       join-room : at + n ≤ length out
-      join-room = let g = join-ready .room in let c = join-count in let k = length-rest out at in omega arith
+      join-room = let g = join-ready .line .room in let c = join-count in let k = length-rest out at in omega arith
 
       pub join-sum : length out < 2 ^ 64 → Fits w64 (at + n)
       join-sum z = let k = join-room in record { fits = omega arith }
@@ -423,7 +379,7 @@ module _ (t ends : List ℕ) (e : Ending) (at : ℕ) (out : List ℕ) where
                 answer = rw (← q) (sym join-answer);
                 bytes =
                     rest-put (at + n - size) (endingBytes e) (putMid at (length out - at) out ys) zs p
-                    ∙ rw (end-is, columns-put, join-answer, done) (sym (overAt-append at (joined 9 (entryList t ends)) (endingBytes e) out (omega arith)));
+                    ∙ rw (end-is, columns-put, join-answer, eq-eqb _ _ done) (sym (overAt-append at (joined 9 (entryList t ends)) (endingBytes e) out (omega arith)));
               }
 
 pub ruleset join-laws = (join-beyond, join-refused, join-some, join-sum, join-end, join-fits, join-done)

@@ -111,7 +111,7 @@ module _ {e : Ending} where
   unfolding endingBytes
   size-return-feed q = rw q
 
--- ---- the ending, by how many
+-- ---- the ending, by how many bytes it has
 
 module _ {end next : ℕ} (h : end ≤ next) where
   ends-by : (r : Ending) → ((e : Line.Ending) → endingNumber e ≡ next - end → endingNumber (endingOf r) ≡ endingNumber e) → EndsBetween end next r

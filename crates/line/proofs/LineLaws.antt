@@ -1,12 +1,12 @@
 -- The three ways of the reader, an ending by its number, and the line that an input begins with, by where its first LF stands: each is the
 -- definition's clause. Assumes nothing.
-use Prim.Native.Nat.{ℕ, _<_}
+use Prim.Native.Nat.{ℕ, _<_, _≤_}
 use mathlib.Core.Path.{_≡_, refl, sym}
 use mathlib.Core.Bool.{Bool, true, false}
 use mathlib.Core.List.{List, [], _∷_, _++_, dropLast}
 use mathlib.Mathlib.Logic.Function.Defs.{LeftInverse·injective}
 use native.Mathlib.Omega.{arith}
-use lib.ListN.{length, getD, drop}
+use lib.ListN.{length, getD, drop, List·getD-eq-default}
 use Rattle.text.specs.Pick.{pick}
 use Rattle.text.specs.Answer.{says}
 use Rattle.text.specs.Bytes.{endsIn}
@@ -15,7 +15,7 @@ use Rattle.text.proofs.PlaceLaws.{place-beyond, place-end, place-inside}
 use Rattle.pieces.specs.Pieces.{split, joined}
 use Rattle.pieces.specs.Demands.{Free}
 use Rattle.pieces.proofs.PieceLaws.{split-nil, split-free, one-text, more-text}
-use Rattle.line.specs.Line.{Ending, nothing, feed, return-feed, endingBytes, endingNumber, Line, line, fed, lineOf, lineAnswer, readAnswer}
+use Rattle.line.specs.Line.{Ending, nothing, feed, return-feed, endingBytes, endingNumber, endingBy, Line, line, fed, lineOf, lineAnswer, readAnswer}
 
 -- ---- the reader at a place
 
@@ -41,9 +41,6 @@ ending-size nothing = refl
 ending-size feed = refl
 ending-size return-feed = refl
 
-endingBy : ℕ → Ending
-endingBy k = getD (nothing ∷ feed ∷ []) k return-feed
-
 ending-back : (e : Ending) → endingBy (endingNumber e) ≡ e
 unfolding endingBy endingNumber
 ending-back nothing = refl
@@ -53,6 +50,19 @@ ending-back return-feed = refl
 -- and tells it
 pub ending-known : (e f : Ending) → endingNumber e ≡ endingNumber f → e ≡ f
 ending-known = LeftInverse·injective endingBy endingNumber ending-back
+
+module _ {n : ℕ} where
+  pub named-nothing : n ≡ 0 → nothing ≡ endingBy n
+  unfolding endingBy
+  named-nothing e = rw e
+
+  pub named-feed : n ≡ 1 → feed ≡ endingBy n
+  unfolding endingBy
+  named-feed e = rw e
+
+  pub named-return-feed : (n ≡ 0 → ⊥) → (n ≡ 1 → ⊥) → return-feed ≡ endingBy n
+  unfolding endingBy
+  named-return-feed a b = let h : 2 ≤ n = omega arith in sym (List·getD-eq-default (nothing ∷ feed ∷ []) return-feed h)
 
 -- ---- an input, cut at its first LF
 

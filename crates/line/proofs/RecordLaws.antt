@@ -70,7 +70,7 @@ tells-ending s at next r x read q cs e rest b =
 -- ---- pieces that are not empty
 
 -- joined, they have no fewer bytes than there are pieces
-pub joined-length : (b : ℕ) (ps : List (List ℕ)) → ((i : ℕ) → i < length ps → 0 < length (getD ps i [])) → length ps ≤ length (joined b ps)
+joined-length : (b : ℕ) (ps : List (List ℕ)) → ((i : ℕ) → i < length ps → 0 < length (getD ps i [])) → length ps ≤ length (joined b ps)
 joined-length b [] h = rw (joined-none b) (omega arith)
 joined-length b (p ∷ []) h = rw (joined-one b p) (h 0 (omega arith))
 joined-length b (p ∷ q ∷ ps) h =
@@ -78,7 +78,15 @@ joined-length b (p ∷ q ∷ ps) h =
     let k = joined-length b (q ∷ ps) (λ i m. h (suc i) (suc-le-suc m)) in
     rw (joined-more b p q ps, l) (omega arith)
 
--- and come back, where they are free of the byte between them
+-- so columns that begin an input leave it not empty
+pub begins-some : {s : List ℕ} {cs : List (List ℕ)} {e : Ending} {rest : List ℕ} → Begins s cs e rest → 0 < length s
+begins-some {cs = cs} {e = e} {rest = rest} b =
+    let l = joined-length 9 cs (λ i l. b .shaped .each i l .some) in
+    let n : 8 ≤ length cs = ⊎-elim (λ h. omega arith) (λ h. omega arith) (b .shaped .count) in
+    let w = ap length (b .shaped .whole) in
+    omega (arith, length-append (joined 9 cs) (endingBytes e ++ rest))
+
+-- and pieces come back, where they are free of the byte between them
 joined-back : (b : ℕ) (ps : List (List ℕ)) → ((i : ℕ) → i < length ps → 0 < length (getD ps i [])) → ((i : ℕ) → i < length ps → Free b (getD ps i []))
     → pieces b (joined b ps) ≡ ps
 joined-back b [] h f = rw (joined-none b) (pieces-none b [] refl)

@@ -3,7 +3,7 @@
 use Prim.Native.Nat.{ℕ, zero, suc, _+_}
 use mathlib.Core.Bool.{Bool, true, _&&_, _||_}
 use mathlib.Core.List.{List, [], _∷_, _++_, dropLast}
-use lib.ListN.{length, drop}
+use lib.ListN.{length, getD, drop}
 use lib.Dec.{leb, eqb}
 use Rattle.text.specs.Pick.{pick}
 use Rattle.text.specs.Answer.{Answer, says}
@@ -31,6 +31,10 @@ unfoldable pub endingNumber : Ending → ℕ
 endingNumber nothing = 0
 endingNumber feed = 1
 endingNumber return-feed = 2
+
+-- the ending with this number
+unfoldable pub endingBy : ℕ → Ending
+endingBy n = getD (nothing ∷ feed ∷ []) n return-feed
 
 -- the line's text, its ending, and the rest of the input
 pub data Line : Type 0 where

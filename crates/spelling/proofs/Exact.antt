@@ -7,10 +7,9 @@ use mathlib.Core.List.{List, [], _∷_}
 use native.Mathlib.Omega.{arith}
 use native.Mathlib.Decide.{decLe, decLt}
 use lib.ListN.{length, drop, length-drop}
-use borrow.Author.Tests.{eq-eqb, ne-eqb}
+use borrow.Author.Tests.{eq-eqb}
 use Rattle.text.specs.Answer.{Answer, says, numberOf}
-use Rattle.text.specs.Over.{roomAnswer}
-use Rattle.text.proofs.CopyLaws.{room-fits, room-lacks}
+use Rattle.text.proofs.CopyLaws.{room-fits, room-lacks, room-done, laidAt-refused}
 use Rattle.genotype.specs.declared.allele.Allele.{Allele}
 use Rattle.spelling.specs.Spelling.{Spelled, text, bad, phasing, empty, spell}
 use Rattle.spelling.specs.Permitted.{from44, Permitted}
@@ -35,13 +34,9 @@ module _ (late : Bool) (as′ : List Allele) (out : List ℕ) (at : ℕ) where
       rest : List ℕ
       rest = drop at out
 
-      roomy : (t : List ℕ) → numberOf (roomAnswer t rest) ≡ 0 → Dec (length rest < length t) → length t ≤ length rest
-      roomy t e (yes h) = let z = ap numberOf (room-lacks t rest h) in absurd (omega arith)
-      roomy t e (no h) = omega arith
-
       spelled-by : at ≤ length out → (s : Spelled) → spell late as′ ≡ s → numberOf (spelledAnswer s rest) ≡ 0 → Done late as′ out at
       spelled-by h (text t) q e =
-          let f = roomy t e (decLt (length rest) (length t)) in
+          let f = room-done t rest e in
           let k = length-drop at out in
           record { bytes = t; spelled = q; fits = omega arith }
       spelled-by h (bad k) q e = absurd (omega arith)
@@ -118,7 +113,7 @@ refusals major minor as′ out at a n = (given, due)
 
 pub untouched : Untouched writer
 unfolding Untouched writer
-untouched major minor as′ out at n = rw (ne-eqb _ _ n)
+untouched major minor as′ out at n = laidAt-refused (writer major minor as′ out at .answer) at (textOf (spell (from44 major minor) as′)) out n
 
 pub meets : Meets writer
 meets = record { writes-shortest = writes-shortest; refusals = refusals; untouched = untouched }

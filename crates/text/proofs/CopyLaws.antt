@@ -1,14 +1,15 @@
 -- Copying byte by byte: what is left to copy lies over what stands. Assumes nothing.
 use Prim.Native.Nat.{ℕ, _+_, _<_, _≤_}
-use mathlib.Core.Path.{_≡_, refl, _∙_}
+use mathlib.Core.Path.{_≡_, refl, ap, _∙_}
 use mathlib.Core.List.{List, [], _∷_}
 use native.Mathlib.Omega.{arith}
+use native.Mathlib.Decide.{decLe}
 use native.Mathlib.Numerals.{add-one}
 use lib.ListN.{length, getD, drop, set, length-set, drop-of-length-le}
 use lib.Seq.{sets, drop-cons}
 use borrow.Author.Tests.{le-leb, lt-leb, ne-eqb}
 use Rattle.text.specs.Answer.{says, Answer, numberOf}
-use Rattle.text.specs.Over.{over, roomFor, roomAnswer, Writes, laid}
+use Rattle.text.specs.Over.{over, roomFor, roomAnswer, Writes, laid, laidAt}
 use Rattle.text.specs.Paper.{writtenPaper}
 use Rattle.text.specs.declared.copy.Written.{Written}
 use Rattle.text.specs.declared.copy.Written.the-variants.{Done, Short}
@@ -56,6 +57,9 @@ pub room-lacks : (vs l : List ℕ) → length l < length vs → roomAnswer vs l 
 unfolding roomAnswer
 room-lacks vs l h = rw (lt-leb _ _ h)
 
+pub room-done : (vs l : List ℕ) → numberOf (roomAnswer vs l) ≡ 0 → length vs ≤ length l
+room-done vs l z = elim (decLe (length vs) (length l)) [ yes h ↦ h | no h ↦ absurd (let e = ap numberOf (room-lacks vs l (omega arith)) in omega arith) ]
+
 -- only the length counts
 pub room-sized : (vs l : List ℕ) {n : ℕ} → n ≡ length vs → roomFor n (length l) ≡ roomAnswer vs l
 unfolding roomAnswer
@@ -68,5 +72,8 @@ writes-fits w h = w .bytes ∙ rw (le-leb _ _ h)
 -- a refusal lays nothing
 pub laid-refused : {X : Type 0} (a : Answer) (vs l : List X) → (numberOf a ≡ 0 → ⊥) → laid a vs l ≡ l
 laid-refused a vs l z = rw (ne-eqb _ _ z)
+
+pub laidAt-refused : {X : Type 0} (a : Answer) (at : ℕ) (vs l : List X) → (numberOf a ≡ 0 → ⊥) → laidAt a at vs l ≡ l
+laidAt-refused a at vs l z = rw (ne-eqb _ _ z)
 
 pub ruleset laws = (copy-first, copy-turn, copy-past, copy-short)
