@@ -24,6 +24,7 @@ use crate::words::word;
 use join::columns::Joined;
 use join::columns::join;
 use line::ending::Ending;
+use line::ending::ending_by;
 use lists::alternate_bases::alt_count;
 use lists::alternate_bases::write_alts;
 use lists::filters::write_filters;
@@ -75,16 +76,7 @@ fn answer_join(case: &[u8], text: &mut Text, out: &mut Buffer, at: Place) -> Ans
     if k == ENDINGS {
         return Answer::NoCase;
     }
-    answer_writer(case, Writer::Columns(ending(k)), 4, text, out, at)
-}
-
-// Ending k, in the order of their words.
-fn ending(k: usize) -> Ending {
-    match k {
-        0 => Ending::Nothing,
-        1 => Ending::Feed,
-        _ => Ending::ReturnFeed,
-    }
+    answer_writer(case, Writer::Columns(ending_by(k)), 4, text, out, at)
 }
 
 // What writes a list: `join` with its ending, `filters` or `alts`.

@@ -8,7 +8,6 @@ use borrow.Author.Tests.{le-leb, lt-leb}
 use Rattle.text.specs.Answer.{Answer, says}
 use Rattle.text.specs.declared.range.Range.{Range}
 use Rattle.line.specs.Line.{Ending, endingBy}
-use Rattle.line.proofs.LineLaws.{named-nothing, named-feed, named-return-feed}
 use Rattle.line.specs.declared.place.Name.{Name}
 use Rattle.line.specs.declared.place.Name.the-variants as N
 use Rattle.fields.specs.Fields.{textAnswer}
@@ -49,11 +48,11 @@ module _ (t ends : List ℕ) (n at : ℕ) (out : List ℕ) {q : ℕ} {l l′ : L
   unfolding endedAnswer endedLeft
   ended-none h k = record { told = rw (lt-leb _ _ h) k; output = rw (lt-leb _ _ h) }
 
-  pub ended-joined : {e : Ending} {r : Joined} {out′ : List ℕ} → n ≤ 2 → e ≡ endingBy n → JoinsAt t ends e at out r out′ → Tells (joinedPaper r) l q l′
+  pub ended-joined : {m : ℕ} {e : Ending} {r : Joined} {out′ : List ℕ} → n ≤ 2 → m ≡ n → e ≡ endingBy m → JoinsAt t ends e at out r out′ → Tells (joinedPaper r) l q l′
       → TellsWriting (endedAnswer t ends n at out) (endedLeft t ends n at out) l q out′ l′
   unfolding endedAnswer endedLeft
-  ended-joined h e j k = record { told = rw (le-leb _ _ h, ← e, ← j .answer) k; output = rw (le-leb _ _ h, ← e) (j .bytes) }
+  ended-joined h q e j k = record { told = rw (le-leb _ _ h, ← q, ← e, ← j .answer) k; output = rw (le-leb _ _ h, ← q, ← e) (j .bytes) }
 
-pub ruleset ending-laws = (named-nothing, named-feed, named-return-feed, ended-none, ended-joined)
+pub ruleset ending-laws = (ended-none, ended-joined)
 
 pub ruleset laws = (named-none, named-text)

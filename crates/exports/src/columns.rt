@@ -1,12 +1,13 @@
 // Filters, ALT entries and the columns of a line. A list comes as one text and the end of each entry: the first starts at 0, each
 // later one at the end before it.
 use crate::told::VALUES;
+use crate::told::size;
 use crate::told::tell_none;
 use crate::told::tell_one;
 use crate::told::wide;
 use join::columns::Joined;
 use join::columns::join;
-use line::ending::Ending;
+use line::ending::ending_by;
 use lists::alternate_bases;
 use lists::alternate_bases::judge_alt;
 use lists::alternate_bases::write_alts;
@@ -16,8 +17,6 @@ use lists::write::Kind;
 use lists::write::Verdict;
 use lists::write::Write;
 ghost use mathlib.Core.Path.{_≡_};
-ghost use Rattle.line.specs.Line.{endingBy};
-ghost use Rattle.line.specs.Paper.{endingOf};
 ghost use Rattle.lists.specs.Kind.{invalidOf};
 ghost use Rattle.lists.specs.Paper.{verdictPaper, writePaper};
 ghost use Rattle.join.specs.Paper.{joinedPaper};
@@ -125,17 +124,6 @@ fn tell_joined(joined: Joined, values: &mut [u64; VALUES]) -> u64
     }
 }
 
-// The ending with a number up to 2; any other number is taken for 2.
-fn ending_by(n: u64) -> Ending
-    ensures { λ r. ⌜ endingOf r ≡ endingBy n ⌝ }
-{
-    match n {
-        0 => Ending::Nothing,
-        1 => Ending::Feed,
-        _ => Ending::ReturnFeed,
-    }
-}
-
 // Writes columns with tabs between and the ending with the number `ending`, 0 for nothing, 1 for LF, 2 for CR LF, from the place
 // `at` of the output on: 10 where that number is above 2; else 0, 5, 6, 16, 17, 18 or 19. One value at most: how many bytes were
 // written, or with 5 and 18 the index of the column. Only 0 changes the output.
@@ -153,5 +141,5 @@ pub extern "C" fn bruncadorza_join(
     if ending > 2 {
         return tell_none(10, values);
     }
-    tell_joined(join(text, ends, ending_by(ending), out, at), values)
+    tell_joined(join(text, ends, ending_by(size(ending)), out, at), values)
 }

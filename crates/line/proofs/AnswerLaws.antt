@@ -19,8 +19,9 @@ use Rattle.pieces.specs.Pieces.{split}
 use Rattle.pieces.proofs.PieceLaws.{split-some}
 use Rattle.line.specs.Line.{Ending, endingBytes, endingNumber, Line, line, lineOf, verdict, fieldPlaces, allUtf8, judgedAnswer, lineAnswer, readAnswer}
 use Rattle.line.specs.Paper.{endingOf, recordValues, readPaper}
+use Rattle.line.specs.Promises.{NamesEnding}
 use Rattle.line.specs.Demands.{ByColumns}
-use Rattle.line.specs.Inner.{EndsBetween, accepted, denied, judgement, judgementOf, judgedPaper, InOrder, Unset, Marks, Told}
+use Rattle.line.specs.Inner.{accepted, denied, judgement, judgementOf, judgedPaper, InOrder, Unset, Marks, Told}
 use Rattle.line.specs.declared.ending.Ending.{Ending as DeclaredEnding}
 use Rattle.line.specs.declared.read.Record.{Record}
 use Rattle.line.specs.declared.read.Read.{Read}
@@ -28,7 +29,7 @@ use Rattle.line.specs.declared.read.Read.the-variants as R
 use Rattle.line.specs.declared.read.Judged.{Judged}
 use Rattle.line.specs.declared.read.Judged.the-variants as J
 use Rattle.line.proofs.ColumnLaws.{line-whole, by-columns, fine-count}
-use Rattle.line.proofs.LineLaws.{read-beyond, read-end, read-line}
+use Rattle.line.proofs.LineLaws.{ending-sized, read-beyond, read-end, read-line}
 
 -- ---- a line whose columns are in order
 
@@ -105,7 +106,7 @@ module _ {s : List ℕ} {at end next : ℕ} (g : InOrder s at end next) where
   line-judged o = rw (o .is, o .ends, o .past, o .order)
 
   module _ {x : Utf8} (u : utf8Paper x ≡ utf8Answer (take (end - at) (drop at s))) where
-    pub finish-line : (r : Record) (y : DeclaredEnding) → x ≡ U.Text → EndsBetween end next y
+    pub finish-line : (r : Record) (y : DeclaredEnding) → x ≡ U.Text → NamesEnding (next - end) y
         → recordValues r ≡ endingNumber (endingOf y) ∷ fieldPlaces at (split 9 (drop at (take end s))) (length (take end s))
         → readPaper (R.Line r next) ≡ lineAnswer at (lineOf (drop at s))
     unfolding readPaper judgedAnswer ByColumns
@@ -114,7 +115,8 @@ module _ {s : List ℕ} {at end next : ℕ} (g : InOrder s at end next) where
         by : Ordered s at end next → readPaper (R.Line r next) ≡ lineAnswer at (lineOf (drop at s))
         by o =
             let v : allUtf8 (split 9 (o .text)) ≡ true = sym (by-columns (o .text)) ∙ told-text (o .text) (rw (q, o .stands) at u) in
-            rw (line-judged o, v, p, b .is (o .ending) (o .past), text-cut o, length-take-le end s (o .within))
+            let d : endingOf y ≡ o .ending = b ∙ ending-sized (o .ending) (let z = o .past in omega arith) in
+            rw (line-judged o, v, p, d, text-cut o, length-take-le end s (o .within))
 
     pub finish-broken : x ≡ U.Broken → readPaper (R.NotUtf8 next) ≡ lineAnswer at (lineOf (drop at s))
     unfolding readPaper judgedAnswer ByColumns

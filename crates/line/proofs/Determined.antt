@@ -6,6 +6,7 @@ use mathlib.Mathlib.Logic.Function.Defs.{LeftInverse·injective}
 use lib.ListN.{getD, drop}
 use Rattle.text.specs.Answer.{Answer, says}
 use Rattle.text.specs.declared.range.Range.{Range}
+use Rattle.line.specs.Line as Line
 use Rattle.line.specs.Line.{endingNumber}
 use Rattle.line.specs.Paper.{endingOf, linedPaper, recordPlaces, recordValues, readPaper}
 use Rattle.line.specs.Promises.{Determined}
@@ -19,19 +20,22 @@ use Rattle.line.specs.declared.read.Read.the-variants as R
 
 -- ---- how a line ended
 
-endingBy : ℕ → Ending
-endingBy k = getD (E.Nothing ∷ E.Feed ∷ []) k E.ReturnFeed
+declaredBy : ℕ → Ending
+declaredBy k = getD (E.Nothing ∷ E.Feed ∷ []) k E.ReturnFeed
 
-ending-back : (e : Ending) → endingBy (endingNumber (endingOf e)) ≡ e
-unfolding endingBy endingNumber
+ending-back : (e : Ending) → declaredBy (endingNumber (endingOf e)) ≡ e
+unfolding declaredBy endingNumber
 ending-back E.Nothing = refl
 ending-back E.Feed = refl
 ending-back E.ReturnFeed = refl
 
+pub ending-injective : (e f : Ending) → endingOf e ≡ endingOf f → e ≡ f
+ending-injective = LeftInverse·injective (λ (x : Line.Ending). declaredBy (endingNumber x)) endingOf ending-back
+
 -- ---- the line at a place
 
 linedBy : ℕ → ℕ → ℕ → ℕ → Lined
-linedBy n end k next = getD (L.At end (endingBy k) next ∷ []) n L.Beyond
+linedBy n end k next = getD (L.At end (declaredBy k) next ∷ []) n L.Beyond
 
 linedOf : Answer → Lined
 linedOf (says n l) = linedBy n (getD l 0 0) (getD l 1 0) (getD l 2 0)
@@ -53,7 +57,7 @@ rangeAt l k m = record { start = getD l k 0; len = getD l m 0 }
 recordOf : List ℕ → Record
 recordOf l =
     record {
-      ending = endingBy (getD l 0 0);
+      ending = declaredBy (getD l 0 0);
       chrom = rangeAt l 1 2;
       pos = rangeAt l 3 4;
       id = rangeAt l 5 6;
@@ -94,4 +98,4 @@ pub read-paper-injective : (r r′ : Read) → readPaper r ≡ readPaper r′ �
 read-paper-injective = LeftInverse·injective readOf readPaper read-back
 
 pub determined : Determined
-determined = record { ending-size = λ ending r r′ p q. p ∙ sym q; line-at = λ s at r r′ p q. lined-paper-injective r r′ (p ∙ sym q); read-line = λ s at r r′ p q. read-paper-injective r r′ (p ∙ sym q); place-of = λ line name r r′ p q. p ∙ sym q; ending-of = λ line r r′ p q. p ∙ sym q; make-record = λ ending places r r′ p q. values-injective r r′ (p ∙ sym q) }
+determined = record { ending-size = λ ending r r′ p q. p ∙ sym q; ending-by = λ n r r′ p q. ending-injective r r′ (p ∙ sym q); line-at = λ s at r r′ p q. lined-paper-injective r r′ (p ∙ sym q); read-line = λ s at r r′ p q. read-paper-injective r r′ (p ∙ sym q); place-of = λ line name r r′ p q. p ∙ sym q; ending-of = λ line r r′ p q. p ∙ sym q; make-record = λ ending places r r′ p q. values-injective r r′ (p ∙ sym q) }

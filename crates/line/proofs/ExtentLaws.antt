@@ -10,15 +10,15 @@ use borrow.Author.Tests.{le-leb, lt-leb}
 use Rattle.text.specs.Answer.{says}
 use Rattle.pieces.specs.Inner.{Quiet, quietLength}
 use Rattle.pieces.proofs.EitherLaws.{either-quiet, either-second}
-use Rattle.line.specs.Line as Line
-use Rattle.line.specs.Line.{nothing, feed, return-feed, endingBytes, endingNumber, fed, lineOf, extentAnswer, lineAtAnswer}
+use Rattle.line.specs.Line.{feed, return-feed, endingBytes, endingNumber, fed, lineOf, extentAnswer, lineAtAnswer}
 use Rattle.line.specs.Paper.{endingOf, linedPaper}
+use Rattle.line.specs.Promises.{NamesEnding}
 use Rattle.line.specs.Demands.{FirstFeed}
-use Rattle.line.specs.Inner.{TextEnd, input, none, bare, return, EndsBetween}
+use Rattle.line.specs.Inner.{TextEnd, input, none, bare, return}
 use Rattle.line.specs.declared.ending.Ending.{Ending}
 use Rattle.line.specs.declared.ending.Ending.the-variants as E
 use Rattle.line.specs.declared.extent.Lined.the-variants as L
-use Rattle.line.proofs.LineLaws.{ending-size, ending-known}
+use Rattle.line.proofs.LineLaws.{ending-sized, named-nothing, named-feed, named-return-feed}
 use Rattle.line.proofs.ColumnLaws.{line-end}
 use Rattle.line.proofs.ReadLaws.{input-end, rest-free, length-last, column, column-length, line-here, Closes, plain, returned, closes}
 
@@ -82,18 +82,20 @@ module _ (s : List ℕ) (at : ℕ) {stop : ℕ} (h : at ≤ length s) (first : s
       text : List ℕ
       text = column s at stop (stop-feed n)
 
-      finds-closed : {x : ℕ} → Closes s at stop (stop-feed n) x → x ≡ end → {r : Ending} → EndsBetween end (stop + 1) r → linedPaper (L.At end r (stop + 1)) ≡ lineAtAnswer s at
+      finds-closed : {x : ℕ} → Closes s at stop (stop-feed n) x → x ≡ end → (r : Ending) → NamesEnding (stop + 1 - end) r → linedPaper (L.At end r (stop + 1)) ≡ lineAtAnswer s at
       unfolding linedPaper extentAnswer endingBytes fed text
-      finds-closed (plain c) q b =
+      finds-closed (plain c) q r b =
           let l : at + length text ≡ end = omega (arith, column-length s at stop (stop-feed n), stop-after) in
           let m : end + 1 ≡ stop + 1 = omega arith in
-          sym (at-inside s at h ∙ rw (line-here s at stop (stop-feed n), c, l, ← b .is feed m, m))
-      finds-closed (returned a c) q b =
+          let k : stop + 1 - end ≡ 1 = omega arith in
+          sym (at-inside s at h ∙ rw (line-here s at stop (stop-feed n), c, l, b, ending-sized feed k, m))
+      finds-closed (returned a c) q r b =
           let l : at + length (dropLast text) ≡ end = omega (arith, length-last text, column-length s at stop (stop-feed n)) in
           let m : end + 2 ≡ stop + 1 = omega arith in
-          sym (at-inside s at h ∙ rw (line-here s at stop (stop-feed n), c, l, ← b .is return-feed m, m))
+          let k : stop + 1 - end ≡ 2 = omega arith in
+          sym (at-inside s at h ∙ rw (line-here s at stop (stop-feed n), c, l, b, ending-sized return-feed k, m))
 
-      pub finds-fed : {r : Ending} → EndsBetween end (stop + 1) r → linedPaper (L.At end r (stop + 1)) ≡ lineAtAnswer s at
+      pub finds-fed : (r : Ending) → NamesEnding (stop + 1 - end) r → linedPaper (L.At end r (stop + 1)) ≡ lineAtAnswer s at
       finds-fed = finds-closed (closes s at stop (stop-feed n) z) refl
 
 -- ---- how many bytes an ending has
@@ -111,27 +113,4 @@ module _ {e : Ending} where
   unfolding endingBytes
   size-return-feed q = rw q
 
--- ---- the ending, by how many bytes it has
-
-module _ {end next : ℕ} (h : end ≤ next) where
-  ends-by : (r : Ending) → ((e : Line.Ending) → endingNumber e ≡ next - end → endingNumber (endingOf r) ≡ endingNumber e) → EndsBetween end next r
-  ends-by r f = record { is = λ e q. ending-known (endingOf r) e (f e (let z = ending-size e in omega arith)) }
-
-  pub ends-nothing : next - end ≡ 0 → EndsBetween end next E.Nothing
-  unfolding endingNumber
-  ends-nothing z = ends-by E.Nothing (λ e q. omega arith)
-
-  pub ends-feed : next - end ≡ 1 → EndsBetween end next E.Feed
-  unfolding endingNumber
-  ends-feed z = ends-by E.Feed (λ e q. omega arith)
-
-  pub ends-return-feed : (next - end ≡ 0 → ⊥) → (next - end ≡ 1 → ⊥) → EndsBetween end next E.ReturnFeed
-  unfolding endingNumber
-  ends-return-feed a b = ends-by E.ReturnFeed by
-    where
-      by : (e : Line.Ending) → endingNumber e ≡ next - end → 2 ≡ endingNumber e
-      by nothing q = absurd (omega arith)
-      by feed q = absurd (omega arith)
-      by return-feed q = refl
-
-pub ruleset laws = (finds-beyond, stop-after, stop-within, stop-inside, ends-before, finds-nothing, finds-fed, size-nothing, size-feed, size-return-feed, ends-nothing, ends-feed, ends-return-feed)
+pub ruleset laws = (finds-beyond, stop-after, stop-within, stop-inside, ends-before, finds-nothing, finds-fed, size-nothing, size-feed, size-return-feed, named-nothing, named-feed, named-return-feed)

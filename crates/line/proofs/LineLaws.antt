@@ -51,6 +51,10 @@ ending-back return-feed = refl
 pub ending-known : (e f : Ending) → endingNumber e ≡ endingNumber f → e ≡ f
 ending-known = LeftInverse·injective endingBy endingNumber ending-back
 
+-- so does how many bytes it has
+pub ending-sized : {n : ℕ} (e : Ending) → n ≡ length (endingBytes e) → endingBy n ≡ e
+ending-sized e q = rw (q, ending-size e) (ending-back e)
+
 module _ {n : ℕ} where
   pub named-nothing : n ≡ 0 → nothing ≡ endingBy n
   unfolding endingBy

@@ -7,9 +7,7 @@ use Rattle.text.specs.declared.range.Range.{Range}
 use Rattle.text.specs.Verdict.{Verdict, fine, refused}
 use Rattle.pieces.specs.Inner.{Quiet}
 use Rattle.pieces.specs.Pieces.{split}
-use Rattle.line.specs.Line.{Ending, endingBytes, Line, line, lineOf, verdict}
-use Rattle.line.specs.Paper.{endingOf}
-use Rattle.line.specs.declared.ending.Ending.{Ending as DeclaredEnding}
+use Rattle.line.specs.Line.{endingBytes, Line, line, lineOf, verdict}
 use Rattle.line.specs.declared.read.Stop.{Stop}
 use Rattle.line.specs.declared.read.Stop.the-variants as S
 use Rattle.line.specs.declared.read.Judged.{Judged}
@@ -38,10 +36,6 @@ pub data TextEnd (s : List ℕ) (start stop : ℕ) : ℕ → Type 0 where
   none : start ≡ stop → TextEnd s start stop stop
   bare : start < stop → (getD s (stop - 1) 0 ≡ 13 → ⊥) → TextEnd s start stop stop
   return : start < stop → stop < length s → getD s (stop - 1) 0 ≡ 13 → TextEnd s start stop (stop - 1)
-
--- r is the ending whose bytes stand between the text's end and the next place
-pub record EndsBetween (end next : ℕ) (r : DeclaredEnding) : Type 0 where
-  pub is : (e : Ending) → end + length (endingBytes e) ≡ next → endingOf r ≡ e
 
 -- ---- how a line's columns are judged
 

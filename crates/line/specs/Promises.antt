@@ -5,7 +5,7 @@ use mathlib.Core.List.{List, _∷_}
 use lib.ListN.{length}
 use Rattle.text.specs.Outcome.{OneAnswer}
 use Rattle.text.specs.declared.range.Range.{Range}
-use Rattle.line.specs.Line.{endingBytes, endingNumber, lineAtAnswer, readAnswer}
+use Rattle.line.specs.Line.{endingBytes, endingNumber, endingBy, lineAtAnswer, readAnswer}
 use Rattle.line.specs.Place.{rangeOf}
 use Rattle.line.specs.Paper.{endingOf, linedPaper, recordValues, readPaper}
 use Rattle.line.specs.declared.ending.Ending.{Ending}
@@ -16,6 +16,9 @@ use Rattle.line.specs.declared.place.Name.{Name}
 
 abbrev pub SizesEnding : Ending → ℕ → Type 0
 SizesEnding ending r = r ≡ length (endingBytes (endingOf ending))
+
+abbrev pub NamesEnding : ℕ → Ending → Type 0
+NamesEnding n r = endingOf r ≡ endingBy n
 
 abbrev pub FindsLine : List ℕ → ℕ → Lined → Type 0
 FindsLine s at r = linedPaper r ≡ lineAtAnswer s at
@@ -34,6 +37,7 @@ MakesRecord ending places r = recordValues r ≡ endingNumber (endingOf ending) 
 
 pub record Determined : Type 0 where
   pub ending-size : (ending : Ending) → OneAnswer (SizesEnding ending)
+  pub ending-by : (n : ℕ) → OneAnswer (NamesEnding n)
   pub line-at : (s : List ℕ) (at : ℕ) → OneAnswer (FindsLine s at)
   pub read-line : (s : List ℕ) (at : ℕ) → OneAnswer (ReadsLine s at)
   pub place-of : (line : Record) (name : Name) → OneAnswer (GivesPlace line name)

@@ -1,8 +1,8 @@
 // How a line ended, and where its text ends.
 ghost use Prim.Native.Nat.{_≤_};
 ghost use lib.ListN.{length};
-ghost use Rattle.line.specs.Inner.{TextEnd, EndsBetween};
-ghost use Rattle.line.specs.Promises.{SizesEnding};
+ghost use Rattle.line.specs.Inner.{TextEnd};
+ghost use Rattle.line.specs.Promises.{SizesEnding, NamesEnding};
 
 pub enum Ending {
     // The end of the input.
@@ -24,6 +24,17 @@ pub fn ending_size(ending: Ending) -> usize
     }
 }
 
+// The ending with a number up to 2, which is also how many bytes it has; any other number is taken for 2.
+pub fn ending_by(n: usize) -> Ending
+    ensures { λ r. ⌜ NamesEnding n r ⌝ }
+{
+    match n {
+        0 => Ending::Nothing,
+        1 => Ending::Feed,
+        _ => Ending::ReturnFeed,
+    }
+}
+
 // Where a text that starts at `start` and stops at an LF, or at the end of the input, has its end: before an LF, and before
 // one CR that stands there. At the end of the input a CR belongs to the text.
 pub(crate) fn text_end(s: &[u8], start: usize, stop: usize) -> usize
@@ -40,16 +51,4 @@ pub(crate) fn text_end(s: &[u8], start: usize, stop: usize) -> usize
         return stop - 1;
     }
     stop
-}
-
-// How a line ended, by where its text ends and the next place: no byte stands between, or one, or two.
-pub(crate) fn ending_between(end: usize, next: usize) -> Ending
-    requires { ⌜ end ≤ next ⌝ }
-    ensures { λ r. ⌜ EndsBetween end next r ⌝ }
-{
-    match next - end {
-        0 => Ending::Nothing,
-        1 => Ending::Feed,
-        _ => Ending::ReturnFeed,
-    }
 }

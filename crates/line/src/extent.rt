@@ -1,6 +1,6 @@
 // The line at a place: where its text ends, how it ended, and where the next one starts.
 use crate::ending::Ending;
-use crate::ending::ending_between;
+use crate::ending::ending_by;
 use crate::ending::text_end;
 use pieces::either::find_either;
 ghost use Rattle.line.specs.Promises.{FindsLine};
@@ -26,5 +26,5 @@ pub fn line_at(s: &[u8], at: usize) -> Lined
         return Lined::At(end, Ending::Nothing, stop);
     }
     let next = stop + 1;
-    Lined::At(end, ending_between(end, next), next)
+    Lined::At(end, ending_by(next - end), next)
 }

@@ -1,6 +1,6 @@
 // Reading a line: where its columns end, whether they are in order, and the places of its fields.
 use crate::ending::Ending;
-use crate::ending::ending_between;
+use crate::ending::ending_by;
 use crate::ending::text_end;
 use pieces::either::find_either;
 use pieces::either::near_end;
@@ -253,7 +253,7 @@ fn finish(s: &[u8], at: usize, end: usize, next: usize, tabs: &[usize]) -> Read
     let checked = check_utf8(&s[at..end]);
     match checked {
         Utf8::Text => {
-            let ending = ending_between(end, next);
+            let ending = ending_by(next - end);
             Read::Line(fields_of(&s[..end], at, tabs, ending), next)
         }
         Utf8::Broken => Read::NotUtf8(next),

@@ -10,6 +10,9 @@ tell-none-requires c κs = search (needs, ending-laws)
 returns : tie.Need-returns
 returns c = search (needs, ending-laws)
 
+size-requires : tie.Need-size-requires
+size-requires c κs = search (needs, ending-laws)
+
 ending-by-requires : tie.Need-ending-by-requires
 ending-by-requires c κs = search (needs, ending-laws)
 
@@ -31,6 +34,7 @@ bruncadorza-join-spec =
     (tie.spec
     tell-none-requires
     returns
+    size-requires
     ending-by-requires
     join-requires
     tell-joined-requires

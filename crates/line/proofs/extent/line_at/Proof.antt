@@ -20,8 +20,11 @@ returns-2 c = search (needs, laws)
 add-next : tie.Need-add-next
 add-next c = omega (arith, stop-inside _ _ (c .before .before .before .if1 .left) (c .before .before .find-either .ensures) (c .if2 .left))
 
-ending-between-requires : tie.Need-ending-between-requires
-ending-between-requires c κs = search (needs, laws)
+sub-ending-by : tie.Need-sub-ending-by
+sub-ending-by c = search (needs, laws)
+
+ending-by-requires : tie.Need-ending-by-requires
+ending-by-requires c κs = search (needs, laws)
 
 returns-3 : tie.Need-returns-3
 returns-3 c = search (needs, laws)
@@ -35,5 +38,6 @@ line-at-spec =
     text-end-requires
     returns-2
     add-next
-    ending-between-requires
+    sub-ending-by
+    ending-by-requires
     returns-3)

@@ -19,8 +19,11 @@ check-utf8-requires c κs = search (needs, laws)
 enum-told : tie.Need-enum-told
 enum-told c = search (needs, laws)
 
-ending-between-requires : tie.Need-ending-between-requires
-ending-between-requires c κs = search (needs, laws)
+sub-ending-by : tie.Need-sub-ending-by
+sub-ending-by c = search (needs, laws)
+
+ending-by-requires : tie.Need-ending-by-requires
+ending-by-requires c κs = search (needs, laws)
 
 slice-aggregate-fields-of : tie.Need-slice-aggregate-fields-of
 slice-aggregate-fields-of c = search (needs, laws)
@@ -46,7 +49,8 @@ finish-spec =
     part-check-utf8-end
     check-utf8-requires
     enum-told
-    ending-between-requires
+    sub-ending-by
+    ending-by-requires
     slice-aggregate-fields-of
     fields-of-requires
     enum-told-2
