@@ -32,7 +32,7 @@ endingNumber nothing = 0
 endingNumber feed = 1
 endingNumber return-feed = 2
 
--- the ending with this number
+-- the ending with this number; one above 2 is taken for 2
 unfoldable pub endingBy : ℕ → Ending
 endingBy n = getD (nothing ∷ feed ∷ []) n return-feed
 
