@@ -7,7 +7,7 @@ use mathlib.Core.List.{List, [], _∷_, _++_}
 use native.Mathlib.Omega.{arith}
 use lib.ListN.{length, getD, replicate, take, drop, length-append, length-drop}
 use lib.Seq.{take-at, length-take-le}
-use Rattle.text.specs.Answer.{says}
+use Rattle.text.specs.Answer.{says, numberOf}
 use Rattle.text.specs.Utf8.{utf8Answer}
 use Rattle.text.specs.Paper.{utf8Paper}
 use Rattle.text.specs.declared.utf8.Utf8.{Utf8}
@@ -19,9 +19,9 @@ use Rattle.pieces.specs.Pieces.{split}
 use Rattle.pieces.proofs.PieceLaws.{split-some}
 use Rattle.line.specs.Line.{Ending, endingBytes, endingNumber, Line, line, lineOf, verdict, fieldPlaces, allUtf8, judgedAnswer, lineAnswer, readAnswer}
 use Rattle.line.specs.Paper.{endingOf, recordValues, readPaper}
-use Rattle.line.specs.Promises.{NamesEnding}
+use Rattle.line.specs.Promises.{NamesEnding, KeepsNumbers}
 use Rattle.line.specs.Demands.{ByColumns}
-use Rattle.line.specs.Inner.{accepted, denied, judgement, judgementOf, judgedPaper, InOrder, Unset, Marks, Told}
+use Rattle.line.specs.Inner.{accepted, denied, judgement, judgementOf, judgedPaper, InOrder, Unset, Marks, Told, Fields}
 use Rattle.line.specs.declared.ending.Ending.{Ending as DeclaredEnding}
 use Rattle.line.specs.declared.read.Record.{Record}
 use Rattle.line.specs.declared.read.Read.{Read}
@@ -106,17 +106,17 @@ module _ {s : List ℕ} {at end next : ℕ} (g : InOrder s at end next) where
   line-judged o = rw (o .is, o .ends, o .past, o .order)
 
   module _ {x : Utf8} (u : utf8Paper x ≡ utf8Answer (take (end - at) (drop at s))) where
-    pub finish-line : (r : Record) (y : DeclaredEnding) → x ≡ U.Text → NamesEnding (next - end) y
-        → recordValues r ≡ endingNumber (endingOf y) ∷ fieldPlaces at (split 9 (drop at (take end s))) (length (take end s))
+    pub finish-line : (r : Record) (y : DeclaredEnding) → x ≡ U.Text → NamesEnding (next - end) y → Fields (take end s) at y r
         → readPaper (R.Line r next) ≡ lineAnswer at (lineOf (drop at s))
-    unfolding readPaper judgedAnswer ByColumns
-    finish-line r y q b p = by (ordered g)
+    unfolding readPaper recordValues judgedAnswer ByColumns
+    finish-line r y q b f = by (ordered g)
       where
         by : Ordered s at end next → readPaper (R.Line r next) ≡ lineAnswer at (lineOf (drop at s))
         by o =
             let v : allUtf8 (split 9 (o .text)) ≡ true = sym (by-columns (o .text)) ∙ told-text (o .text) (rw (q, o .stands) at u) in
             let d : endingOf y ≡ o .ending = b ∙ ending-sized (o .ending) (let z = o .past in omega arith) in
-            rw (line-judged o, v, p, d, text-cut o, length-take-le end s (o .within))
+            let n : endingNumber (endingOf (r .ending)) ≡ endingNumber (o .ending) = ap (λ (x : DeclaredEnding). endingNumber (endingOf x)) (f .ends) ∙ ap endingNumber d in
+            rw (line-judged o, v, n, f .places, text-cut o, length-take-le end s (o .within))
 
     pub finish-broken : x ≡ U.Broken → readPaper (R.NotUtf8 next) ≡ lineAnswer at (lineOf (drop at s))
     unfolding readPaper judgedAnswer ByColumns
@@ -126,6 +126,40 @@ module _ {s : List ℕ} {at end next : ℕ} (g : InOrder s at end next) where
         by o =
             let v : allUtf8 (split 9 (o .text)) ≡ false = sym (by-columns (o .text)) ∙ told-broken (o .text) (rw (q, o .stands) at u) in
             rw (line-judged o, v)
+
+-- a record that has the numbers of its places keeps them in the answer
+pub finish-numbers : {t : List ℕ} {at : ℕ} {y : DeclaredEnding} {r : Record} (next : ℕ) → Fields t at y r → KeepsNumbers (R.Line r next)
+finish-numbers {r = r} next f r′ n e = let d : r ≡ r′ = cc in rw d at (f .numbers)
+
+-- a refusal has none
+refused-numbers : (x : Read) → (numberOf (readPaper x) ≡ 0 → ⊥) → KeepsNumbers x
+unfolding readPaper
+refused-numbers x h r next e = absurd (h (ap (λ (y : Read). numberOf (readPaper y)) e))
+
+module _ (next : ℕ) where
+  pub keeps-end : KeepsNumbers (R.End next)
+  unfolding readPaper
+  keeps-end = refused-numbers (R.End next) (λ z. omega arith)
+
+  pub keeps-empty : KeepsNumbers (R.Empty next)
+  unfolding readPaper
+  keeps-empty = refused-numbers (R.Empty next) (λ z. omega arith)
+
+  pub keeps-fed : KeepsNumbers (R.Fed next)
+  unfolding readPaper
+  keeps-fed = refused-numbers (R.Fed next) (λ z. omega arith)
+
+  pub keeps-cut : KeepsNumbers (R.Cut next)
+  unfolding readPaper
+  keeps-cut = refused-numbers (R.Cut next) (λ z. omega arith)
+
+  pub keeps-broken : KeepsNumbers (R.NotUtf8 next)
+  unfolding readPaper
+  keeps-broken = refused-numbers (R.NotUtf8 next) (λ z. omega arith)
+
+  pub keeps-beyond : KeepsNumbers (R.Beyond next)
+  unfolding readPaper
+  keeps-beyond = refused-numbers (R.Beyond next) (λ z. omega arith)
 
 -- ---- the reader
 
@@ -194,4 +228,4 @@ module _ (s : List ℕ) (at : ℕ) where
       unfolding readPaper judgedPaper
       reads-cut q = refusal (rw q)
 
-pub ruleset laws = (order-after, order-within, order-next, order-count, finish-line, finish-broken, reads-unset, reads-beyond, reads-end, reads-line, reads-ordered, reads-told, reads-empty, reads-fed, reads-cut)
+pub ruleset laws = (order-after, order-within, order-next, order-count, finish-line, finish-numbers, finish-broken, keeps-end, keeps-empty, keeps-fed, keeps-cut, keeps-broken, keeps-beyond, reads-unset, reads-beyond, reads-end, reads-line, reads-ordered, reads-told, reads-empty, reads-fed, reads-cut)

@@ -18,7 +18,7 @@ module _ {x : Read} where
 
   -- the same, value by value
   pub read-line : {r : Record} {next : ℕ} → x ≡ R.Line r next → readPaper x ≡ says 0 (next ∷ endingNumber (endingOf (r .ending)) ∷ rangeOf r N.Chrom .start ∷ rangeOf r N.Chrom .len ∷ rangeOf r N.Pos .start ∷ rangeOf r N.Pos .len ∷ rangeOf r N.Id .start ∷ rangeOf r N.Id .len ∷ rangeOf r N.Reference .start ∷ rangeOf r N.Reference .len ∷ rangeOf r N.Alt .start ∷ rangeOf r N.Alt .len ∷ rangeOf r N.Qual .start ∷ rangeOf r N.Qual .len ∷ rangeOf r N.Filter .start ∷ rangeOf r N.Filter .len ∷ rangeOf r N.Info .start ∷ rangeOf r N.Info .len ∷ rangeOf r N.Format .start ∷ rangeOf r N.Format .len ∷ rangeOf r N.Samples .start ∷ rangeOf r N.Samples .len ∷ [])
-  unfolding readPaper recordValues recordPlaces rangeOf
+  unfolding readPaper recordValues recordPlaces
   read-line e = rw e
 
   pub read-end : {next : ℕ} → x ≡ R.End next → readPaper x ≡ says 1 (next ∷ [])

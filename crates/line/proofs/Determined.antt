@@ -1,15 +1,15 @@
--- Two outcomes that a contract of this crate allows are equal: each can be read back from its paper, so no two have one paper. Assumes nothing.
+-- Two outcomes that a contract of this crate allows are equal: each can be read back from its paper, so no two have one paper; a
+-- record from the numbers of its places. Assumes nothing.
 use Prim.Native.Nat.{ℕ}
-use mathlib.Core.Path.{_≡_, refl, sym, _∙_}
+use mathlib.Core.Path.{_≡_, refl, sym, ap, _∙_}
 use mathlib.Core.List.{List, [], _∷_}
 use mathlib.Mathlib.Logic.Function.Defs.{LeftInverse·injective}
 use lib.ListN.{getD, drop}
 use Rattle.text.specs.Answer.{Answer, says}
-use Rattle.text.specs.declared.range.Range.{Range}
 use Rattle.line.specs.Line as Line
-use Rattle.line.specs.Line.{endingNumber}
-use Rattle.line.specs.Paper.{endingOf, linedPaper, recordPlaces, recordValues, readPaper}
-use Rattle.line.specs.Promises.{Determined}
+use Rattle.line.specs.Line.{endingNumber, numbersOf}
+use Rattle.line.specs.Paper.{endingOf, linedPaper, recordValues, recordNumbers, readPaper}
+use Rattle.line.specs.Promises.{KeepsNumbers, Determined}
 use Rattle.line.specs.declared.ending.Ending.{Ending}
 use Rattle.line.specs.declared.ending.Ending.the-variants as E
 use Rattle.line.specs.declared.extent.Lined.{Lined}
@@ -50,52 +50,61 @@ lined-paper-injective = LeftInverse·injective linedOf linedPaper lined-back
 
 -- ---- a record, and what reading finds
 
--- the range whose start is value k, and whose length is value m
-rangeAt : List ℕ → ℕ → ℕ → Range
-rangeAt l k m = record { start = getD l k 0; len = getD l m 0 }
-
-recordOf : List ℕ → Record
-recordOf l =
+-- by its ending and its numbers
+recordOf : Ending → List ℕ → Record
+recordOf ending l =
     record {
-      ending = declaredBy (getD l 0 0);
-      chrom = rangeAt l 1 2;
-      pos = rangeAt l 3 4;
-      id = rangeAt l 5 6;
-      reference = rangeAt l 7 8;
-      alt = rangeAt l 9 10;
-      qual = rangeAt l 11 12;
-      filter = rangeAt l 13 14;
-      info = rangeAt l 15 16;
-      format = rangeAt l 17 18;
-      samples = rangeAt l 19 20;
+      ending = ending;
+      start = getD l 0 0;
+      chrom = getD l 1 0;
+      pos = getD l 2 0;
+      id = getD l 3 0;
+      reference = getD l 4 0;
+      alt = getD l 5 0;
+      qual = getD l 6 0;
+      filter = getD l 7 0;
+      info = getD l 8 0;
+      format = getD l 9 0;
+      end = getD l 10 0;
     }
 
-record-back : (r : Record) → recordOf (recordValues r) ≡ r
-unfolding recordOf rangeAt recordValues recordPlaces
-record-back r = rw (ending-back (r .ending))
+record-back : (r : Record) → recordOf (r .ending) (recordNumbers r) ≡ r
+unfolding recordOf recordNumbers
+record-back r = refl
 
-pub values-injective : (r r′ : Record) → recordValues r ≡ recordValues r′ → r ≡ r′
-values-injective = LeftInverse·injective recordOf recordValues record-back
+pub form-injective : (r r′ : Record) → r .ending ≡ r′ .ending → recordNumbers r ≡ recordNumbers r′ → r ≡ r′
+form-injective r r′ p q = sym (record-back r) ∙ ap (λ (e : Ending). recordOf e (recordNumbers r)) p ∙ ap (recordOf (r′ .ending)) q ∙ record-back r′
 
--- by the answer's number; the first value is the next place
+-- by the answer's number; the first value is the next place, the second the ending, and behind it are the places
 readBy : ℕ → List ℕ → ℕ → Read
-readBy n l next = getD (R.Line (recordOf (drop 1 l)) next ∷ R.End next ∷ R.Empty next ∷ R.Fed next ∷ R.Cut next ∷ R.NotUtf8 next ∷ []) n (R.Beyond next)
+readBy n l next =
+    getD (R.Line (recordOf (declaredBy (getD l 1 0)) (numbersOf (drop 2 l))) next ∷ R.End next ∷ R.Empty next ∷ R.Fed next ∷ R.Cut next ∷ R.NotUtf8 next ∷ []) n (R.Beyond next)
 
 readOf : Answer → Read
 readOf (says n l) = readBy n l (getD l 0 0)
 
-read-back : (x : Read) → readOf (readPaper x) ≡ x
-unfolding readOf readBy readPaper
-read-back (R.Line r next) = rw (record-back r)
-read-back (R.End next) = refl
-read-back (R.Empty next) = refl
-read-back (R.Fed next) = refl
-read-back (R.Cut next) = refl
-read-back (R.NotUtf8 next) = refl
-read-back (R.Beyond next) = refl
+read-back : (x : Read) → KeepsNumbers x → readOf (readPaper x) ≡ x
+unfolding readOf readBy readPaper recordValues
+read-back (R.Line r next) k = rw (ending-back (r .ending), ← k r next refl, record-back r)
+read-back (R.End next) k = refl
+read-back (R.Empty next) k = refl
+read-back (R.Fed next) k = refl
+read-back (R.Cut next) k = refl
+read-back (R.NotUtf8 next) k = refl
+read-back (R.Beyond next) k = refl
 
-pub read-paper-injective : (r r′ : Read) → readPaper r ≡ readPaper r′ → r ≡ r′
-read-paper-injective = LeftInverse·injective readOf readPaper read-back
+pub read-paper-injective : (x y : Read) → KeepsNumbers x → KeepsNumbers y → readPaper x ≡ readPaper y → x ≡ y
+read-paper-injective x y k m e = sym (read-back x k) ∙ ap readOf e ∙ read-back y m
 
 pub determined : Determined
-determined = record { ending-size = λ ending r r′ p q. p ∙ sym q; ending-by = λ n r r′ p q. ending-injective r r′ (p ∙ sym q); line-at = λ s at r r′ p q. lined-paper-injective r r′ (p ∙ sym q); read-line = λ s at r r′ p q. read-paper-injective r r′ (p ∙ sym q); place-of = λ line name r r′ p q. p ∙ sym q; ending-of = λ line r r′ p q. p ∙ sym q; make-record = λ ending places r r′ p q. values-injective r r′ (p ∙ sym q) }
+determined =
+    record {
+      ending-size = λ ending r r′ p q. p ∙ sym q;
+      ending-by = λ n r r′ p q. ending-injective r r′ (p ∙ sym q);
+      line-at = λ s at r r′ p q. lined-paper-injective r r′ (p ∙ sym q);
+      read-line = λ s at r r′ p q. read-paper-injective r r′ (p .1) (q .1) (p .0 ∙ sym (q .0));
+      place-of = λ line name r r′ p q. p ∙ sym q;
+      ending-of = λ line r r′ p q. p ∙ sym q;
+      numbers-of = λ line r r′ p q. p ∙ sym q;
+      make-record = λ ending numbers r r′ p q. form-injective r r′ (p .0 ∙ sym (q .0)) (p .1 ∙ sym (q .1));
+    }

@@ -20,9 +20,7 @@ use Rattle.pieces.proofs.PieceLaws.{split-back, joined-none, joined-one, joined
 use Rattle.line.specs.Line.{Ending, endingBytes, endingNumber, line, lineOf, readAnswer}
 use Rattle.line.specs.Place.{rangeOf, columnNumber, columnOf, columnStart}
 use Rattle.line.specs.Paper.{endingOf, recordPlaces, recordValues}
-use Rattle.line.specs.Promises.{GivesPlace, MakesRecord}
 use Rattle.line.specs.Demands.{Column, Begins, Lies, TenPlaces, Stands, One, TellsEnding}
-use Rattle.line.specs.declared.ending.Ending.{Ending as DeclaredEnding}
 use Rattle.line.specs.declared.read.Record.{Record}
 use Rattle.line.specs.declared.place.Name.{Name}
 use Rattle.line.specs.declared.place.Name.the-variants as N
@@ -117,7 +115,7 @@ empty-lies {s} {x} h z = record { fits = omega arith; text = cut-is (x .start) (
 
 -- a field is the place of its column's number
 range-place : (r : Record) (n : Name) → Lies (recordPlaces r) (columnNumber n) (rangeOf r n .start) (rangeOf r n .len)
-unfolding recordPlaces rangeOf
+unfolding recordPlaces
 range-place r N.Chrom = record { starts = refl; sized = refl }
 range-place r N.Pos = record { starts = refl; sized = refl }
 range-place r N.Id = record { starts = refl; sized = refl }
@@ -128,11 +126,6 @@ range-place r N.Filter = record { starts = refl; sized = refl }
 range-place r N.Info = record { starts = refl; sized = refl }
 range-place r N.Format = record { starts = refl; sized = refl }
 range-place r N.Samples = record { starts = refl; sized = refl }
-
--- so is one of a record that was made from numbers
-pub made-place : (ending : DeclaredEnding) {places : List ℕ} (r : Record) (n : Name) {x : Range} → MakesRecord ending places r → GivesPlace r n x → Lies places (columnNumber n) (x .start) (x .len)
-unfolding recordValues
-made-place ending {places} r n e q = let p : recordPlaces r ≡ places = cc in rw (p, ← q) at (range-place r n)
 
 -- what stands behind the first eight places
 behind : (places : List ℕ) {l : List ℕ} → drop 16 places ≡ l → (j : ℕ) → getD places (16 + j) 0 ≡ getD l j 0

@@ -3,11 +3,13 @@ use Prim.Native.Nat.{ℕ, zero, suc, _+_, _-_, _<_, _≤_}
 use mathlib.Core.Path.{_≡_}
 use mathlib.Core.List.{List, [], _∷_, _++_}
 use lib.ListN.{length, getD, take, drop}
-use Rattle.text.specs.declared.range.Range.{Range}
 use Rattle.text.specs.Verdict.{Verdict, fine, refused}
 use Rattle.pieces.specs.Inner.{Quiet}
 use Rattle.pieces.specs.Pieces.{split}
-use Rattle.line.specs.Line.{endingBytes, Line, line, lineOf, verdict}
+use Rattle.line.specs.Line.{endingBytes, Line, line, lineOf, verdict, fieldPlaces, numbersOf}
+use Rattle.line.specs.Paper.{recordPlaces, recordNumbers}
+use Rattle.line.specs.declared.ending.Ending.{Ending}
+use Rattle.line.specs.declared.read.Record.{Record}
 use Rattle.line.specs.declared.read.Stop.{Stop}
 use Rattle.line.specs.declared.read.Stop.the-variants as S
 use Rattle.line.specs.declared.read.Judged.{Judged}
@@ -95,34 +97,28 @@ pub record Told (t : List ℕ) (at : ℕ) (tabs : List ℕ) : Type 0 where
 pub record Marks (s : List ℕ) (at : ℕ) (r : Judged) (tabs : List ℕ) : Type 0 where
   pub told : (end next : ℕ) → r ≡ J.Fine end next → Told (take end s) at tabs
 
--- ---- the places of the fields, by the tabs
+-- ---- the record of a line, by the tabs
 
--- r goes from one place to another
-pub record Spans (start end : ℕ) (r : Range) : Type 0 where
-  pub starts : r .start ≡ start
-  pub size : r .len ≡ end - start
+-- the tabs end the first seven fields
+abbrev pub recordBy : Ending → ℕ → List ℕ → ℕ → ℕ → ℕ → Record
+recordBy ending at tabs info format end =
+    record {
+      ending = ending;
+      start = at;
+      chrom = getD tabs 0 0;
+      pos = getD tabs 1 0;
+      id = getD tabs 2 0;
+      reference = getD tabs 3 0;
+      alt = getD tabs 4 0;
+      qual = getD tabs 5 0;
+      filter = getD tabs 6 0;
+      info = info;
+      format = format;
+      end = end;
+    }
 
--- the first seven tabs stand behind each other
-pub record Rising (at : ℕ) (tabs : List ℕ) : Type 0 where
-  pub size : length tabs ≡ 9
-  pub chrom : at ≤ getD tabs 0 0
-  pub pos : getD tabs 0 0 < getD tabs 1 0
-  pub id : getD tabs 1 0 < getD tabs 2 0
-  pub reference : getD tabs 2 0 < getD tabs 3 0
-  pub alt : getD tabs 3 0 < getD tabs 4 0
-  pub qual : getD tabs 4 0 < getD tabs 5 0
-  pub filter : getD tabs 5 0 < getD tabs 6 0
-
--- the column past the first j tabs, which the next tab ends
-unfoldable pub tabPlaces : ℕ → List ℕ → ℕ → List ℕ
-tabPlaces at tabs j = startOf at tabs j ∷ (getD tabs j 0 - startOf at tabs j) ∷ []
-
-unfoldable pub sevenPlaces : ℕ → List ℕ → List ℕ
-sevenPlaces at tabs =
-    tabPlaces at tabs 0
-    ++ tabPlaces at tabs 1
-    ++ tabPlaces at tabs 2
-    ++ tabPlaces at tabs 3
-    ++ tabPlaces at tabs 4
-    ++ tabPlaces at tabs 5
-    ++ tabPlaces at tabs 6
+-- it has the places of the columns of the line that starts at `at` in t, and ends where t ends
+pub record Fields (t : List ℕ) (at : ℕ) (ending : Ending) (r : Record) : Type 0 where
+  pub ends : r .ending ≡ ending
+  pub places : recordPlaces r ≡ fieldPlaces at (split 9 (drop at t)) (length t)
+  pub numbers : recordNumbers r ≡ numbersOf (recordPlaces r)

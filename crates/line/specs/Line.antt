@@ -91,6 +91,16 @@ leadingPlaces (suc n) from (c ∷ cs) = from ∷ length c ∷ leadingPlaces n (f
 unfoldable pub fieldPlaces : ℕ → List (List ℕ) → ℕ → List ℕ
 fieldPlaces from cs end = pick (eqb (length cs) 8) (leadingPlaces 8 from cs ++ end ∷ 0 ∷ end ∷ 0 ∷ []) (leadingPlaces 9 from cs)
 
+-- where each field ends, by starts and lengths
+unfoldable pub endsOf : List ℕ → List ℕ
+endsOf [] = []
+endsOf (start ∷ []) = []
+endsOf (start ∷ len ∷ places) = (start + len) ∷ endsOf places
+
+-- the same places in fewer numbers: the line's start, and where each field ends; the samples end where the text does
+unfoldable pub numbersOf : List ℕ → List ℕ
+numbersOf places = getD places 0 0 ∷ endsOf places
+
 -- ---- the answer
 
 unfoldable pub allUtf8 : List (List ℕ) → Bool

@@ -4,6 +4,7 @@ use mathlib.Core.List.{List, [], _∷_, _++_}
 use Rattle.text.specs.Answer.{Answer, says}
 use Rattle.text.specs.Range.{rangePlaces}
 use Rattle.line.specs.Line.{Ending, nothing, feed, return-feed, endingNumber}
+use Rattle.line.specs.Place.{rangeOf}
 use Rattle.line.specs.declared.ending.Ending.{Ending as DeclaredEnding}
 use Rattle.line.specs.declared.ending.Ending.the-variants as E
 use Rattle.line.specs.declared.extent.Lined.{Lined}
@@ -11,6 +12,7 @@ use Rattle.line.specs.declared.extent.Lined.the-variants as L
 use Rattle.line.specs.declared.read.Record.{Record}
 use Rattle.line.specs.declared.read.Read.{Read}
 use Rattle.line.specs.declared.read.Read.the-variants as R
+use Rattle.line.specs.declared.place.Name.the-variants as N
 
 -- how a line ended, in the words of the definition
 abbrev pub endingOf : DeclaredEnding → Ending
@@ -25,20 +27,24 @@ linedPaper L.Beyond = says 6 []
 -- the starts and lengths of the ten fields
 unfoldable pub recordPlaces : Record → List ℕ
 recordPlaces r =
-    rangePlaces (r .chrom)
-    ++ rangePlaces (r .pos)
-    ++ rangePlaces (r .id)
-    ++ rangePlaces (r .reference)
-    ++ rangePlaces (r .alt)
-    ++ rangePlaces (r .qual)
-    ++ rangePlaces (r .filter)
-    ++ rangePlaces (r .info)
-    ++ rangePlaces (r .format)
-    ++ rangePlaces (r .samples)
+    rangePlaces (rangeOf r N.Chrom)
+    ++ rangePlaces (rangeOf r N.Pos)
+    ++ rangePlaces (rangeOf r N.Id)
+    ++ rangePlaces (rangeOf r N.Reference)
+    ++ rangePlaces (rangeOf r N.Alt)
+    ++ rangePlaces (rangeOf r N.Qual)
+    ++ rangePlaces (rangeOf r N.Filter)
+    ++ rangePlaces (rangeOf r N.Info)
+    ++ rangePlaces (rangeOf r N.Format)
+    ++ rangePlaces (rangeOf r N.Samples)
 
 -- how its line ended, and those
 unfoldable pub recordValues : Record → List ℕ
 recordValues r = endingNumber (endingOf (r .ending)) ∷ recordPlaces r
+
+-- the numbers that a record has
+unfoldable pub recordNumbers : Record → List ℕ
+recordNumbers r = r .start ∷ r .chrom ∷ r .pos ∷ r .id ∷ r .reference ∷ r .alt ∷ r .qual ∷ r .filter ∷ r .info ∷ r .format ∷ r .end ∷ []
 
 unfoldable pub readPaper : Read → Answer
 readPaper (R.Line r next) = says 0 (next ∷ recordValues r)

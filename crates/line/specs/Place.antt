@@ -1,9 +1,10 @@
 -- The place of each field of a line that was read, and which of the line's columns it is (docs/RULES.md, "A line"). Assumes nothing.
-use Prim.Native.Nat.{ℕ}
+use Prim.Native.Nat.{ℕ, _+_, _-_}
 use mathlib.Core.List.{List, []}
 use lib.ListN.{length, getD, drop}
-use lib.Dec.{eqb, ltb}
+use lib.Dec.{eqb, leb, ltb}
 use Rattle.text.specs.Pick.{pick}
+use Rattle.text.specs.Range.{rangeAt}
 use Rattle.text.specs.declared.range.Range.{Range}
 use Rattle.pieces.specs.Pieces.{joined}
 use Rattle.pieces.specs.Demands.{startIn}
@@ -13,17 +14,30 @@ use Rattle.line.specs.declared.place.Name.the-variants as N
 
 -- ---- as the record has it
 
+-- a place that no input reaches: no slice is so long
+unfoldable pub nowhere : Range
+nowhere = rangeAt 18446744073709551615 0
+
+-- from a start to an end; where the end lies before the start there is no place
+unfoldable pub span : ℕ → ℕ → Range
+span start end = pick (leb start end) (rangeAt start (end - start)) nowhere
+
+-- where FORMAT and the samples start, by the end before: past one tab, or at it where there is no FORMAT, as then the ninth end is INFO's
+unfoldable pub passed : Record → ℕ → ℕ
+passed r before = pick (eqb (r .format) (r .info)) before (before + 1)
+
+-- each field from past one tab after the end before it
 unfoldable pub rangeOf : Record → Name → Range
-rangeOf r N.Chrom = r .chrom
-rangeOf r N.Pos = r .pos
-rangeOf r N.Id = r .id
-rangeOf r N.Reference = r .reference
-rangeOf r N.Alt = r .alt
-rangeOf r N.Qual = r .qual
-rangeOf r N.Filter = r .filter
-rangeOf r N.Info = r .info
-rangeOf r N.Format = r .format
-rangeOf r N.Samples = r .samples
+rangeOf r N.Chrom = span (r .start) (r .chrom)
+rangeOf r N.Pos = span (r .chrom + 1) (r .pos)
+rangeOf r N.Id = span (r .pos + 1) (r .id)
+rangeOf r N.Reference = span (r .id + 1) (r .reference)
+rangeOf r N.Alt = span (r .reference + 1) (r .alt)
+rangeOf r N.Qual = span (r .alt + 1) (r .qual)
+rangeOf r N.Filter = span (r .qual + 1) (r .filter)
+rangeOf r N.Info = span (r .filter + 1) (r .info)
+rangeOf r N.Format = span (passed r (r .info)) (r .format)
+rangeOf r N.Samples = span (passed r (r .format)) (r .end)
 
 -- ---- as the line has it
 

@@ -1,10 +1,11 @@
-// The place of each field of a line that was read, how it ended, and a record by these.
+// The place of each field of a line that was read, how it ended, and the numbers of its record.
 use crate::ending::Ending;
 use crate::read::Record;
 use text::range::Range;
 ghost use mathlib.Core.Path.{_≡_};
-ghost use Rattle.text.specs.Range.{rangeAt};
-ghost use Rattle.line.specs.Promises.{GivesPlace, GivesEnding, MakesRecord};
+ghost use Prim.Native.Nat.{_+_};
+ghost use Rattle.line.specs.Place.{nowhere, span, passed};
+ghost use Rattle.line.specs.Promises.{GivesPlace, GivesEnding, GivesNumbers, MakesRecord};
 
 // The ten fields of a line.
 pub enum Name {
@@ -20,21 +21,64 @@ pub enum Name {
     Samples,
 }
 
+// A place that no input reaches.
+fn no_place() -> Range
+    ensures { λ r. ⌜ r ≡ nowhere ⌝ }
+{
+    Range {
+        start: usize::MAX,
+        len: 0,
+    }
+}
+
+// The place from a start to an end. Where the end lies before the start there is none.
+fn span_of(start: usize, end: usize) -> Range
+    ensures { λ r. ⌜ r ≡ span start end ⌝ }
+{
+    if end < start {
+        return no_place();
+    }
+    Range {
+        start,
+        len: end - start,
+    }
+}
+
+// The same from past one tab after the end before it.
+fn past_tab(before: usize, end: usize) -> Range
+    ensures { λ r. ⌜ r ≡ span (before + 1) end ⌝ }
+{
+    if end <= before {
+        return no_place();
+    }
+    span_of(before + 1, end)
+}
+
+// The place of FORMAT, or of the samples.
+fn past_info(line: Record, before: usize, end: usize) -> Range
+    ensures { λ r. ⌜ r ≡ span (passed line before) end ⌝ }
+{
+    if line.format == line.info {
+        return span_of(before, end);
+    }
+    past_tab(before, end)
+}
+
 // The place of a field of the record's line, a `.` as it stands.
 pub fn place_of(line: Record, name: Name) -> Range
     ensures { λ r. ⌜ GivesPlace line name r ⌝ }
 {
     match name {
-        Name::Chrom => line.chrom,
-        Name::Pos => line.pos,
-        Name::Id => line.id,
-        Name::Reference => line.reference,
-        Name::Alt => line.alt,
-        Name::Qual => line.qual,
-        Name::Filter => line.filter,
-        Name::Info => line.info,
-        Name::Format => line.format,
-        Name::Samples => line.samples,
+        Name::Chrom => span_of(line.start, line.chrom),
+        Name::Pos => past_tab(line.chrom, line.pos),
+        Name::Id => past_tab(line.pos, line.id),
+        Name::Reference => past_tab(line.id, line.reference),
+        Name::Alt => past_tab(line.reference, line.alt),
+        Name::Qual => past_tab(line.alt, line.qual),
+        Name::Filter => past_tab(line.qual, line.filter),
+        Name::Info => past_tab(line.filter, line.info),
+        Name::Format => past_info(line, line.info, line.format),
+        Name::Samples => past_info(line, line.format, line.end),
     }
 }
 
@@ -45,27 +89,41 @@ pub fn ending_of(line: Record) -> Ending
     line.ending
 }
 
-fn range_of(start: usize, len: usize) -> Range
-    ensures { λ r. ⌜ r ≡ rangeAt start len ⌝ }
+// The numbers of a record: where its line's text starts, where each of the first nine fields ends, and where the text ends.
+pub fn numbers_of(line: Record) -> [usize; 11]
+    ensures { λ r. ⌜ GivesNumbers line r ⌝ }
 {
-    Range { start, len }
+    [
+        line.start,
+        line.chrom,
+        line.pos,
+        line.id,
+        line.reference,
+        line.alt,
+        line.qual,
+        line.filter,
+        line.info,
+        line.format,
+        line.end,
+    ]
 }
 
-// The record of a line by how it ended, and by the start and the length of each of its ten fields, in order.
-pub fn make_record(ending: Ending, places: [usize; 20]) -> Record
-    ensures { λ r. ⌜ MakesRecord ending places r ⌝ }
+// The record with an ending and these numbers, whatever they are.
+pub fn make_record(ending: Ending, numbers: [usize; 11]) -> Record
+    ensures { λ r. ⌜ MakesRecord ending numbers r ⌝ }
 {
     Record {
         ending,
-        chrom: range_of(places[0], places[1]),
-        pos: range_of(places[2], places[3]),
-        id: range_of(places[4], places[5]),
-        reference: range_of(places[6], places[7]),
-        alt: range_of(places[8], places[9]),
-        qual: range_of(places[10], places[11]),
-        filter: range_of(places[12], places[13]),
-        info: range_of(places[14], places[15]),
-        format: range_of(places[16], places[17]),
-        samples: range_of(places[18], places[19]),
+        start: numbers[0],
+        chrom: numbers[1],
+        pos: numbers[2],
+        id: numbers[3],
+        reference: numbers[4],
+        alt: numbers[5],
+        qual: numbers[6],
+        filter: numbers[7],
+        info: numbers[8],
+        format: numbers[9],
+        end: numbers[10],
     }
 }

@@ -4,33 +4,32 @@ use crate::ending::ending_by;
 use crate::ending::text_end;
 use pieces::either::find_either;
 use pieces::either::near_end;
-use text::range::Range;
 use text::utf8::Utf8;
 use text::utf8::check_utf8;
 ghost use mathlib.Core.Path.{_≡_};
-ghost use Prim.Native.Nat.{_+_, _-_, _≤_, _<_};
-ghost use mathlib.Core.List.{_∷_, _++_};
+ghost use Prim.Native.Nat.{_-_, _≤_};
 ghost use lib.ListN.{length, take, drop, set};
-ghost use Rattle.text.specs.Range.{rangePlaces};
-ghost use Rattle.pieces.specs.Pieces.{split};
-ghost use Rattle.line.specs.Line.{endingNumber, required, lineOf, fieldPlaces, lineAnswer};
-ghost use Rattle.line.specs.Paper.{endingOf, recordValues, readPaper};
-ghost use Rattle.line.specs.Promises.{ReadsLine};
-ghost use Rattle.line.specs.Inner.{StopsAt, Stopped, Clear, judgementOf, judgedPaper, Unset, Marks, Spans, Rising, sevenPlaces, Told, InOrder};
+ghost use Rattle.line.specs.Line.{required, lineOf, lineAnswer};
+ghost use Rattle.line.specs.Paper.{readPaper};
+ghost use Rattle.line.specs.Promises.{ReadsLine, KeepsNumbers};
+ghost use Rattle.line.specs.Inner.{StopsAt, Stopped, Clear, judgementOf, judgedPaper, Unset, Marks, Told, recordBy, Fields, InOrder};
 
-// How a line ended, and the places of its ten fields. Others ask for them by `ending_of` and `place_of`.
+// A line's record: how it ended, where its text starts, where each of its first nine fields ends, and where its text ends. Each
+// field starts past one tab after the end before it. Without FORMAT the ninth end is INFO's, and no tab is passed. Others ask for
+// its ending by `ending_of` and for a field's place by `place_of`.
 pub struct Record {
     pub(crate) ending: Ending,
-    pub(crate) chrom: Range,
-    pub(crate) pos: Range,
-    pub(crate) id: Range,
-    pub(crate) reference: Range,
-    pub(crate) alt: Range,
-    pub(crate) qual: Range,
-    pub(crate) filter: Range,
-    pub(crate) info: Range,
-    pub(crate) format: Range,
-    pub(crate) samples: Range,
+    pub(crate) start: usize,
+    pub(crate) chrom: usize,
+    pub(crate) pos: usize,
+    pub(crate) id: usize,
+    pub(crate) reference: usize,
+    pub(crate) alt: usize,
+    pub(crate) qual: usize,
+    pub(crate) filter: usize,
+    pub(crate) info: usize,
+    pub(crate) format: usize,
+    pub(crate) end: usize,
 }
 
 // What reading at a place finds. Each case has the next place.
@@ -187,61 +186,44 @@ fn judge(s: &[u8], at: usize, tabs: &mut [usize]) -> Judged
     }
 }
 
-// The place between a tab and where its column ends.
-fn between(tab: usize, end: usize) -> Range
-    requires { ⌜ tab < end ⌝ }
-    ensures { λ r. ⌜ Spans (tab + 1) end r ⌝ }
-{
-    let start = tab + 1;
-    Range {
-        start,
-        len: end - start,
-    }
-}
-
-// The first seven fields by the tabs that end them, and the ending and the last three fields as they are given.
+// The record by the tabs that end the first seven fields, and by where the last three end.
 fn record_of(
+    ending: Ending,
     at: usize,
     tabs: &[usize],
-    ending: Ending,
-    info: Range,
-    format: Range,
-    samples: Range,
+    info: usize,
+    format: usize,
+    end: usize,
 ) -> Record
-    requires { ⌜ Rising at (now tabs) ⌝ }
-    ensures { λ r. ⌜ recordValues r ≡ endingNumber (endingOf ending) ∷ sevenPlaces at (now (tabs .entry)) ++ rangePlaces info ++ rangePlaces format ++ rangePlaces samples ⌝ }
+    requires { ⌜ length (now tabs) ≡ 9 ⌝ }
+    ensures { λ r. ⌜ r ≡ recordBy ending at (now (tabs .entry)) info format end ⌝ }
 {
     Record {
         ending,
-        chrom: Range {
-            start: at,
-            len: tabs[0] - at,
-        },
-        pos: between(tabs[0], tabs[1]),
-        id: between(tabs[1], tabs[2]),
-        reference: between(tabs[2], tabs[3]),
-        alt: between(tabs[3], tabs[4]),
-        qual: between(tabs[4], tabs[5]),
-        filter: between(tabs[5], tabs[6]),
+        start: at,
+        chrom: tabs[0],
+        pos: tabs[1],
+        id: tabs[2],
+        reference: tabs[3],
+        alt: tabs[4],
+        qual: tabs[5],
+        filter: tabs[6],
         info,
         format,
-        samples,
+        end,
     }
 }
 
 // The record of the line that starts at `at` in t and whose text ends where t ends, by its first tabs and its ending.
 fn fields_of(t: &[u8], at: usize, tabs: &[usize], ending: Ending) -> Record
     requires { ⌜ Told (now t) at (now tabs) ⌝ }
-    ensures { λ r. ⌜ recordValues r ≡ endingNumber (endingOf ending) ∷ fieldPlaces at (split 9 (drop at (now (t .entry)))) (length (now (t .entry))) ⌝ }
+    ensures { λ r. ⌜ Fields (now (t .entry)) at ending r ⌝ }
 {
     let end = t.len();
     if tabs[7] == 0 {
-        let none = Range { start: end, len: 0 };
-        return record_of(at, tabs, ending, between(tabs[6], end), none, none);
+        return record_of(ending, at, tabs, end, end, end);
     }
-    let info = between(tabs[6], tabs[7]);
-    let format = between(tabs[7], tabs[8]);
-    record_of(at, tabs, ending, info, format, between(tabs[8], end))
+    record_of(ending, at, tabs, tabs[7], tabs[8], end)
 }
 
 // A line whose columns are in order, with its text's end and the next place: all that is left to judge is UTF-8.
@@ -249,6 +231,7 @@ fn finish(s: &[u8], at: usize, end: usize, next: usize, tabs: &[usize]) -> Read
     requires { ⌜ InOrder (now s) at end next ⌝ }
     requires { ⌜ Told (take end (now s)) at (now tabs) ⌝ }
     ensures { λ r. ⌜ readPaper r ≡ lineAnswer at (lineOf (drop at (now (s .entry)))) ⌝ }
+    ensures { λ r. ⌜ KeepsNumbers r ⌝ }
 {
     let checked = check_utf8(&s[at..end]);
     match checked {
@@ -263,6 +246,7 @@ fn finish(s: &[u8], at: usize, end: usize, next: usize, tabs: &[usize]) -> Read
 // Reads the line at a place.
 pub fn read_line(s: &[u8], at: usize) -> Read
     ensures { λ r. ⌜ ReadsLine (now (s .entry)) at r ⌝ }
+    ensures { λ r. ⌜ KeepsNumbers r ⌝ }
 {
     if at > s.len() {
         return Read::Beyond(at);

@@ -14,7 +14,7 @@ slice-aggregate-judge : tie.Need-slice-aggregate-judge
 slice-aggregate-judge c = search (needs, laws)
 
 judge-requires : tie.Need-judge-requires
-judge-requires c κs = (search needs, search laws)
+judge-requires c κs = search (needs, laws)
 
 enum-known-judged : tie.Need-enum-known-judged
 enum-known-judged c = search (needs, laws)
