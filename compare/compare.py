@@ -38,14 +38,26 @@ def is_text(part):
     return True
 
 
+def field_bounds(verb, numbers):
+    """The start and the end of each field, of the numbers that the Rust answers to `line` or `small`."""
+    if verb == b"line":
+        return [(start, start + length) for start, length in zip(numbers[::2], numbers[1::2])]
+    # where FORMAT is absent, the last two start past their ends, and are empty all the same
+    start, *ends = numbers
+    return list(zip((start, *(end + 1 for end in ends)), ends))
+
+
 def across_a_tab(line, rust, ours):
     """The Rust accepts a line of which a field by itself is not UTF-8; ours is 5, with the same next place."""
-    numbers = rust.split(" ")
-    if not line.startswith(b"line ") or len(numbers) != 22 or numbers[0] != "0" or ours != f"5 {numbers[1]}":
+    verb, argument, *_ = line.split(b" ")
+    if verb not in (b"line", b"small"):
         return False
-    text = bytes.fromhex(line.split(b" ")[1].decode())
-    places = zip(map(int, numbers[2::2]), map(int, numbers[3::2]))
-    return not all(is_text(text[start : start + length]) for start, length in places)
+    number, past, *numbers = map(int, rust.split(" "))
+    if number != 0 or ours != f"5 {past}":
+        return False
+    text = bytes.fromhex(argument.decode())
+    bounds = field_bounds(verb, numbers)
+    return len(bounds) == 10 and not all(is_text(text[start:end]) for start, end in bounds)
 
 
 # By their number in docs/DIFFERENCES.md: whether (line, the Rust's answer, the model's) is that difference. All other
@@ -64,7 +76,7 @@ def listed(line, rust, ours):
 # refusal it is the offset, of an accepted line the ending.
 LEFT_OUT = {
     b"decimal": ("12", 1), b"pos": ("21", 1), b"read": ("12", 2), b"alleles": ("12", 2), b"gtstep": ("12", 1),
-    b"line": ("0", 2),
+    b"line": ("0", 2), b"small": ("0", 2),
 }
 
 

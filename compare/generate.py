@@ -1657,6 +1657,193 @@ def line_endings(large, dice):
     yield from random_endings(large, dice)
 
 
+# ---- small, widen and narrow
+
+
+def field_lengths(columns):
+    """The length of each field of a line, all samples being one: eight lengths, or ten."""
+    samples = columns[SAMPLES_INDEX:]
+    return (*map(len, columns[:SAMPLES_INDEX]), *((len(row(samples)),) if samples else ()))
+
+
+def as_ends(start, lengths):
+    """A line's text by its start, the end of each field and its own end. Fields without a length end where it does."""
+    numbers = [start]
+    for index, length in enumerate(lengths):
+        numbers.append(numbers[-1] + (index > 0) + length)
+    return numbers + numbers[-1:] * (11 - len(numbers))
+
+
+def as_places(start, lengths):
+    """The same by the start and the length of each field. Fields without a length are empty at the text's end."""
+    numbers = []
+    for length in lengths:
+        numbers += (start, length)
+        start += length + 1
+    return numbers + [start - 1, 0] * (10 - len(lengths))
+
+
+# Each verb's own form of a line.
+FORMS = {"widen": as_ends, "narrow": as_places}
+# The fields' lengths, without FORMAT, with one sample and with several; and of one byte each.
+WITHOUT_FORMAT, WITH_FORMAT = field_lengths(COLUMNS[:8]), field_lengths(COLUMNS[:10])
+EITHER = (WITHOUT_FORMAT, WITH_FORMAT)
+LENGTHS = (*EITHER, field_lengths(COLUMNS), field_lengths(examples()[1].split(b"\t")), (1,) * 8, (1,) * 10)
+# A slice has no more bytes than the first; with an ending's bytes the last two may be passed.
+FORM_LIMITS = (2**63 - 1, 2**63, LARGEST - 1, LARGEST)
+
+
+def where_fitting(verb, word, numbers):
+    """The question, where no number is too large for a case or below 0."""
+    if 0 <= min(numbers) and max(numbers) <= LARGEST:
+        yield ask(verb, word, *numbers)
+
+
+def wrapped(verb, word, numbers):
+    """The question, where what is past the largest number counts on from 0."""
+    return ask(verb, word, *(value % 2**64 for value in numbers))
+
+
+def in_both_forms(word, start, lengths):
+    for verb, told in FORMS.items():
+        yield wrapped(verb, word, told(start, lengths))
+
+
+def one_moved(numbers):
+    """Each number one up, one down, 0, and at each limit."""
+    for index, value in enumerate(numbers):
+        for other in (value + 1, value - 1, 0, *FORM_LIMITS):
+            yield replaced(numbers, {index: other})
+
+
+def two_moved(numbers, pairs):
+    """Two numbers, given by index, one up or down each."""
+    for (first, second), up, other in itertools.product(pairs, (1, -1), (1, -1)):
+        yield replaced(numbers, {first: numbers[first] + up, second: numbers[second] + other})
+
+
+def starts_moved(numbers):
+    """Of places the starts from each one on, one up or down, as if two tabs were before it, or none; and with the
+    length before it as much longer or shorter, by which most are lines again."""
+    for index, step in itertools.product(range(2, 20, 2), (1, -1)):
+        moved = [value + step * (at >= index and at % 2 == 0) for at, value in enumerate(numbers)]
+        yield moved
+        yield replaced(moved, {index - 1: moved[index - 1] + step})
+
+
+def moved_forms(large):
+    """Lines as they are, and with one number or two moved."""
+    for lengths, start, word in itertools.product(LENGTHS, (0, 40), ENDINGS.values()):
+        for verb, told in FORMS.items():
+            good = told(start, lengths)
+            found = [good, *one_moved(good)]
+            if large:
+                found += two_moved(good, itertools.combinations(range(len(good)), 2))
+            elif start and lengths in EITHER:
+                found += two_moved(good, itertools.pairwise(range(len(good))))
+            if verb == "narrow" and lengths in EITHER:
+                found += starts_moved(good)
+            for numbers in found:
+                yield from where_fitting(verb, word, numbers)
+
+
+def resized_forms():
+    """Each field empty, of one byte and two, and one longer: all others follow."""
+    for lengths, start, word in itertools.product(EITHER, (0, 40), ENDINGS.values()):
+        for index, length in enumerate(lengths):
+            for other in (0, 1, 2, length + 1):
+                yield from in_both_forms(word, start, replaced(lengths, {index: other}))
+        # fewer columns, and FORMAT without samples
+        for count in (1, 7, 9):
+            yield from in_both_forms(word, start, WITH_FORMAT[:count])
+
+
+def about_format():
+    """FORMAT and the samples about INFO's end: both there, none, empty, the one without the other, any tabs between."""
+    for start, word in itertools.product((0, 40), ENDINGS.values()):
+        ends, placed = as_ends(start, WITHOUT_FORMAT), as_places(start, WITHOUT_FORMAT)
+        end = ends[-1]
+        for last in itertools.product(range(end - 1, end + 4), range(end - 1, end + 7)):
+            yield ask("widen", word, *ends[:9], *last)
+        for last in itertools.product((0, *range(end - 1, end + 3)), (0, 1), (0, *range(end, end + 5)), (0, 1)):
+            yield ask("narrow", word, *placed[:16], *last)
+
+
+def about_limits(large):
+    """The text and its ending up to about the longest slice and about the largest number, since it starts far on or one
+    field is long."""
+    shapes = LENGTHS if large else EITHER
+    for lengths, (ending, word), limit in itertools.product(shapes, ENDINGS.items(), (2**63 - 1, 2**64)):
+        for more in range(-9, 10) if large else range(-2, 3):
+            far = limit + more - len(ending) - as_ends(0, lengths)[-1]
+            yield from in_both_forms(word, far, lengths)
+            for index, length in enumerate(lengths):
+                yield from in_both_forms(word, 0, replaced(lengths, {index: length + far}))
+
+
+def past_the_largest(large):
+    """Forms that are right but for passing the largest number: at each of their numbers, or by one field's length."""
+    for lengths, word in itertools.product(LENGTHS if large else EITHER, ENDINGS.values()):
+        for number, more in itertools.product(as_ends(0, lengths), (-1, 0, 1)):
+            yield from in_both_forms(word, 2**64 + more - number, lengths)
+        for index, start in enumerate(as_places(40, lengths)[: 2 * len(lengths) : 2]):
+            # the next field starts where this does, before that, at 1, at 0 and at the largest number
+            for less in (1, 2, start, start + 1, start + 2):
+                yield from in_both_forms(word, 40, replaced(lengths, {index: 2**64 - less}))
+
+
+def random_lengths(dice):
+    """Now and then with an empty field, or with FORMAT and no samples."""
+    return [1 + dice.roll(5) if dice.roll(60) else 0 for _ in range(dice.pick((8, 8, 8, 9, 10, 10, 10, 10)))]
+
+
+def random_step(dice):
+    """Up or down, most often by little, else by any amount."""
+    size = (1 + dice.roll(9)) * 2 ** dice.roll(61) if dice.roll(4) == 0 else 1 + dice.roll(3)
+    return size if dice.roll(2) else -size
+
+
+def random_forms(large, dice):
+    """Lines at near and far places: as they are, with one field longer or shorter, and with up to three numbers
+    moved."""
+    for _ in range(4_000 if large else 100):
+        lengths, word = random_lengths(dice), dice.pick(list(ENDINGS.values()))
+        start = dice.pick((0, dice.roll(9), dice.roll(2**31), 2**63 - 1 - dice.roll(120), 2**64 - 1 - dice.roll(120)))
+        yield from in_both_forms(word, start, lengths)
+        index = dice.roll(len(lengths))
+        yield from in_both_forms(word, start, replaced(lengths, {index: lengths[index] + random_step(dice)}))
+        for verb, told in FORMS.items():
+            numbers = told(start, lengths)
+            for _ in range(1 + dice.roll(3)):
+                index = dice.roll(len(numbers))
+                numbers = replaced(numbers, {index: numbers[index] + random_step(dice)})
+            yield wrapped(verb, word, numbers)
+
+
+def small_reads(large):
+    """What is asked as `line` above, by the same dice; of the lines in texts, which are many, every fifth at the stored
+    size."""
+    read = (lines(large, Dice(4)), joins(large, Dice(7)), *map(both_ways, columns_with_returns()))
+    for case, _ in itertools.chain(*read, random_endings(large, Dice(16))):
+        if case.startswith(b"line "):
+            yield case.replace(b"line", b"small", 1), True
+    for text, at in itertools.islice(lines_in_texts(), 0, None, 1 if large else 5):
+        yield ask("small", text, at)
+
+
+def forms_of_lines(large, dice):
+    yield from small_reads(large)
+    yield from moved_forms(large)
+    yield from resized_forms()
+    yield from about_format()
+    yield from about_limits(large)
+    yield from past_the_largest(large)
+    for verb, told in FORMS.items():
+        for word, value in itertools.product(ENDINGS.values(), (0, *FORM_LIMITS)):
+            yield ask(verb, word, *[value] * len(told(0, WITH_FORMAT)))
+    yield from random_forms(large, dice)
+
+
 # ---- the form of a case
 
 NO_CASES = (
@@ -1892,6 +2079,65 @@ NO_ENDING_CASES = (
 )
 
 
+# Lines in the two forms, of one byte in each field.
+GOOD_ENDS = b"0 1 3 5 7 9 11 13 15 17 19"
+GOOD_PLACES = b"0 1 2 1 4 1 6 1 8 1 10 1 12 1 14 1 16 1 18 1"
+
+
+def with_bad_numbers():
+    """A number that passes its type or is empty, in each place; others that are none, first, in the middle and last."""
+    passing, others = (b"18446744073709551616", b""), (
+        b"18446744073709551625", b"36893488147419103233", b"340282366920938463463374607431768211457", b"00", b"01",
+        b"+1", b"-1", b"-", b"a", b"1a", b"1.0", b"1,1", b"0x1", b"lf", b"\xff",
+    )
+    for verb, good in ((b"widen", GOOD_ENDS), (b"narrow", GOOD_PLACES)):
+        numbers = good.split(b" ")
+        for index in range(len(numbers)):
+            edge = index in (0, len(numbers) // 2, len(numbers) - 1)
+            for bad in (*passing, *others) if edge else passing:
+                yield b"%s lf %s" % (verb, b" ".join(replaced(numbers, {index: bad})))
+
+
+# The same of small, widen and narrow.
+NO_FORM_CASES = (
+    # an unknown verb, an argument too few or too many, spaces
+    b"smal - 0", b"smalls - 0", b"smaller - 0", b"Small - 0", b"SMALL - 0", b"small", b"small ", b"small -", b"small 0",
+    b"small - ", b"small - 0 0", b"small - 0 ", b"small  - 0", b"small -  0", b" small - 0", b"small - 0\r",
+    b"small\t- 0", b"small lf - 0", b"small - lf 0", b"small - 0 lf", b"small 0 -", b"small lf " + GOOD_ENDS,
+    *(
+        line % (verb, good)
+        for verb, good in ((b"widen", GOOD_ENDS), (b"narrow", GOOD_PLACES))
+        for line in (
+            b"%ss lf %s", b"x%s lf %s", b"%s %s", b"%s lf %s 20", b"%s lf 0 %s", b"%s lf lf %s", b"%s  lf %s",
+            b"%s lf  %s", b" %s lf %s", b"%s lf %s ", b"%s lf %s\r", b"%s lf\t%s", b"%s\tlf %s", b"%s lf -%s",
+        )
+    ),
+    b"wide lf " + GOOD_ENDS, b"Widen lf " + GOOD_ENDS, b"WIDEN lf " + GOOD_ENDS, b"widen", b"widen ", b"widen lf",
+    b"widen lf ", b"widen lf -", b"widen - 0", b"widen lf " + GOOD_ENDS[:-3], b"widen lf " + GOOD_ENDS[2:],
+    b"widen lf " + GOOD_ENDS.replace(b" ", b","), b"widen %s lf" % GOOD_ENDS, b"widen lf " + GOOD_PLACES,
+    b"narro lf " + GOOD_PLACES, b"Narrow lf " + GOOD_PLACES, b"NARROW lf " + GOOD_PLACES, b"narrow", b"narrow ",
+    b"narrow lf", b"narrow lf ", b"narrow lf -", b"narrow - 0", b"narrow lf " + GOOD_PLACES[:-2],
+    b"narrow lf " + GOOD_PLACES[:-5], b"narrow lf " + GOOD_PLACES[2:], b"narrow lf " + GOOD_PLACES.replace(b" ", b","),
+    b"narrow lf %s %s" % (GOOD_PLACES, GOOD_PLACES), b"narrow %s lf" % GOOD_PLACES, b"narrow lf " + GOOD_ENDS,
+    # hex that is odd, upper case or none
+    b"small 6 0", b"small 6A 0", b"small 616 0", b"small 0x61 0", b"small -- 0", b"small 61- 0", b"small . 0",
+    # no word for an ending
+    *(
+        b"%s %s %s" % (verb, word, good)
+        for verb, good in ((b"widen", GOOD_ENDS), (b"narrow", GOOD_PLACES))
+        for word in (
+            b"LF", b"Lf", b"CRLF", b"NONE", b"None", b"cr", b"l", b"crl", b"rlf", b"non", b"nones", b"lff", b"lfx",
+            b"xlf", b"lfcr", b"crlff", b"nonelf", b"lf,", b"0", b"1", b"2", b"3", b"-", b"", b"0a", b"0d0a", b"\r",
+            b"lf\x00", b"\x00", b"\xff", b"mf", b"crle", b"nond",
+        )
+    ),
+    # a number that is empty, has a sign or a leading zero, passes its type, or is none
+    b"small - 00", b"small - 01", b"small - +0", b"small - -0", b"small - -", b"small - -1", b"small - a",
+    b"small - 0a", b"small - 18446744073709551616", b"small - 99999999999999999999", b"small 61 18446744073709551625",
+    *with_bad_numbers(),
+)
+
+
 def spoilt(lines, large):
     """Good lines with one byte put in, in every place, that makes each of them none."""
     for line, byte in itertools.product(lines, b"\x00\t\r \x7f\x80\xffxG" if large else b"\x00 x"):
@@ -2046,6 +2292,22 @@ def long_alt_lines(large):
         yield ask("allelesalt", 64, b"0/" * 16_379 + b"1", b".")
 
 
+def long_form_lines(large):
+    """The same of small, and numbers as long as may be in the other two."""
+    text = b"0123456789" + seven(b"I", b"F", b"")
+    text += filler(32_763 - len(text))
+    yield ask("small", text, 10)
+    yield none(b"widen lf %s" % GOOD_ENDS.rjust(LONGEST_LINE - 9, b"0"))
+    if large:
+        yield ask("small", text[:-1] + b"\xc3", 10)
+        yield ask("small", text[:-2] + b"\r\n", 10)
+        yield none(ask("small", text, 1_000)[0])
+        yield none(b"narrow crlf %s" % GOOD_PLACES.rjust(LONGEST_LINE, b"0"))
+        yield none(b"narrow lf %s" % GOOD_PLACES.ljust(LONGEST_LINE - 10, b"1"))
+        yield none(b"widen lf" + b" 1" * 32_760)
+        yield none(b"narrow lf " + GOOD_PLACES + b" " * LONGEST_LINE)
+
+
 def form(large):
     """Lines that are none and long lines, each before a case with an answer of its own: a shift shows at once."""
     good = (b"utf8 41", b"print 5 70", b"space -", b"decimal 2b37") if large else (b"utf8 41", b"print 5 70")
@@ -2055,6 +2317,7 @@ def form(large):
     lists = (b"filters 2 0 61 1", *((b"alts 2 0 61 1",) if large else ()))
     one_step, one_count = (b"gtstep 30 0",), (b"altcount 2c",)
     ended = (b"join 9 0 crlf 6162 1,2", *((b"join 9 0 none 6162 1,2",) if large else ()))
+    formed = (b"small 6109 0", b"widen lf " + GOOD_ENDS, b"narrow none " + GOOD_PLACES)
     lines = (
         *map(none, (*NO_CASES, *spoilt(good, large))), *long_lines(large),
         *map(none, (*NO_RECORD_CASES, *spoilt(more, large))), *long_record_lines(large),
@@ -2064,6 +2327,7 @@ def form(large):
         *map(none, (*NO_STEP_CASES, *spoilt(one_step, large))), *(long_step_lines() if large else ()),
         *map(none, (*NO_ALT_CASES, *spoilt(one_count, large))), *long_alt_lines(large),
         *map(none, (*NO_ENDING_CASES, *spoilt(ended, large))),
+        *map(none, (*NO_FORM_CASES, *spoilt(formed, large))), *long_form_lines(large),
     )
     for index, case in enumerate(lines):
         yield case
@@ -2077,7 +2341,7 @@ def areas(large):
         fields(large, Dice(5)), places(large), positions(large, Dice(6)), joins(large, Dice(7)),
         infos(large, Dice(8)), samples(large, Dice(9)), genotypes(large, Dice(10)), written_genotypes(large, Dice(11)),
         entry_lists(large, Dice(12)), genotype_steps(large, Dice(13)), offsets(large, Dice(14)),
-        alt_counts(large, Dice(15)), line_endings(large, Dice(16)),
+        alt_counts(large, Dice(15)), line_endings(large, Dice(16)), forms_of_lines(large, Dice(17)),
     )
 
 

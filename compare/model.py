@@ -16,10 +16,12 @@ MOST_ENDS = 1_024
 MOST_ALLELES = 64
 LARGEST_VERSION = 4_294_967_295
 LARGEST_BYTE = 255
+LONGEST_SLICE = 9_223_372_036_854_775_807
 
 DONE, AT_END, EMPTY, LINE_ENDS, CUT, NOT_UTF8, BEYOND, KEY_ENDS, NO_KEY, VALUE_ENDS, NONE_SUCH = range(11)
 NO_ALLELES, BAD_NUMBER, NOT_IMPLIED, BAD_FILTER, BAD_ALT = 11, 12, 13, 14, 15
 BAD_ENDS, TOO_SHORT, BAD_COLUMN, BAD_COUNT, ABOVE_ALT, BAD_POS = 16, 17, 18, 19, 20, 21
+NOT_MADE = 32
 UNEQUAL = BAD_ENDS
 
 FIELDS = (b"chrom", b"pos", b"id", b"ref", b"alt", b"qual", b"filter", b"info", b"format", b"samples")
@@ -253,6 +255,35 @@ def read_line(text, at):
     return DONE, past, places
 
 
+def start_and_ends(places):
+    """Where the line's text starts, and where each of its ten fields ends; the last ends where the text does."""
+    first_start, _ = places[0]
+    return [first_start, *map(sum, places)]
+
+
+def places_between(start, ends):
+    """The ten places of fields that end there, each past one tab after the end before it.
+
+    FORMAT is absent where it ends where INFO does: neither it nor the samples then pass a tab. A length is negative
+    where ends fall.
+    """
+    tabs = [0, *[1] * INFO, *[int(ends[FORMAT] != ends[INFO])] * 2]
+    starts = [before + tab for before, tab in zip((start, *ends), tabs)]
+    return [(first, end - first) for first, end in zip(starts, ends)]
+
+
+def can_be_made(ending, places):
+    """Whether there is an input on which the line reader makes these ten places and that ending.
+
+    FORMAT and the samples are absent where both are empty at INFO's end; else they are columns as all others are.
+    """
+    absent = (sum(places[INFO]), 0)
+    columns = places[:FORMAT] if places[FORMAT:] == [absent, absent] else places
+    filled = all(length > 0 for _, length in columns)
+    past_tabs = all(start == sum(before) + 1 for before, (start, _) in zip(columns, columns[1:]))
+    return filled and past_tabs and sum(columns[-1]) + len(ending) <= LONGEST_SLICE
+
+
 def joined(text, ends, ending):
     """The line of the columns given, with its ending; or the numbers of a refusal.
 
@@ -482,6 +513,24 @@ def line_places(text, at):
     return words(answered, past, ENDINGS[ending], *itertools.chain(*places))
 
 
+def small(text, at):
+    answered, past, places = read_line(text, at)
+    if answered != DONE:
+        return words(answered, past)
+    _, ending = line_and_ending(text, at)
+    return words(answered, past, ENDINGS[ending], *start_and_ends(places))
+
+
+def widen(ending, start, *ends):
+    places = places_between(start, ends)
+    return words(DONE, *itertools.chain(*places)) if can_be_made(ending, places) else words(NOT_MADE)
+
+
+def narrow(ending, *numbers):
+    places = list(zip(numbers[::2], numbers[1::2]))
+    return words(DONE, *start_and_ends(places)) if can_be_made(ending, places) else words(NOT_MADE)
+
+
 def field(name, text, at):
     answered, _, places = read_line(text, at)
     if answered != DONE:
@@ -661,6 +710,9 @@ VERBS = {
     b"decimal": (decimal, (hexed,)),
     b"print": (print_number, (room, number)),
     b"line": (line_places, (hexed, number)),
+    b"small": (small, (hexed, number)),
+    b"widen": (widen, (line_ending, *[number] * 11)),
+    b"narrow": (narrow, (line_ending, *[number] * 20)),
     b"field": (field, (field_name, hexed, number)),
     b"place": (place, (hexed, number, number)),
     b"pos": (pos, (hexed,)),

@@ -55,6 +55,10 @@ def more_endings(dice):
     return generate.random_endings(True, dice)
 
 
+def more_forms(dice):
+    return generate.random_forms(True, dice)
+
+
 # ---- all short texts
 
 # The bytes at the edges of UTF-8's table, and those of white space; then fewer of them.
@@ -235,6 +239,21 @@ def short_endings():
             yield ask("line", row(columns) + ending + rest, 0)
 
 
+def short_forms():
+    """Ends each a few bytes past the one before; places with every short length of three fields side by side, and every
+    short gap before each."""
+    for steps in itertools.product((0, 1), *[(1, 2)] * 7, *[range(5)] * 2):
+        yield ask("widen", "lf", *itertools.accumulate(steps, initial=4))
+    for count, first, *chosen in itertools.product((8, 10), range(1, 8), *[range(3)] * 6):
+        gaps, lengths = [0, *[1] * (count - 1), 0, 0][:10], [*[1] * count, 0, 0][:10]
+        gaps[first : first + 3], lengths[first : first + 3] = chosen[:3], chosen[3:]
+        numbers, end = [], 4
+        for gap, length in zip(gaps, lengths):
+            numbers += (end + gap, length)
+            end += gap + length
+        yield ask("narrow", "lf", *numbers)
+
+
 # ---- random ones about each boundary
 
 LIMITS = (*(10**power for power in range(1, 21)), 2**32, 2**63, LARGEST, 2 * LARGEST, generate.TENTH)
@@ -346,6 +365,22 @@ def near_no_alt(dice):
         yield from generate.both_checked(len(values) + dice.roll(3) - 1, text[dice.roll(2) :], alt)
 
 
+def near_forms(dice):
+    """Texts that end about the longest slice or the largest number, since they start far on or a field is long; and one
+    number of them moved."""
+    for _ in range(1_500):
+        lengths, (ending, word) = generate.random_lengths(dice), dice.pick(list(ENDINGS.items()))
+        end = near(dice, dice.pick((2**63 - 1, 2**63 - 1, LARGEST)), 3) - len(ending)
+        far, index = end - generate.as_ends(0, lengths)[-1], dice.roll(len(lengths))
+        part = dice.pick((0, far, dice.roll(2**31) * (far >> 31)))
+        lengths[index] += far - part
+        yield from generate.in_both_forms(word, part, lengths)
+        for verb, told in generate.FORMS.items():
+            numbers = told(part, lengths)
+            numbers[dice.roll(len(numbers))] += generate.random_step(dice)
+            yield generate.wrapped(verb, word, numbers)
+
+
 # ---- damaged copies
 
 
@@ -432,6 +467,21 @@ def harmed_entries(dice):
         yield from generate.both_ways(columns)
 
 
+def harmed_forms(dice):
+    """Lines to read, whole and damaged; and their two forms with up to two numbers changed by a bit."""
+    for _ in range(4_000):
+        line, before = good_line(dice), good_line(dice)
+        alphabet = dice.pick((range(256), b"\t\n\r.", b"\xc3\xa9\t"))
+        yield ask("small", before + line, dice.pick((0, len(before))))
+        yield ask("small", harmed(dice, line, 1 + dice.roll(3), alphabet), 0)
+        word = dice.pick(list(ENDINGS.values()))
+        for verb, told in generate.FORMS.items():
+            numbers = told(len(before), generate.field_lengths(line.rstrip(b"\r\n").split(b"\t")))
+            for _ in range(dice.roll(3)):
+                numbers[dice.roll(len(numbers))] ^= 1 << dice.pick((dice.roll(4), dice.roll(64)))
+            yield ask(verb, word, *numbers)
+
+
 # A good case of each verb, and of each of its answers that is easily damaged.
 GOOD_CASES = (
     b"utf8 c3a9", b"space 61e3808062", b"decimal 2b303132", b"print 5 70", b"line 6309310a 0", b"field alt 6309 1",
@@ -446,6 +496,9 @@ GOOD_CASES = (
     b"altcount 412c43", b"altcount 2e", b"readalt 3 302f31 2e", b"allelesalt 3 317c2e -",
     b"line 6109620963096409650966096709680d0a 0", b"join 40 0 crlf 6162636465666768 1,2,3,4,5,6,7,8",
     b"join 40 1 none 61626364656667680d 1,2,3,4,5,6,7,9",
+    b"small 6309310a 0", b"small 6109620963096409650966096709680d0a 0", b"widen lf " + generate.GOOD_ENDS,
+    b"widen none 4 5 7 9 11 13 15 17 19 19 19", b"narrow crlf " + generate.GOOD_PLACES,
+    b"narrow lf 9 1 11 1 13 1 15 1 17 1 19 1 21 1 23 1 24 0 24 0",
 )
 
 
@@ -463,23 +516,26 @@ def harmed_cases(dice):
 
 AGAIN = (
     more_texts, more_lines, more_fields, more_columns, more_samples, more_genotypes, more_lists, more_alts,
-    more_endings,
+    more_endings, more_forms,
 )
 EXHAUSTIVE = (
     short_characters, short_numbers, short_line_ends, short_line_tails, columns_of_every_kind, dots_of_every_kind,
     short_info_steps, short_info_keys, short_samples, short_genotypes, short_phasings, short_genotype_steps,
     short_checked, short_slices, short_lists_of_alleles, short_entries, short_joins, short_faults, short_alts,
-    short_endings,
+    short_endings, short_forms,
 )
-NEAR = (near_numbers, near_places, near_line_ends, near_rooms, near_alt_counts, near_faults, near_no_alt)
-HARMED = (harmed_lines, harmed_columns, harmed_samples, harmed_genotypes, harmed_entries, harmed_cases)
+NEAR = (near_numbers, near_places, near_line_ends, near_rooms, near_alt_counts, near_faults, near_no_alt, near_forms)
+HARMED = (harmed_lines, harmed_columns, harmed_samples, harmed_genotypes, harmed_entries, harmed_cases, harmed_forms)
 ROUNDS = 3
 
 
 def words_for_endings():
     """Every word of up to four of the letters that an ending is written with."""
     for word in short_texts(b"crlfnoe", 4):
-        yield b"join 9 0 %s 6162 1,2" % word, word.decode() in ENDINGS.values()
+        good = word.decode() in ENDINGS.values()
+        yield b"join 9 0 %s 6162 1,2" % word, good
+        yield b"widen %s %s" % (word, generate.GOOD_ENDS), good
+        yield b"narrow %s %s" % (word, generate.GOOD_PLACES), good
 
 
 def malformed():

@@ -110,7 +110,7 @@ fn places(src: &[u8], at: usize, record: &mut Record) -> Vec<Place> {
     places
 }
 
-fn line(src: &[u8], at: usize) -> Answer {
+fn line(src: &[u8], at: usize, told: fn(Vec<Place>) -> Vec<String>) -> Answer {
     if at > src.len() {
         return no_question();
     }
@@ -118,8 +118,19 @@ fn line(src: &[u8], at: usize) -> Answer {
     if number != 0 {
         return Ok(format!("{number} {next}"));
     }
-    let list: Vec<_> = places.into_iter().map(shown).collect();
-    Ok(format!("0 {next} {}", list.join(" ")))
+    Ok(format!("0 {next} {}", told(places).join(" ")))
+}
+
+/// Each field's start and length.
+fn starts_and_lengths(places: Vec<Place>) -> Vec<String> {
+    places.into_iter().map(shown).collect()
+}
+
+/// Where the line's text starts, and where each field ends.
+fn start_and_ends(places: Vec<Place>) -> Vec<String> {
+    let start = places[0].0;
+    let ends = places.into_iter().map(|(start, length)| start + length);
+    std::iter::once(start).chain(ends).map(|n| n.to_string()).collect()
 }
 
 fn field(name: &str, src: &[u8], at: usize) -> Answer {
@@ -493,7 +504,8 @@ pub fn answer(case: &str) -> Answer {
             Some(s) => Ok(s.parse::<usize>().map(|v| format!("0 {v}")).unwrap_or("12".into())),
         },
         "print" => Ok(output(number(1)?, 0, Ok(number(2)?.to_string().into_bytes()))),
-        "line" => line(&bytes(1)?, number(2)?),
+        "line" => line(&bytes(1)?, number(2)?, starts_and_lengths),
+        "small" => line(&bytes(1)?, number(2)?, start_and_ends),
         "field" => field(word(1)?, &bytes(2)?, number(3)?),
         "pos" => pos(&bytes(1)?),
         "info" => info(&bytes(1)?, number(2)?),
