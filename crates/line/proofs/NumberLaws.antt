@@ -11,7 +11,7 @@ use Rattle.line.specs.declared.ending.Ending.{Ending}
 use Rattle.line.specs.declared.read.Record.{Record}
 
 -- the n numbers of a list from the place k on
-pub oneByOne : ℕ → ℕ → List ℕ → List ℕ
+unfoldable pub oneByOne : ℕ → ℕ → List ℕ → List ℕ
 oneByOne zero k l = []
 oneByOne (suc n) k l = getD l k 0 ∷ oneByOne n (suc k) l
 

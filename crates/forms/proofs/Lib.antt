@@ -1,0 +1,5 @@
+pub mod ChainLaws
+pub mod MadeLaws
+pub mod WideLaws
+pub mod TurnLaws
+pub mod FormLaws

@@ -1,0 +1,5 @@
+pub mod Form
+pub mod Paper
+pub mod Promises
+pub mod Inner
+pub mod Demands
