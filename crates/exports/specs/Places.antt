@@ -1,4 +1,4 @@
--- Fields and endings by number. Assumes nothing.
+-- Fields, endings and records by number. Assumes nothing.
 use Prim.Native.Nat.{ℕ}
 use mathlib.Core.List.{List, [], _∷_}
 use lib.ListN.{getD}
@@ -7,10 +7,13 @@ use Rattle.text.specs.Pick.{pick}
 use Rattle.text.specs.Answer.{Answer, says}
 use Rattle.text.specs.declared.range.Range.{Range}
 use Rattle.line.specs.Line.{endingBy}
+use Rattle.line.specs.Paper.{recordPlaces, recordWith}
+use Rattle.line.specs.declared.ending.Ending.the-variants as E
 use Rattle.line.specs.declared.place.Name.{Name}
 use Rattle.line.specs.declared.place.Name.the-variants as N
 use Rattle.fields.specs.Fields.{textAnswer}
 use Rattle.join.specs.Join.{joinAnswer, lineLeft}
+use Rattle.forms.specs.Form.{widenAnswer, narrowAnswer}
 
 -- the fields, in the order of a line's columns; the samples come after them
 abbrev pub names : List Name
@@ -31,3 +34,14 @@ endedAnswer t ends n at out = pick (leb n 2) (joinAnswer t ends (endingBy n) at 
 -- and then the output stays
 unfoldable pub endedLeft : List ℕ → List ℕ → ℕ → ℕ → List ℕ → List ℕ
 endedLeft t ends n at out = pick (leb n 2) (lineLeft t ends (endingBy n) at out) out
+
+-- ---- the two forms of a record
+
+-- the old form of the record with these numbers and the ending of this number: 32 where there is no such ending
+-- (a record's places are the same with every ending)
+unfoldable pub widenedAnswer : ℕ → List ℕ → Answer
+widenedAnswer n numbers = pick (leb n 2) (widenAnswer (endingBy n) (recordPlaces (recordWith E.Nothing numbers))) (says 32 [])
+
+-- and the record of the old form with these places
+unfoldable pub narrowedAnswer : ℕ → List ℕ → Answer
+narrowedAnswer n places = pick (leb n 2) (narrowAnswer (endingBy n) places) (says 32 [])

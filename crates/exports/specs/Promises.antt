@@ -29,7 +29,7 @@ use Rattle.genotype.specs.Answers.{textAnswer, checkedText, slicesAnswer, check
 use Rattle.spelling.specs.Permitted.{from44}
 use Rattle.spelling.specs.Write as Spelling
 use Rattle.exports.specs.Told.{Judges, Tells, TellsWriting, TellsReading}
-use Rattle.exports.specs.Places.{namedAnswer, endedAnswer, endedLeft}
+use Rattle.exports.specs.Places.{namedAnswer, endedAnswer, endedLeft, widenedAnswer, narrowedAnswer}
 
 -- ---- characters and decimal numbers
 
@@ -58,6 +58,12 @@ FindsPlace s start len l r l′ = Tells (placeAnswer s (rangeAt start len)) l r 
 
 abbrev pub ReadsPos : List ℕ → List ℕ → ℕ → List ℕ → Type 0
 ReadsPos t l r l′ = Tells (posAnswer t) l r l′
+
+abbrev pub WidensRecord : ℕ → List ℕ → List ℕ → ℕ → List ℕ → Type 0
+WidensRecord ending numbers l r l′ = Tells (widenedAnswer ending numbers) l r l′
+
+abbrev pub NarrowsWide : ℕ → List ℕ → List ℕ → ℕ → List ℕ → Type 0
+NarrowsWide ending places l r l′ = Tells (narrowedAnswer ending places) l r l′
 
 -- ---- INFO
 
@@ -152,6 +158,8 @@ pub record Determined : Type 0 where
   pub field-text : (s : List ℕ) (name start len : ℕ) (l : List ℕ) → OneOutcome (FindsText s name start len l)
   pub place-in : (s : List ℕ) (start len : ℕ) (l : List ℕ) → OneOutcome (FindsPlace s start len l)
   pub read-pos : (t l : List ℕ) → OneOutcome (ReadsPos t l)
+  pub widen : (ending : ℕ) (numbers l : List ℕ) → OneOutcome (WidensRecord ending numbers l)
+  pub narrow : (ending : ℕ) (places l : List ℕ) → OneOutcome (NarrowsWide ending places l)
   pub info-step : (column : List ℕ) (at : ℕ) (l : List ℕ) → OneOutcome (TakesInfoStep column at l)
   pub info-find : (column key l : List ℕ) → OneOutcome (FindsInfo column key l)
   pub info-value : (column key l : List ℕ) → OneOutcome (PlacesInfoValue column key l)

@@ -6,5 +6,6 @@ pub mod genotypes;
 pub mod infos;
 pub mod leaves;
 pub mod lines;
+pub mod records;
 pub mod sampling;
 mod told;

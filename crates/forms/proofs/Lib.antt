@@ -3,3 +3,4 @@ pub mod MadeLaws
 pub mod WideLaws
 pub mod TurnLaws
 pub mod FormLaws
+pub mod CaseLaws

@@ -8,7 +8,7 @@ use lib.ListN.{getD, drop}
 use Rattle.text.specs.Answer.{Answer, says}
 use Rattle.line.specs.Line as Line
 use Rattle.line.specs.Line.{endingNumber, numbersOf}
-use Rattle.line.specs.Paper.{endingOf, linedPaper, recordValues, recordNumbers, readPaper}
+use Rattle.line.specs.Paper.{endingOf, linedPaper, recordValues, recordNumbers, recordWith, readPaper}
 use Rattle.line.specs.Promises.{KeepsNumbers, Determined}
 use Rattle.line.specs.declared.ending.Ending.{Ending}
 use Rattle.line.specs.declared.ending.Ending.the-variants as E
@@ -50,35 +50,17 @@ lined-paper-injective = LeftInverse·injective linedOf linedPaper lined-back
 
 -- ---- a record, and what reading finds
 
--- by its ending and its numbers
-recordOf : Ending → List ℕ → Record
-recordOf ending l =
-    record {
-      ending = ending;
-      start = getD l 0 0;
-      chrom = getD l 1 0;
-      pos = getD l 2 0;
-      id = getD l 3 0;
-      reference = getD l 4 0;
-      alt = getD l 5 0;
-      qual = getD l 6 0;
-      filter = getD l 7 0;
-      info = getD l 8 0;
-      format = getD l 9 0;
-      end = getD l 10 0;
-    }
-
-record-back : (r : Record) → recordOf (r .ending) (recordNumbers r) ≡ r
-unfolding recordOf recordNumbers
+record-back : (r : Record) → recordWith (r .ending) (recordNumbers r) ≡ r
+unfolding recordWith recordNumbers
 record-back r = refl
 
 pub form-injective : (r r′ : Record) → r .ending ≡ r′ .ending → recordNumbers r ≡ recordNumbers r′ → r ≡ r′
-form-injective r r′ p q = sym (record-back r) ∙ ap (λ (e : Ending). recordOf e (recordNumbers r)) p ∙ ap (recordOf (r′ .ending)) q ∙ record-back r′
+form-injective r r′ p q = sym (record-back r) ∙ ap (λ (e : Ending). recordWith e (recordNumbers r)) p ∙ ap (recordWith (r′ .ending)) q ∙ record-back r′
 
 -- by the answer's number; the first value is the next place, the second the ending, and behind it are the places
 readBy : ℕ → List ℕ → ℕ → Read
 readBy n l next =
-    getD (R.Line (recordOf (declaredBy (getD l 1 0)) (numbersOf (drop 2 l))) next ∷ R.End next ∷ R.Empty next ∷ R.Fed next ∷ R.Cut next ∷ R.NotUtf8 next ∷ []) n (R.Beyond next)
+    getD (R.Line (recordWith (declaredBy (getD l 1 0)) (numbersOf (drop 2 l))) next ∷ R.End next ∷ R.Empty next ∷ R.Fed next ∷ R.Cut next ∷ R.NotUtf8 next ∷ []) n (R.Beyond next)
 
 readOf : Answer → Read
 readOf (says n l) = readBy n l (getD l 0 0)

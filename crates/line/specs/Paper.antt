@@ -1,6 +1,7 @@
 -- The number on paper, and the values, of each answer of this crate (docs/RULES.md, "Numbers answered"). Assumes nothing.
 use Prim.Native.Nat.{ℕ}
 use mathlib.Core.List.{List, [], _∷_, _++_}
+use lib.ListN.{getD}
 use Rattle.text.specs.Answer.{Answer, says}
 use Rattle.text.specs.Range.{rangePlaces}
 use Rattle.line.specs.Line.{Ending, nothing, feed, return-feed, endingNumber}
@@ -45,6 +46,24 @@ recordValues r = endingNumber (endingOf (r .ending)) ∷ recordPlaces r
 -- the numbers that a record has
 unfoldable pub recordNumbers : Record → List ℕ
 recordNumbers r = r .start ∷ r .chrom ∷ r .pos ∷ r .id ∷ r .reference ∷ r .alt ∷ r .qual ∷ r .filter ∷ r .info ∷ r .format ∷ r .end ∷ []
+
+-- the record with an ending and these numbers
+unfoldable pub recordWith : DeclaredEnding → List ℕ → Record
+recordWith ending numbers =
+    record {
+      ending = ending;
+      start = getD numbers 0 0;
+      chrom = getD numbers 1 0;
+      pos = getD numbers 2 0;
+      id = getD numbers 3 0;
+      reference = getD numbers 4 0;
+      alt = getD numbers 5 0;
+      qual = getD numbers 6 0;
+      filter = getD numbers 7 0;
+      info = getD numbers 8 0;
+      format = getD numbers 9 0;
+      end = getD numbers 10 0;
+    }
 
 unfoldable pub readPaper : Read → Answer
 readPaper (R.Line r next) = says 0 (next ∷ recordValues r)
