@@ -1,11 +1,10 @@
 -- Fields of which none is empty, each past one tab after the end of the one before: one field further at each turn. Assumes nothing.
 use Prim.Native.Nat.{ℕ, zero, suc, _+_, _-_, _*_, _<_, _≤_}
 use mathlib.Core.Path.{_≡_, refl, sym, ap, _∙_}
-use mathlib.Core.Bool.{Bool, true, false, true≢false, _&&_, and-true, and-false, and-eq-true-iff}
+use mathlib.Core.Bool.{Bool, true, false, true≢false, false≢true, _&&_, and-true, and-false, and-eq-true-iff}
 use mathlib.Core.List.{List, [], _∷_}
 use native.Mathlib.Omega.{arith}
 use native.Mathlib.Decide.{ℕ-discrete}
-use native.Mathlib.Nat.{le-refl}
 use lib.ListN.{length, getD, take, drop, drop-of-length-le}
 use lib.Seq.{length-take-le, getD-take, drop-cons}
 use lib.Dec.{ltb, eqb}
@@ -27,6 +26,15 @@ chain-field from start len places h =
     let b = and-eq-true-iff (ltb 0 len) (chainedFrom (from + len + 1) places) .0 (a .1) in
     record { starts = eqb-true _ _ (a .0); some = ltb-true _ _ (b .0); rest = b .1 }
 
+pub chain-none : (from : ℕ) → chainedFrom from [] ≡ true
+unfolding chainedFrom
+chain-none from = refl
+
+-- a start has a length behind it
+pub chain-single : (from start : ℕ) → chainedFrom from (start ∷ []) ≡ true → ⊥
+unfolding chainedFrom
+chain-single from start h = false≢true h
+
 pub chain-on : (from start len : ℕ) (places : List ℕ) → start ≡ from → 0 < len → chainedFrom from (start ∷ len ∷ places) ≡ chainedFrom (from + len + 1) places
 unfolding chainedFrom
 chain-on from start len places e l = rw (eq-eqb _ _ e, lt-ltb _ _ l)
@@ -43,7 +51,7 @@ start-next a b places i = let e : 2 * suc i ≡ suc (suc (2 * i)) = omega arith 
 length-next : (a b : ℕ) (places : List ℕ) (i : ℕ) → getD (a ∷ b ∷ places) (2 * suc i + 1) 0 ≡ getD places (2 * i + 1) 0
 length-next a b places i = let e : 2 * suc i + 1 ≡ suc (suc (2 * i + 1)) = omega arith in rw e
 
-end-next : (a b : ℕ) (places : List ℕ) (i : ℕ) → endAt (a ∷ b ∷ places) (suc i) ≡ endAt places i
+pub end-next : (a b : ℕ) (places : List ℕ) (i : ℕ) → endAt (a ∷ b ∷ places) (suc i) ≡ endAt places i
 unfolding endAt
 end-next a b places i = rw (start-next a b places i, length-next a b places i)
 
@@ -65,19 +73,18 @@ chain-some from (start ∷ len ∷ places) h zero l = chain-field from start len
 chain-some from (start ∷ len ∷ places) h (suc j) l =
     rw (length-next start len places j) (chain-some (from + len + 1) places (chain-field from start len places h .rest) j (omega arith))
 
--- and none ends before an earlier one
-pub chain-ends : (from : ℕ) (places : List ℕ) → chainedFrom from places ≡ true → (i j : ℕ) → i ≤ j → 2 * j + 1 < length places → endAt places i ≤ endAt places j
-chain-ends from [] h i j l m = absurd (omega arith)
-chain-ends from (start ∷ []) h i j l m = absurd (omega arith)
-chain-ends from (start ∷ len ∷ places) h zero zero l m = le-refl _
-chain-ends from (start ∷ len ∷ places) h zero (suc j) l m =
+-- and each ends past all before it
+pub chain-rises : (from : ℕ) (places : List ℕ) → chainedFrom from places ≡ true → (i j : ℕ) → i < j → 2 * j + 1 < length places → endAt places i < endAt places j
+chain-rises from [] h i j l m = absurd (omega arith)
+chain-rises from (start ∷ []) h i j l m = absurd (omega arith)
+chain-rises from (start ∷ len ∷ places) h i zero l m = absurd (omega arith)
+chain-rises from (start ∷ len ∷ places) h zero (suc j) l m =
     let c = chain-field from start len places h in
     let r = starts-after (from + len + 1) places (c .rest) j (omega arith) in
     rw (end-next start len places j, end-is (start ∷ len ∷ places) 0, end-is places j) (omega (arith, c .starts))
-chain-ends from (start ∷ len ∷ places) h (suc i) zero l m = absurd (omega arith)
-chain-ends from (start ∷ len ∷ places) h (suc i) (suc j) l m =
+chain-rises from (start ∷ len ∷ places) h (suc i) (suc j) l m =
     let c = chain-field from start len places h in
-    rw (end-next start len places i, end-next start len places j) (chain-ends (from + len + 1) places (c .rest) i j (omega arith) (omega arith))
+    rw (end-next start len places i, end-next start len places j) (chain-rises (from + len + 1) places (c .rest) i j (omega arith) (omega arith))
 
 -- ---- the fields from one on
 

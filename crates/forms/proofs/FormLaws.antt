@@ -6,7 +6,7 @@ use mathlib.Core.Logic.{_⊎_, inl, inr, ⊎-elim}
 use mathlib.Core.List.{List, [], _∷_}
 use native.Mathlib.Omega.{arith}
 use native.Mathlib.Decide.{ℕ-discrete}
-use native.Mathlib.Nat.{le-refl}
+use native.Mathlib.Nat.{le-refl, le-of-lt}
 use lib.ListN.{length, getD, take, drop}
 use lib.Seq.{length-take-le, getD-take}
 use lib.Dec.{eqb, leb}
@@ -16,7 +16,7 @@ use Rattle.line.specs.Paper.{endingOf}
 use Rattle.line.specs.declared.ending.Ending.{Ending as DeclaredEnding}
 use Rattle.forms.specs.Form.{endAt, chained, bare, tenFields, limit, made}
 use Rattle.forms.specs.Inner.{Bounded}
-use Rattle.forms.proofs.ChainLaws.{end-is, chain-ends}
+use Rattle.forms.proofs.ChainLaws.{end-is, chain-rises}
 use Rattle.forms.proofs.MadeLaws.{Tail, bare-is}
 
 -- ---- the parts
@@ -64,35 +64,36 @@ module _ {e : Ending} {places : List ℕ} (m : MadeForm e places) where
   taken = length-take-le 16 places (let n = m .ten in omega arith)
 
   -- the first eight are as they stand
-  end-taken : (i : ℕ) → i < 8 → endAt (take 16 places) i ≡ endAt places i
+  pub end-taken : (i : ℕ) → i < 8 → endAt (take 16 places) i ≡ endAt places i
   end-taken i l = end-is (take 16 places) i ∙ rw (getD-take 16 places (2 * i) 0 (omega arith), getD-take 16 places (2 * i + 1) 0 (omega arith)) (sym (end-is places i))
 
   -- where FORMAT and the samples are empty at INFO's end, they end there
   module _ (b : bare places ≡ true) where
-    tail : Tail places (m .ten)
+    pub tail : Tail places (m .ten)
     tail = bare-is places (m .ten) b
 
-    format-end : endAt places 8 ≡ endAt places 7
+    pub format-end : endAt places 8 ≡ endAt places 7
     format-end = end-is places 8 ∙ rw (tail .format, tail .none) (omega arith)
 
-    samples-end : endAt places 9 ≡ endAt places 7
+    pub samples-end : endAt places 9 ≡ endAt places 7
     samples-end = end-is places 9 ∙ rw (tail .samples, tail .empty) (omega arith)
 
   last : (i : ℕ) → i < 10 → endAt places i ≤ endAt places 9
   unfolding chained
-  last i l = by (m .fields)
+  last i l = by (m .fields) (ℕ-discrete i 9)
     where
-      early : chained (take 16 places) ≡ true → i < 8 → endAt places i ≤ endAt places 7
-      early c h = rw (← end-taken i h, ← end-taken 7 (omega arith)) (chain-ends _ (take 16 places) c i 7 (omega arith) (let t = taken in omega arith))
+      early : chained (take 16 places) ≡ true → i < 8 → Dec (i ≡ 7) → endAt places i ≤ endAt places 7
+      early c h (yes e) = rw e (le-refl _)
+      early c h (no n) = le-of-lt (rw (← end-taken i h, ← end-taken 7 (omega arith)) (chain-rises _ (take 16 places) c i 7 (omega arith) (let t = taken in omega arith)))
 
-      by : Fields places → endAt places i ≤ endAt places 9
-      by (full c) = chain-ends _ places c i 9 (omega arith) (let n = m .ten in omega arith)
-      by (eight c b) = under (ℕ-discrete i 9) (ℕ-discrete i 8)
+      by : Fields places → Dec (i ≡ 9) → endAt places i ≤ endAt places 9
+      by f (yes e) = rw e (le-refl _)
+      by (full c) (no n) = le-of-lt (chain-rises _ places c i 9 (omega arith) (let k = m .ten in omega arith))
+      by (eight c b) (no n) = under (ℕ-discrete i 8)
         where
-          under : Dec (i ≡ 9) → Dec (i ≡ 8) → endAt places i ≤ endAt places 9
-          under (yes e) d = rw e (le-refl _)
-          under (no n) (yes e) = rw (e, format-end b, samples-end b) (le-refl _)
-          under (no n) (no k) = rw (samples-end b) (early c (omega arith))
+          under : Dec (i ≡ 8) → endAt places i ≤ endAt places 9
+          under (yes e) = rw (e, format-end b, samples-end b) (le-refl _)
+          under (no k) = rw (samples-end b) (early c (omega arith) (ℕ-discrete i 7))
 
 pub made-bounded : (e : Ending) (places : List ℕ) → made e places ≡ true → Bounded places
 made-bounded e places h =

@@ -21,6 +21,14 @@ use Rattle.forms.specs.Form.{endAt, chained, bare, tenFields, limit, mad
 
 -- ---- FORMAT and the samples empty at INFO's end
 
+pub bare-drop : (places : List ℕ) → bare places ≡ true → drop 16 places ≡ endAt places 7 ∷ 0 ∷ endAt places 7 ∷ 0 ∷ []
+unfolding bare
+bare-drop places h = same-is _ _ h
+
+pub drop-bare : (places : List ℕ) → drop 16 places ≡ endAt places 7 ∷ 0 ∷ endAt places 7 ∷ 0 ∷ [] → bare places ≡ true
+unfolding bare
+drop-bare places e = rw e (same-self (endAt places 7 ∷ 0 ∷ endAt places 7 ∷ 0 ∷ []))
+
 module _ (places : List ℕ) (n : length places ≡ 20) where
   tail : drop 16 places ≡ getD places 16 0 ∷ getD places 17 0 ∷ getD places 18 0 ∷ getD places 19 0 ∷ []
   unfolding oneByOne
@@ -37,8 +45,7 @@ module _ (places : List ℕ) (n : length places ≡ 20) where
   tail-is e = let f = sym tail ∙ e in record { format = cc; none = cc; samples = cc; empty = cc }
 
   pub bare-is : bare places ≡ true → Tail
-  unfolding bare
-  bare-is h = tail-is (same-is _ _ h)
+  bare-is h = tail-is (bare-drop places h)
 
   not-bare : (Tail → ⊥) → false ≡ bare places
   unfolding bare

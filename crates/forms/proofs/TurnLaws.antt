@@ -36,11 +36,11 @@ places-ten r = refl
 
 -- ---- the ends of places
 
-endsBy : ℕ → ℕ → List ℕ → List ℕ
+pub endsBy : ℕ → ℕ → List ℕ → List ℕ
 endsBy zero k l = []
 endsBy (suc n) k l = endAt l k ∷ endsBy n (suc k) l
 
-ends-by : (n k : ℕ) (l : List ℕ) → length l ≡ 2 * (k + n) → endsBy n k l ≡ endsOf (drop (2 * k) l)
+pub ends-by : (n k : ℕ) (l : List ℕ) → length l ≡ 2 * (k + n) → endsBy n k l ≡ endsOf (drop (2 * k) l)
 unfolding endsBy endsOf endAt
 ends-by zero k l e = sym (ap endsOf (drop-of-length-le l {i = 2 * k} (omega arith)))
 ends-by (suc n) k l e =

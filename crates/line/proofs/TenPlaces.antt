@@ -31,6 +31,20 @@ lies-append places others {i} h l =
       sized = List·getD-append places others 0 (2 * i + 1) h ∙ l .sized;
     }
 
+-- ---- the leading places, column by column
+
+pub leading-none : (n from : ℕ) → leadingPlaces n from [] ≡ []
+unfolding leadingPlaces
+leading-none n from = refl
+
+pub leading-rest : (from : ℕ) (c : List ℕ) (cs : List (List ℕ)) → leadingPlaces 0 from (c ∷ cs) ≡ from ∷ length (joined 9 (c ∷ cs)) ∷ []
+unfolding leadingPlaces
+leading-rest from c cs = refl
+
+pub leading-more : (n from : ℕ) (c : List ℕ) (cs : List (List ℕ)) → leadingPlaces (suc n) from (c ∷ cs) ≡ from ∷ length c ∷ leadingPlaces n (from + length c + 1) cs
+unfolding leadingPlaces
+leading-more n from c cs = refl
+
 -- each of the n leading places is its column's
 leading-column : (n from : ℕ) (cs : List (List ℕ)) (i : ℕ) → i < n → i < length cs
     → Lies (leadingPlaces n from cs) i (from + startIn cs i) (length (getD cs i []))
@@ -52,14 +66,14 @@ leading-others (suc n) from (c ∷ cs) l =
     let e : from + length c + 1 + startIn cs n ≡ from + startIn (c ∷ cs) (suc n) = omega (arith, start-later c cs n) in
     rw (← e) (lies-next (leading-others n (from + length c + 1) cs (omega arith)))
 
-leading-length : (n from : ℕ) (cs : List (List ℕ)) → n < length cs → length (leadingPlaces n from cs) ≡ 2 * n + 2
+pub leading-length : (n from : ℕ) (cs : List (List ℕ)) → n < length cs → length (leadingPlaces n from cs) ≡ 2 * n + 2
 unfolding leadingPlaces
 leading-length n from [] l = absurd (omega arith)
 leading-length zero from (c ∷ cs) l = refl
 leading-length (suc n) from (c ∷ cs) l = let k = leading-length n (from + length c + 1) cs (omega arith) in omega arith
 
 -- where no others are left, there is no place behind them
-all-length : (n from : ℕ) (cs : List (List ℕ)) → length cs ≡ n → length (leadingPlaces n from cs) ≡ 2 * n
+pub all-length : (n from : ℕ) (cs : List (List ℕ)) → length cs ≡ n → length (leadingPlaces n from cs) ≡ 2 * n
 unfolding leadingPlaces
 all-length n from [] e = omega arith
 all-length zero from (c ∷ cs) e = absurd (omega arith)
@@ -67,12 +81,20 @@ all-length (suc n) from (c ∷ cs) e = let k = all-length n (from + length c + 1
 
 -- ---- the ten places
 
+module _ (from : ℕ) (cs : List (List ℕ)) (end : ℕ) where
+  pub eight-fields : length cs ≡ 8 → fieldPlaces from cs end ≡ leadingPlaces 8 from cs ++ end ∷ 0 ∷ end ∷ 0 ∷ []
+  unfolding fieldPlaces
+  eight-fields h = rw (eq-eqb (length cs) 8 h)
+
+  pub ten-fields : 10 ≤ length cs → fieldPlaces from cs end ≡ leadingPlaces 9 from cs
+  unfolding fieldPlaces
+  ten-fields h = rw (ne-eqb (length cs) 8 (λ z. omega arith))
+
 module _ (from : ℕ) (cs : List (List ℕ)) where
   lie-eight : length cs ≡ 8 → TenPlaces (fieldPlaces from cs (from + length (joined 9 cs))) from cs
-  unfolding fieldPlaces
   lie-eight h =
       let k = all-length 8 from cs h in
-      rw (eq-eqb (length cs) 8 h)
+      rw (eight-fields from cs (from + length (joined 9 cs)) h)
       (record {
         ten = simp length-append (omega arith);
         eight = λ i l. lies-append (leadingPlaces 8 from cs) _ (omega arith) (leading-column 8 from cs i (omega arith) (omega arith));
@@ -82,9 +104,8 @@ module _ (from : ℕ) (cs : List (List ℕ)) where
       })
 
   lie-ten : 10 ≤ length cs → TenPlaces (fieldPlaces from cs (from + length (joined 9 cs))) from cs
-  unfolding fieldPlaces
   lie-ten h =
-      rw (ne-eqb (length cs) 8 (λ z. omega arith))
+      rw (ten-fields from cs (from + length (joined 9 cs)) h)
       (record {
         ten = leading-length 9 from cs (omega arith);
         eight = λ i l. leading-column 9 from cs i (omega arith) (omega arith);
