@@ -6,3 +6,5 @@ pub mod FormLaws
 pub mod BackLaws
 pub mod CaseLaws
 pub mod Inputs
+pub mod Determined
+pub mod Demands

@@ -1,6 +1,6 @@
 -- What each answer says on paper, for who knows which it is. Assumes nothing.
 use Prim.Native.Nat.{ℕ}
-use mathlib.Core.Path.{_≡_}
+use mathlib.Core.Path.{_≡_, refl}
 use mathlib.Core.List.{[], _∷_}
 use Rattle.text.specs.Answer.{says}
 use Rattle.line.specs.Place.{rangeOf}
@@ -10,6 +10,10 @@ use Rattle.line.specs.declared.read.Record.{Record}
 use Rattle.line.specs.declared.read.Read.{Read}
 use Rattle.line.specs.declared.read.Read.the-variants as R
 use Rattle.line.specs.declared.place.Name.the-variants as N
+
+pub record-values : (r : Record) → recordValues r ≡ endingNumber (endingOf (r .ending)) ∷ recordPlaces r
+unfolding recordValues
+record-values r = refl
 
 module _ {x : Read} where
   pub read-record : {r : Record} {next : ℕ} → x ≡ R.Line r next → readPaper x ≡ says 0 (next ∷ recordValues r)

@@ -114,7 +114,7 @@ empty-lies {s} {x} h z = record { fits = omega arith; text = cut-is (x .start) (
 -- ---- the fields of a record
 
 -- a field is the place of its column's number
-range-place : (r : Record) (n : Name) → Lies (recordPlaces r) (columnNumber n) (rangeOf r n .start) (rangeOf r n .len)
+pub range-place : (r : Record) (n : Name) → Lies (recordPlaces r) (columnNumber n) (rangeOf r n .start) (rangeOf r n .len)
 unfolding recordPlaces
 range-place r N.Chrom = record { starts = refl; sized = refl }
 range-place r N.Pos = record { starts = refl; sized = refl }
