@@ -21,11 +21,12 @@
  * end of the text, or of the piece of a genotype. So it can be the text's length, where there is no byte.
  *
  * How values cross. A function that answers more than its number is lent an array `values`, always of the same length:
- * BRUNCADORZA_VALUES numbers, and BRUNCADORZA_LINE_VALUES for bruncadorza_read_line. In C such a parameter is a plain pointer,
- * so a caller must keep that so many numbers are there, aligned, and in no slice of the same call. The function sets
- * values[0] to how many values follow and values[1], values[2], .. to the values, and changes nothing behind them. How many
- * there are tells an absent thing from a present one. No function fills its array: there is room for values that are added
- * later, so that a caller's arrays can stay as they are.
+ * BRUNCADORZA_VALUES numbers, and BRUNCADORZA_LINE_VALUES for the three functions on whole lines: bruncadorza_read_line,
+ * bruncadorza_narrow and bruncadorza_widen. In C such a parameter is a plain pointer, so a caller must keep that so many numbers
+ * are there, aligned, and in no slice and no other array of the same call. The function sets values[0] to how many values follow
+ * and values[1], values[2], .. to the values, and changes nothing behind them. How many there are tells an absent thing from a
+ * present one. No function fills its array: there is room for values that are added later, so that a caller's arrays can stay as
+ * they are. The arrays `places` and `numbers` of the last two cross in the same way, and are only read.
  *
  * In the comments below `0: next, start, length` says that the number 0 comes with these three values, and `6` that it comes
  * with none.
@@ -65,7 +66,8 @@ enum bruncadorza_number {
                                          is LF */
     BRUNCADORZA_FEW_COLUMNS = 19,     /* joiner: fewer than eight columns, or nine */
     BRUNCADORZA_ABOVE_ALT = 20,       /* checked reader: an allele number is above the ALT count */
-    BRUNCADORZA_BAD_POS = 21          /* POS is bad */
+    BRUNCADORZA_BAD_POS = 21,         /* POS is bad */
+    BRUNCADORZA_NOT_MADE = 32         /* a form of a line's record that bruncadorza_read_line makes on no input */
 };
 
 /* The ten fields of a line, as bruncadorza_field_text takes them and in the order in which bruncadorza_read_line answers. */
@@ -82,16 +84,22 @@ enum bruncadorza_name {
     BRUNCADORZA_SAMPLES = 9
 };
 
-/* How a line ends, as bruncadorza_read_line answers it and bruncadorza_join takes it: the number is how many bytes it has. */
+/* How a line ends, as bruncadorza_read_line answers it and bruncadorza_join, bruncadorza_narrow and bruncadorza_widen take it: the
+   number is how many bytes it has. */
 enum bruncadorza_ending {
     BRUNCADORZA_ENDING_NOTHING = 0,    /* the end of the input */
     BRUNCADORZA_ENDING_FEED = 1,       /* LF */
     BRUNCADORZA_ENDING_RETURN_FEED = 2 /* CR LF */
 };
 
-/* How long the array `values` is: for bruncadorza_read_line, and for every other function that has values. */
+/* How long the array `values` is: for bruncadorza_read_line, bruncadorza_narrow and bruncadorza_widen, and for every other function
+   that has values. */
 #define BRUNCADORZA_LINE_VALUES 24
 #define BRUNCADORZA_VALUES 8
+
+/* How many numbers a line's record has beside its ending: the start and the length of each field; and kept small. */
+#define BRUNCADORZA_PLACES 20
+#define BRUNCADORZA_NUMBERS 11
 
 /* Characters and decimal numbers */
 
@@ -130,6 +138,25 @@ uint64_t bruncadorza_place_in(const uint8_t *s, size_t s_n, size_t start, size_t
    number is 0 in another spelling. */
 uint64_t bruncadorza_read_pos(const uint8_t *text, size_t text_n,
                               uint64_t values[BRUNCADORZA_VALUES]);
+
+/* Records kept. Who keeps many records of lines keeps them small: the ending, and eleven numbers in place of the twenty that
+   bruncadorza_read_line answers. The eleven are where the line starts, where each of its first nine fields ends, and where its text
+   ends. Each other field starts past one tab behind the end before it; without FORMAT the ninth end is that of INFO, and FORMAT and
+   the samples are empty there, with no tab between. Both functions refuse by 32 exactly what bruncadorza_read_line makes on no
+   input, so that each gives back what the other was given. Neither changes anything but `values`. */
+
+/* The small form of an ending (enum bruncadorza_ending) and the start and the length of each of ten fields. 0: the ending, where
+   the line starts, the ends of nine fields, where the text ends. 32 where bruncadorza_read_line makes them on no input, and where
+   `ending` is above 2. Behind 0 of bruncadorza_read_line its values[2] is the ending, and `places` may be &values[3]; `values` is
+   then another array. */
+uint64_t bruncadorza_narrow(uint64_t ending, const size_t places[BRUNCADORZA_PLACES],
+                            uint64_t values[BRUNCADORZA_LINE_VALUES]);
+
+/* The way back: the places of an ending (enum bruncadorza_ending) and the eleven numbers. 0: the ending, then the start and the
+   length of each of the ten fields. 32 where bruncadorza_read_line makes them on no input, and where `ending` is above 2. Behind 0
+   of bruncadorza_narrow its values[1] is the ending, and `numbers` may be &values[2]. */
+uint64_t bruncadorza_widen(uint64_t ending, const size_t numbers[BRUNCADORZA_NUMBERS],
+                           uint64_t values[BRUNCADORZA_LINE_VALUES]);
 
 /* INFO. The column is the field's text: a `.` comes as the empty text. */
 

@@ -135,6 +135,174 @@ static void read_endings(void) {
     CHECK(values[23] == 77);
 }
 
+/* A line's record in both forms. First of LINE and `GT` and `0|1` behind it, at the place 5; then of LINE alone, at the place 0. */
+static const size_t sampled_numbers[BRUNCADORZA_NUMBERS] = {5, 6, 8, 10, 12, 14, 16, 18, 20, 23, 27};
+static const size_t sampled_places[BRUNCADORZA_PLACES] = {5, 1, 7, 1, 9, 1, 11, 1, 13, 1, 15, 1, 17, 1, 19, 1, 21, 2, 24, 3};
+static const size_t bare_numbers[BRUNCADORZA_NUMBERS] = {0, 1, 3, 5, 7, 9, 11, 13, 15, 15, 15};
+static const size_t bare_places[BRUNCADORZA_PLACES] = {0, 1, 2, 1, 4, 1, 6, 1, 8, 1, 10, 1, 12, 1, 14, 1, 15, 0, 15, 0};
+
+/* Whether `values` are an ending and the numbers of a form. */
+static int are_form(const uint64_t *values, uint64_t ending, const size_t *form, uint64_t count) {
+    uint64_t i;
+    if (values[0] != count + 1 || values[1] != ending) {
+        return 0;
+    }
+    for (i = 0; i < count; i += 1) {
+        if (values[i + 2] != form[i]) {
+            return 0;
+        }
+    }
+    return 1;
+}
+
+/* Each ending, with FORMAT and without, both ways. */
+static void record_forms(void) {
+    uint64_t values[BRUNCADORZA_LINE_VALUES];
+    uint64_t ending;
+
+    values[22] = 77;
+    values[23] = 77;
+    for (ending = BRUNCADORZA_ENDING_NOTHING; ending <= BRUNCADORZA_ENDING_RETURN_FEED; ending += 1) {
+        values[13] = 77;
+        CHECK(bruncadorza_narrow(ending, sampled_places, values) == BRUNCADORZA_DONE && are_form(values, ending, sampled_numbers, 11));
+        CHECK(bruncadorza_narrow(ending, bare_places, values) == BRUNCADORZA_DONE && are_form(values, ending, bare_numbers, 11));
+        CHECK(values[13] == 77);
+        CHECK(bruncadorza_widen(ending, sampled_numbers, values) == BRUNCADORZA_DONE && are_form(values, ending, sampled_places, 20));
+        CHECK(bruncadorza_widen(ending, bare_numbers, values) == BRUNCADORZA_DONE && are_form(values, ending, bare_places, 20));
+        CHECK(values[22] == 77 && values[23] == 77);
+    }
+}
+
+/* A line that is read, kept small, and its places again. */
+static void kept_records(void) {
+    uint64_t read[BRUNCADORZA_LINE_VALUES];
+    uint64_t kept[BRUNCADORZA_LINE_VALUES];
+    uint64_t back[BRUNCADORZA_LINE_VALUES];
+
+    CHECK(bruncadorza_read_line(BYTES("#\r\n#\n" LINE "\tGT\t0|1\r\n#"), 5, read) == BRUNCADORZA_DONE && read[0] == 22);
+    CHECK(bruncadorza_narrow(read[2], &read[3], kept) == BRUNCADORZA_DONE);
+    CHECK(are_form(kept, BRUNCADORZA_ENDING_RETURN_FEED, sampled_numbers, 11));
+    CHECK(bruncadorza_widen(kept[1], &kept[2], back) == BRUNCADORZA_DONE && are(back, 21, &read[2]));
+    CHECK(bruncadorza_read_line(BYTES(LINE), 0, read) == BRUNCADORZA_DONE && read[0] == 22);
+    CHECK(bruncadorza_narrow(read[2], &read[3], kept) == BRUNCADORZA_DONE);
+    CHECK(are_form(kept, BRUNCADORZA_ENDING_NOTHING, bare_numbers, 11));
+    CHECK(bruncadorza_widen(kept[1], &kept[2], back) == BRUNCADORZA_DONE && are(back, 21, &read[2]));
+}
+
+/* Whether a form is refused, and of `values` nothing is changed but how many follow. */
+static int refuses(uint64_t turn(uint64_t, const size_t *, uint64_t *), uint64_t ending, const size_t *form) {
+    uint64_t values[BRUNCADORZA_LINE_VALUES];
+    uint64_t i;
+    for (i = 0; i < BRUNCADORZA_LINE_VALUES; i += 1) {
+        values[i] = 77;
+    }
+    if (turn(ending, form, values) != BRUNCADORZA_NOT_MADE || !none(values)) {
+        return 0;
+    }
+    for (i = 1; i < BRUNCADORZA_LINE_VALUES; i += 1) {
+        if (values[i] != 77) {
+            return 0;
+        }
+    }
+    return 1;
+}
+
+/* The same of places with number i set to n. */
+static int refuses_place(const size_t *places, size_t i, size_t n) {
+    size_t changed[BRUNCADORZA_PLACES];
+    memcpy(changed, places, sizeof changed);
+    changed[i] = n;
+    return refuses(bruncadorza_narrow, BRUNCADORZA_ENDING_FEED, changed);
+}
+
+/* The same of the small form. */
+static int refuses_number(const size_t *numbers, size_t i, size_t n) {
+    size_t changed[BRUNCADORZA_NUMBERS];
+    memcpy(changed, numbers, sizeof changed);
+    changed[i] = n;
+    return refuses(bruncadorza_widen, BRUNCADORZA_ENDING_FEED, changed);
+}
+
+static void refused_places(void) {
+    size_t most[BRUNCADORZA_PLACES];
+    size_t i;
+
+    CHECK(refuses(bruncadorza_narrow, 3, bare_places));
+    CHECK(refuses(bruncadorza_narrow, UINT64_MAX, bare_places));
+    CHECK(refuses(bruncadorza_narrow, (UINT64_C(1) << 32) + 1, bare_places));
+    for (i = 0; i < BRUNCADORZA_PLACES; i += 1) {
+        most[i] = SIZE_MAX;
+        CHECK(refuses_place(sampled_places, i, SIZE_MAX));
+        CHECK(refuses_place(bare_places, i, SIZE_MAX));
+        /* A start off by one, or a field longer by one. */
+        CHECK(refuses_place(bare_places, i, bare_places[i] + 1));
+    }
+    CHECK(refuses(bruncadorza_narrow, BRUNCADORZA_ENDING_FEED, most));
+    /* The same with FORMAT; the samples alone may be longer. */
+    for (i = 0; i < 19; i += 1) {
+        CHECK(refuses_place(sampled_places, i, sampled_places[i] + 1));
+    }
+    for (i = 0; i < 10; i += 1) {
+        CHECK(refuses_place(sampled_places, 2 * i, sampled_places[2 * i] - 1));
+        /* An empty field. */
+        CHECK(refuses_place(sampled_places, 2 * i + 1, 0));
+    }
+}
+
+static void refused_numbers(void) {
+    size_t most[BRUNCADORZA_NUMBERS];
+    size_t i;
+
+    CHECK(refuses(bruncadorza_widen, 3, bare_numbers));
+    CHECK(refuses(bruncadorza_widen, UINT64_MAX, bare_numbers));
+    CHECK(refuses(bruncadorza_widen, (UINT64_C(1) << 32) + 1, bare_numbers));
+    for (i = 0; i < BRUNCADORZA_NUMBERS; i += 1) {
+        most[i] = SIZE_MAX;
+        CHECK(refuses_number(sampled_numbers, i, SIZE_MAX));
+        CHECK(refuses_number(bare_numbers, i, SIZE_MAX));
+        /* A start or an end off by one, which makes a field empty or parts FORMAT and the samples from INFO's end. */
+        CHECK(refuses_number(bare_numbers, i, bare_numbers[i] + 1));
+    }
+    CHECK(refuses(bruncadorza_widen, BRUNCADORZA_ENDING_FEED, most));
+    /* An empty field: each starts past one tab behind the end before it. */
+    CHECK(refuses_number(sampled_numbers, 0, sampled_numbers[1]));
+    CHECK(refuses_number(sampled_numbers, 1, sampled_numbers[0]));
+    for (i = 2; i < BRUNCADORZA_NUMBERS; i += 1) {
+        CHECK(refuses_number(sampled_numbers, i, sampled_numbers[i - 1] + 1));
+        /* No tab between, which only FORMAT's absence allows. */
+        CHECK(refuses_number(sampled_numbers, i, sampled_numbers[i - 1]));
+    }
+}
+
+/* A text and its ending end where the longest input ends, and one byte further on. */
+static void farthest_forms(void) {
+    size_t numbers[BRUNCADORZA_NUMBERS];
+    size_t places[BRUNCADORZA_PLACES];
+    uint64_t values[BRUNCADORZA_LINE_VALUES];
+    uint64_t ending;
+    size_t i;
+
+    for (ending = BRUNCADORZA_ENDING_NOTHING; ending <= BRUNCADORZA_ENDING_RETURN_FEED; ending += 1) {
+        const size_t by = (size_t)INT64_MAX - (size_t)ending - LINE_N;
+        for (i = 0; i < BRUNCADORZA_NUMBERS; i += 1) {
+            numbers[i] = bare_numbers[i] + by;
+        }
+        for (i = 0; i < BRUNCADORZA_PLACES; i += 1) {
+            places[i] = i % 2 == 0 ? bare_places[i] + by : bare_places[i];
+        }
+        CHECK(bruncadorza_narrow(ending, places, values) == BRUNCADORZA_DONE && are_form(values, ending, numbers, 11));
+        CHECK(bruncadorza_widen(ending, numbers, values) == BRUNCADORZA_DONE && are_form(values, ending, places, 20));
+        for (i = 0; i < BRUNCADORZA_NUMBERS; i += 1) {
+            numbers[i] += 1;
+        }
+        for (i = 0; i < BRUNCADORZA_PLACES; i += 2) {
+            places[i] += 1;
+        }
+        CHECK(refuses(bruncadorza_narrow, ending, places));
+        CHECK(refuses(bruncadorza_widen, ending, numbers));
+    }
+}
+
 static void infos(void) {
     const uint64_t with_value[5] = {5, 0, 2, 3, 1};
     const uint64_t without[3] = {7, 5, 2};
@@ -440,6 +608,11 @@ int main(void) {
     leaves();
     lines();
     read_endings();
+    record_forms();
+    kept_records();
+    refused_places();
+    refused_numbers();
+    farthest_forms();
     infos();
     samples();
     judged_genotypes();

@@ -2,17 +2,22 @@
 //!
 //! Why each call is sound. A slice crosses as its pointer and its count of elements, both taken from one Rust slice, so that the
 //! pointer is aligned and so many elements are there. What is written comes from `&mut` slices, which overlap nothing else of the
-//! call. `values` crosses as one pointer, to an array of this module whose type has the length that the entry asks for. The library
-//! keeps no pointer, and writes only within the slices and the array lent, which is proved of it.
+//! call. `values` crosses as one pointer, to an array of this module whose type has the length that the entry asks for; and so do
+//! the numbers of a line's record, which are only read. The library keeps no pointer, and writes only within the slices and the
+//! array lent, which is proved of it.
 
 #[cfg(not(all(target_pointer_width = "64", target_endian = "little")))]
 compile_error!("the library is for processors with 64-bit little-endian numbers");
 
 use crate::text::Range;
 
-/// How long `values` is: for the line reader, and for every other entry.
+/// How long `values` is: for the line reader and the two forms of its record, and for every other entry.
 const LINE_VALUES: usize = 24;
 const VALUES: usize = 8;
+
+/// How many numbers the two forms of a line's record have beside the ending.
+pub(crate) const PLACES: usize = 20;
+pub(crate) const NUMBERS: usize = 11;
 
 #[rustfmt::skip]
 extern "C" {
@@ -28,6 +33,9 @@ extern "C" {
     ) -> u64;
     fn bruncadorza_place_in(s: *const u8, s_n: usize, start: usize, len: usize, values: &mut [u64; VALUES]) -> u64;
     fn bruncadorza_read_pos(text: *const u8, text_n: usize, values: &mut [u64; VALUES]) -> u64;
+
+    fn bruncadorza_narrow(ending: u64, places: &[usize; PLACES], values: &mut [u64; LINE_VALUES]) -> u64;
+    fn bruncadorza_widen(ending: u64, numbers: &[usize; NUMBERS], values: &mut [u64; LINE_VALUES]) -> u64;
 
     fn bruncadorza_info_step(column: *const u8, column_n: usize, at: usize, values: &mut [u64; VALUES]) -> u64;
     fn bruncadorza_info_find(
@@ -135,6 +143,11 @@ pub(crate) fn range(start: u64, len: u64) -> Range {
     }
 }
 
+/// The ten places that twenty values are.
+pub(crate) fn ranges(values: &[u64]) -> [Range; 10] {
+    std::array::from_fn(|i| range(values[2 * i], values[2 * i + 1]))
+}
+
 pub(crate) fn check_utf8(text: &[u8]) -> u64 {
     unsafe { bruncadorza_check_utf8(text.as_ptr(), text.len()) }
 }
@@ -171,6 +184,14 @@ pub(crate) fn place_in(s: &[u8], place: Range) -> Told {
 
 pub(crate) fn read_pos(text: &[u8]) -> Told {
     Told::by(|values| unsafe { bruncadorza_read_pos(text.as_ptr(), text.len(), values) })
+}
+
+pub(crate) fn narrow(ending: u64, places: &[usize; PLACES]) -> Told<LINE_VALUES> {
+    Told::by(|values| unsafe { bruncadorza_narrow(ending, places, values) })
+}
+
+pub(crate) fn widen(ending: u64, numbers: &[usize; NUMBERS]) -> Told<LINE_VALUES> {
+    Told::by(|values| unsafe { bruncadorza_widen(ending, numbers, values) })
 }
 
 pub(crate) fn info_step(column: &[u8], at: usize) -> Told {

@@ -40,6 +40,7 @@ pub mod decimal;
 #[allow(unsafe_code)]
 mod ffi;
 pub mod fields;
+pub mod forms;
 pub mod genotype;
 pub mod info;
 pub mod join;

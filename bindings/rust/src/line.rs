@@ -1,7 +1,8 @@
 //! Lines, how they ended, and the places of their ten fields.
 
-use crate::ffi::{self, range, size};
+use crate::ffi::{self, ranges, size, PLACES};
 use crate::fields::{text_in, Text};
+use crate::forms::{narrow, Narrowed, SmallRecord, Wide};
 use crate::text::Range;
 
 /// The ten fields of a line.
@@ -102,6 +103,24 @@ impl<'a> Record<'a> {
         let place = self.text_place(name)?;
         Some(&self.source[place.start..place.start + place.len])
     }
+
+    /// The ending and the ten places, without the source.
+    pub fn wide(&self) -> Wide {
+        Wide {
+            ending: self.ending,
+            places: self.places,
+        }
+    }
+
+    /// The same in the small form, for who keeps many. [`widen`](crate::forms::widen) gives the places back.
+    pub fn small(&self) -> SmallRecord {
+        match narrow(self.wide()) {
+            Narrowed::To(small) => small,
+            Narrowed::NotMade => {
+                unreachable!("the contract says that a line that was read has a small form")
+            }
+        }
+    }
 }
 
 /// What reading at a place finds. Each case has the next place.
@@ -155,12 +174,11 @@ impl Read<'_> {
 pub fn read_line(s: &[u8], at: usize) -> Read<'_> {
     let told = ffi::read_line(s, at);
     match (told.number, told.values()) {
-        (0, [next, ending @ 0..=2, places @ ..]) if places.len() == 20 => {
-            let place = |i: usize| range(places[2 * i], places[2 * i + 1]);
+        (0, [next, ending @ 0..=2, places @ ..]) if places.len() == PLACES => {
             let record = Record {
                 source: s,
                 ending: Ending::ALL[size(*ending)],
-                places: std::array::from_fn(place),
+                places: ranges(places),
             };
             Read::Line(record, size(*next))
         }

@@ -2,27 +2,33 @@
 //! docs/RULES.md, section 15, gives. The answers stored come from the Rust or a model of the rules, none from the library.
 //!
 //! Functions that no verb asks for (the judges of a genotype and of an entry, the iterators) are held to the answers of the verbs
-//! beside them, and so are all steps over a genotype together. The line reader and the joiner are held to each other.
+//! beside them, and so are all steps over a genotype together. The line reader and the joiner are held to each other, and so are the
+//! ways between the two forms of a line's record.
 
 use std::collections::BTreeMap;
 use std::fmt::Write as _;
 use std::fs;
+use std::mem::size_of;
 use std::path::Path;
 
 use bruncadorza::text::Range;
 use bruncadorza::{
-    alleles, decimal, fields, genotype, info, join, line, lists, samples, spelling, text,
+    alleles, decimal, fields, forms, genotype, info, join, line, lists, samples, spelling, text,
 };
+use forms::{Narrowed, SmallRecord, Wide, Widened};
 use genotype::Allele;
 use line::Ending;
 
 /// Every verb that a case can have.
-const VERBS: [&str; 31] = [
+const VERBS: [&str; 34] = [
     "utf8",
     "space",
     "decimal",
     "print",
     "line",
+    "small",
+    "widen",
+    "narrow",
     "field",
     "place",
     "pos",
@@ -94,6 +100,36 @@ fn a_wrong_answer_is_seen() {
         (
             "line 310931093109310931093109310931 0",
             "0 15 0 1 2 1 4 1 6 1 8 1 10 1 12 1 14 1 15 0 15 0",
+        ),
+        ("small - 0", "1 1"),
+        (
+            "small 3109310931093109310931093109310d0a 0",
+            "0 17 lf 0 1 3 5 7 9 11 13 15 15 15",
+        ),
+        (
+            "small 310931093109310931093109310931 0",
+            "0 15 none 0 1 3 5 7 9 11 13 15 15 16",
+        ),
+        (
+            "widen lf 0 1 3 5 7 9 11 13 15 15 15",
+            "0 0 1 2 1 4 1 6 1 8 1 10 1 12 1 14 1 16 0 16 0",
+        ),
+        ("widen lf 0 1 3 5 7 9 11 13 15 15 15", "32"),
+        (
+            "widen lf 0 1 3 5 7 9 11 13 15 15 16",
+            "0 0 1 2 1 4 1 6 1 8 1 10 1 12 1 14 1 15 0 15 1",
+        ),
+        (
+            "narrow crlf 0 1 2 1 4 1 6 1 8 1 10 1 12 1 14 1 16 1 18 1",
+            "0 0 1 3 5 7 9 11 13 15 17 17",
+        ),
+        (
+            "narrow crlf 0 1 2 1 4 1 6 1 8 1 10 1 12 1 14 1 16 1 18 1",
+            "32",
+        ),
+        (
+            "narrow none 0 1 2 1 4 1 6 1 8 1 10 1 12 1 14 1 16 0 16 0",
+            "0 0 1 3 5 7 9 11 13 15 16 16",
         ),
         ("field chrom - 0", "2"),
         ("place 61 0 1", "6"),
@@ -216,6 +252,12 @@ fn a_last_return_is_refused_before_a_feed_alone() {
     }
 }
 
+/// It is for keeping: an ending and eleven numbers, and no text.
+#[test]
+fn a_small_record_takes_twelve_words() {
+    assert_eq!(size_of::<SmallRecord>(), 12 * size_of::<usize>());
+}
+
 /// How many cases of each verb were held, or the first difference. A line that is stored as no case is passed over, and counted
 /// under `?`.
 fn hold(cases: &[u8], answers: &[u8]) -> Result<BTreeMap<String, usize>, String> {
@@ -262,6 +304,9 @@ fn answer(words: &[&str]) -> String {
         ["decimal", s] => read_decimal(&bytes(s)),
         ["print", room, n] => print(size(room), number(n)),
         ["line", s, at] => read_line(&bytes(s), size(at)),
+        ["small", s, at] => small(&bytes(s), size(at)),
+        ["widen", ending, ref numbers @ ..] => widen(ending_of(ending), &sizes(numbers)),
+        ["narrow", ending, ref places @ ..] => narrow(ending_of(ending), &sizes(places)),
         ["field", name, s, at] => field(name, &bytes(s), size(at)),
         ["place", s, start, len] => place(&bytes(s), size(start), size(len)),
         ["pos", s] => pos(&bytes(s)),
@@ -292,8 +337,7 @@ fn answer(words: &[&str]) -> String {
         ["alts", room, at, s, e] => alts(size(room), size(at), &bytes(s), &ends(e)),
         ["altcount", s] => lists::alt_count(&bytes(s)).to_string(),
         ["join", room, at, ending, s, e] => {
-            let ending = Ending::ALL[index_of(&ENDINGS, ending)];
-            join_columns(size(room), size(at), ending, &bytes(s), &ends(e))
+            join_columns(size(room), size(at), ending_of(ending), &bytes(s), &ends(e))
         }
         _ => panic!("no such case: {words:?}"),
     }
@@ -329,6 +373,15 @@ fn half(word: &str) -> u32 {
 fn index_of(names: &[&str], word: &str) -> usize {
     let found = names.iter().position(|name| *name == word);
     found.expect("one of the names")
+}
+
+fn ending_of(word: &str) -> Ending {
+    Ending::ALL[index_of(&ENDINGS, word)]
+}
+
+/// A number each.
+fn sizes(words: &[&str]) -> Vec<usize> {
+    words.iter().map(|word| size(word)).collect()
 }
 
 /// Numbers joined by commas, `-` for none.
@@ -374,6 +427,11 @@ fn said(number: u64, value: Option<usize>) -> String {
 
 fn at_place(range: Range) -> String {
     format!("{} {}", range.start, range.len)
+}
+
+/// The small form's numbers, with spaces between.
+fn numbers_of(small: SmallRecord) -> String {
+    small.numbers.map(|number| number.to_string()).join(" ")
 }
 
 /// Numbers joined by commas, `-` for none.
@@ -437,6 +495,55 @@ fn read_line(s: &[u8], at: usize) -> String {
         }
     }
     out
+}
+
+fn small(s: &[u8], at: usize) -> String {
+    let read = line::read_line(s, at);
+    let out = said(read.number(), Some(read.next()));
+    let line::Read::Line(record, _) = read else {
+        return out;
+    };
+    let Narrowed::To(small) = forms::narrow(record.wide()) else {
+        panic!("a line that was read is refused");
+    };
+    assert_eq!(small, record.small());
+    assert_eq!(forms::widen(small), Widened::To(record.wide()));
+    let ending = ENDINGS[small.ending as usize];
+    format!("{out} {ending} {}", numbers_of(small))
+}
+
+fn widen(ending: Ending, numbers: &[usize]) -> String {
+    let numbers = numbers.try_into().expect("eleven numbers");
+    let small = SmallRecord { ending, numbers };
+    let widened = forms::widen(small);
+    let Widened::To(wide) = widened else {
+        return said(widened.number(), None);
+    };
+    assert_eq!(forms::narrow(wide), Narrowed::To(small));
+    let mut out = said(widened.number(), None);
+    for (place, name) in wide.places.into_iter().zip(line::Name::ALL) {
+        assert_eq!(wide.place(name), place);
+        out = format!("{out} {}", at_place(place));
+    }
+    out
+}
+
+fn narrow(ending: Ending, places: &[usize]) -> String {
+    let places: [usize; 20] = places.try_into().expect("twenty numbers");
+    let place = |i: usize| Range {
+        start: places[2 * i],
+        len: places[2 * i + 1],
+    };
+    let wide = Wide {
+        ending,
+        places: std::array::from_fn(place),
+    };
+    let narrowed = forms::narrow(wide);
+    let Narrowed::To(small) = narrowed else {
+        return said(narrowed.number(), None);
+    };
+    assert_eq!(forms::widen(small), Widened::To(wide));
+    format!("{} {}", narrowed.number(), numbers_of(small))
 }
 
 /// The columns of a line as one text, and the end of each.

@@ -12,11 +12,13 @@ use crate::parts::front;
 use crate::parts::part;
 use crate::words::Counted;
 use crate::words::Decoded;
+use crate::words::Ended;
 use crate::words::Numeral;
 use crate::words::ROOM;
 use crate::words::Row;
 use crate::words::Text;
 use crate::words::decode;
+use crate::words::ending;
 use crate::words::index_in;
 use crate::words::number;
 use crate::words::numbers;
@@ -24,7 +26,6 @@ use crate::words::word;
 use join::columns::Joined;
 use join::columns::join;
 use line::ending::Ending;
-use line::ending::ending_by;
 use lists::alternate_bases::alt_count;
 use lists::alternate_bases::write_alts;
 use lists::filters::write_filters;
@@ -68,15 +69,12 @@ fn answer_count(case: &[u8], text: &mut Text, out: &mut Buffer, at: Place) -> An
     Answer::Given(put_number(out, at, alt_count(part(text, 0, end)) as u64))
 }
 
-const ENDINGS: usize = 3;
-
 // `join`, which is given an ending too.
 fn answer_join(case: &[u8], text: &mut Text, out: &mut Buffer, at: Place) -> Answer {
-    let k = index_in(b"none lf crlf", ENDINGS, word(case, 3));
-    if k == ENDINGS {
+    let Ended::By(ended) = ending(case, 3) else {
         return Answer::NoCase;
-    }
-    answer_writer(case, Writer::Columns(ending_by(k)), 4, text, out, at)
+    };
+    answer_writer(case, Writer::Columns(ended), 4, text, out, at)
 }
 
 // What writes a list: `join` with its ending, `filters` or `alts`.

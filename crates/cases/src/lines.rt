@@ -6,6 +6,7 @@ use crate::output::Said;
 use crate::output::put_number;
 use crate::output::put_said;
 use crate::output::then_bytes;
+use crate::output::then_each;
 use crate::output::then_range;
 use crate::parts::part;
 use crate::words::Decoded;
@@ -25,6 +26,7 @@ use fields::pos::read_pos;
 use line::ending::Ending;
 use line::place::Name;
 use line::place::ending_of;
+use line::place::numbers_of;
 use line::place::place_of;
 use line::read::Read;
 use line::read::Record;
@@ -38,15 +40,16 @@ pub fn answer(
     out: &mut Buffer,
     at: Place,
 ) -> Answer {
-    let verb = index_in(b"pos line field place", 4, word(case, 0));
+    let verb = index_in(b"pos line small field place", 5, word(case, 0));
     if arguments != takes(verb) {
         return Answer::NoCase;
     }
     match verb {
         0 => answer_pos(case, text, out, at),
-        1 => answer_line(case, text, out, at),
-        2 => answer_field(case, text, out, at),
-        3 => answer_place(case, text, out, at),
+        1 => answer_line(case, verb, text, out, at),
+        2 => answer_line(case, verb, text, out, at),
+        3 => answer_field(case, text, out, at),
+        4 => answer_place(case, text, out, at),
         _ => Answer::NoCase,
     }
 }
@@ -56,6 +59,7 @@ fn takes(verb: usize) -> usize {
     match verb {
         0 => 1,
         1 => 2,
+        2 => 2,
         _ => 3,
     }
 }
@@ -79,22 +83,45 @@ fn pos(s: &[u8], out: &mut Buffer, at: Place) -> Place {
     }
 }
 
-fn answer_line(case: &[u8], text: &mut Text, out: &mut Buffer, at: Place) -> Answer {
+// `line` and `small`, which are given a text and a place.
+fn answer_line(case: &[u8], verb: usize, text: &mut Text, out: &mut Buffer, at: Place) -> Answer {
     let Placed::At(end, from) = decode_and_number(case, 1, text) else {
         return Answer::NoCase;
     };
-    Answer::Given(line(part(text, 0, end), from, out, at))
+    let read = read_line(part(text, 0, end), from);
+    if verb == 1 {
+        return Answer::Given(line(read, out, at));
+    }
+    Answer::Given(small(read, out, at))
 }
 
-fn line(s: &[u8], from: usize, out: &mut Buffer, at: Place) -> Place {
-    let read = read_line(s, from);
+// A reading, and of a line the place of each field.
+fn line(read: Read, out: &mut Buffer, at: Place) -> Place {
+    let then = put_read(read, out, at);
+    if let Read::Line(record, _) = read {
+        return then_places(record, out, then);
+    }
+    then
+}
+
+// A reading, and of a line the numbers of its record.
+fn small(read: Read, out: &mut Buffer, at: Place) -> Place {
+    let then = put_read(read, out, at);
+    if let Read::Line(record, _) = read {
+        let numbers = numbers_of(record);
+        return then_each(out, then, &numbers);
+    }
+    then
+}
+
+// A reading's number and the next place, and how a line ended.
+fn put_read(read: Read, out: &mut Buffer, at: Place) -> Place {
     let told = tell(read);
     let number = told.number;
     let next = told.next;
     let then = put_said(out, at, Said::With(number, next as u64));
     if let Read::Line(record, _) = read {
-        let then = then_ending(ending_of(record), out, then);
-        return then_places(record, out, then);
+        return then_ending(ending_of(record), out, then);
     }
     then
 }

@@ -10,6 +10,7 @@ mod parts;
 mod rows;
 mod sampling;
 mod spellings;
+mod turning;
 mod verbs;
 mod words;
 

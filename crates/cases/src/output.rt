@@ -96,6 +96,17 @@ pub fn then_range(out: &mut Buffer, at: Place, range: Range) -> Place {
     then_number(out, next, len as u64)
 }
 
+// The numbers, with a space before each.
+pub fn then_each(out: &mut Buffer, at: Place, numbers: &[usize]) -> Place {
+    let mut next = at;
+    let mut k = 0;
+    while k < numbers.len() {
+        next = then_number(out, next, numbers[k] as u64);
+        k += 1;
+    }
+    next
+}
+
 // What stands between two answers of one case.
 pub fn put_comma(out: &mut Buffer, at: Place) -> Place {
     let next = put_byte(out, at, b',');

@@ -12,6 +12,7 @@ use crate::output::put_byte;
 use crate::rows;
 use crate::sampling;
 use crate::spellings;
+use crate::turning;
 use crate::words::Text;
 use pieces::count::count_byte;
 
@@ -31,6 +32,10 @@ fn ask(case: &[u8], text: &mut Text, out: &mut Buffer, at: Place) -> Answer {
         return given;
     }
     let given = lines::answer(case, arguments, text, out, at);
+    if let Answer::Given(_) = given {
+        return given;
+    }
+    let given = turning::answer(case, arguments, out, at);
     if let Answer::Given(_) = given {
         return given;
     }

@@ -1,7 +1,9 @@
-// The words of a case, and its arguments as numbers, rows of numbers and bytes.
+// The words of a case, and its arguments as numbers, rows of numbers, endings and bytes.
 use crate::parts::part;
 use decimal::read::Number;
 use decimal::read::read_decimal;
+use line::ending::Ending;
+use line::ending::ending_by;
 use pieces::step::Step;
 use pieces::step::piece_at;
 use text::same::same_bytes;
@@ -137,6 +139,23 @@ fn split_numbers(s: &[u8], row: &mut Row) -> Counted {
         at = end + 1;
     }
     Counted::Bad
+}
+
+const ENDINGS: usize = 3;
+
+// How a line ended, or that the word does not say it.
+pub enum Ended {
+    By(Ending),
+    Bad,
+}
+
+// Word k of a case as an ending.
+pub fn ending(case: &[u8], k: usize) -> Ended {
+    let n = index_in(b"none lf crlf", ENDINGS, word(case, k));
+    if n == ENDINGS {
+        return Ended::Bad;
+    }
+    Ended::By(ending_by(n))
 }
 
 // The byte that two hex digits make, or that one of them is none.

@@ -10,7 +10,7 @@ use Rattle.text.specs.Pick.{pick}
 use Rattle.text.specs.Range.{rangeAt}
 use Rattle.text.specs.declared.range.Range.{Range}
 use Rattle.line.specs.Line.{Ending, endingNumber, numbersOf, readAnswer}
-use Rattle.line.specs.Place.{nowhere, rangeOf, columnNumber}
+use Rattle.line.specs.Place.{rangeOf, columnNumber}
 use Rattle.line.specs.Paper.{endingOf, recordPlaces, recordNumbers}
 use Rattle.line.specs.Demands as Line
 use Rattle.line.specs.Demands.{Reader}
@@ -23,7 +23,7 @@ use Rattle.line.specs.declared.place.Name.the-variants as N
 use Rattle.forms.specs.Form.{made, widenAnswer, narrowAnswer}
 use Rattle.forms.specs.Paper.{wideRange, widePlaces, widenedPaper, narrowedPaper}
 use Rattle.forms.specs.Promises.{WidensRecord, NarrowsWide}
-use Rattle.forms.specs.Demands.{Makes, FormOf, Widens, OneWidener, Narrows, OneNarrower, BackAndForth, Alike, AlikeForms, ReadIsMade, InNoInput}
+use Rattle.forms.specs.Demands.{Makes, FormOf, Widens, OneWidener, Narrows, OneNarrower, BackAndForth, Alike, AlikeForms, ReadIsMade}
 use Rattle.forms.specs.declared.wide.Wide.{Wide}
 use Rattle.forms.specs.declared.turn.Widened.the-variants as W
 use Rattle.forms.specs.declared.turn.Narrowed.the-variants as R
@@ -184,7 +184,7 @@ alike-forms r w h =
     let t = widened-turned r w h in
     record { ending = t .ending; fields = λ n. wide-at w n ∙ ap (λ (l : List ℕ). placeAt l (columnNumber n)) (t .places) ∙ sym (record-at r n) }
 
--- ---- records that were read, and records that were not
+-- ---- records that were read
 
 pub read-is-made : ReadIsMade
 unfolding ReadIsMade widenedPaper widenAnswer
@@ -193,7 +193,3 @@ read-is-made s at next r room h q =
     let y : says 32 [] ≡ says 0 (endingNumber (endingOf (r .ending)) ∷ recordPlaces r) = q ∙ rw (form-made m) in
     let n = ap numberOf y in
     absurd (omega arith)
-
-pub in-no-input : InNoInput
-unfolding InNoInput nowhere
-in-no-input s room = let r = room .1 in omega arith

@@ -10,7 +10,7 @@ use denote.Builtin.{u8}
 use denote.Slice.{Room}
 use Rattle.text.specs.Answer.{Answer, says}
 use Rattle.line.specs.Line.{Ending, endingNumber, numbersOf}
-use Rattle.line.specs.Place.{nowhere, rangeOf}
+use Rattle.line.specs.Place.{rangeOf}
 use Rattle.line.specs.Paper.{endingOf, recordPlaces, recordNumbers}
 use Rattle.line.specs.Promises.{ReadsLine}
 use Rattle.line.specs.Demands as Line
@@ -84,12 +84,8 @@ pub record Alike (r : Record) (w : Wide) : Type 0 where
 unfoldable pub AlikeForms : Type 0
 AlikeForms = (r : Record) (w : Wide) → WidensRecord r (W.To w) → Alike r w
 
--- ---- records that were read, and records that were not
+-- ---- records that were read
 
 -- what the line reader made of an input is widened
 unfoldable pub ReadIsMade : Type 0
 ReadIsMade = (s : List ℕ) (at next : ℕ) (r : Record) → Room u8 (length s) → ReadsLine s at (L.Line r next) → WidensRecord r W.NotMade → ⊥
-
--- a field that ends before it starts lies in no input
-unfoldable pub InNoInput : Type 0
-InNoInput = (s : List ℕ) → Room u8 (length s) → length s < nowhere .start

@@ -3,7 +3,6 @@ use crate::made::is_made;
 use crate::wide::Wide;
 use crate::wide::make_wide;
 use crate::wide::wide_places;
-use line::ending::Ending;
 use line::place::Name;
 use line::place::ending_of;
 use line::place::make_record;

@@ -9,6 +9,7 @@ use Rattle.text.specs.declared.range.Range.{Range}
 use Rattle.line.specs.Line.{endsOf, numbersOf}
 use Rattle.line.specs.Place.{nowhere, span, passed, rangeOf}
 use Rattle.line.specs.Paper.{recordPlaces, recordNumbers}
+use Rattle.line.specs.Demands.{Unreached}
 use Rattle.line.specs.declared.read.Record.{Record}
 
 -- ---- from a start to an end
@@ -36,6 +37,10 @@ place-none e h = e ∙ sym (span-none h)
 
 pub tab-none : {before end : ℕ} {x : Range} → x ≡ nowhere → end ≤ before → x ≡ span (before + 1) end
 tab-none e h = place-none e (omega arith)
+
+pub unreached : Unreached
+unfolding Unreached nowhere
+unreached s room start end h = rw (span-none h) (let r = room .1 in omega arith)
 
 -- ---- FORMAT and the samples
 
