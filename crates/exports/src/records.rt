@@ -30,8 +30,27 @@ fn tell_wide(wide: Wide, values: &mut [u64; LINE_VALUES]) -> u64
     let ending = ending_size(wide_ending(wide));
     let p = wide_places(wide);
     let vs = [
-        ending, p[0], p[1], p[2], p[3], p[4], p[5], p[6], p[7], p[8], p[9], p[10], p[11], p[12], p[13],
-        p[14], p[15], p[16], p[17], p[18], p[19],
+        ending,
+        p[0],
+        p[1],
+        p[2],
+        p[3],
+        p[4],
+        p[5],
+        p[6],
+        p[7],
+        p[8],
+        p[9],
+        p[10],
+        p[11],
+        p[12],
+        p[13],
+        p[14],
+        p[15],
+        p[16],
+        p[17],
+        p[18],
+        p[19],
     ];
     tell(0, &vs, values)
 }
@@ -43,7 +62,18 @@ fn tell_record(line: Record, values: &mut [u64; LINE_VALUES]) -> u64
     let ending = ending_size(ending_of(line));
     let n = numbers_of(line);
     let vs = [
-        ending, n[0], n[1], n[2], n[3], n[4], n[5], n[6], n[7], n[8], n[9], n[10],
+        ending,
+        n[0],
+        n[1],
+        n[2],
+        n[3],
+        n[4],
+        n[5],
+        n[6],
+        n[7],
+        n[8],
+        n[9],
+        n[10],
     ];
     tell(0, &vs, values)
 }

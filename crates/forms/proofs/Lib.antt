@@ -8,3 +8,4 @@ pub mod CaseLaws
 pub mod Inputs
 pub mod Determined
 pub mod Demands
+pub mod Size

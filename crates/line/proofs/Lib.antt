@@ -23,3 +23,4 @@ pub mod Impostors
 pub mod Determined
 pub mod RecordLaws
 pub mod CaseLaws
+pub mod Size
