@@ -4,7 +4,7 @@ use mathlib.Core.Path.{_≡_, refl, sym, ap, _∙_}
 use mathlib.Core.List.{List, [], _∷_}
 use lib.ListN.{length, getD}
 use borrow.Author.Tests.{le-leb, lt-leb}
-use Rattle.text.specs.Answer.{Answer, says}
+use Rattle.text.specs.Answer.{says}
 use Rattle.line.specs.Line as Line
 use Rattle.line.specs.Line.{endingNumber, endingBy}
 use Rattle.line.specs.Paper.{endingOf, recordPlaces}
@@ -12,7 +12,7 @@ use Rattle.line.specs.Promises.{SizesEnding, NamesEnding, GivesEnding, GivesNum
 use Rattle.line.specs.declared.ending.Ending.{Ending}
 use Rattle.line.specs.declared.ending.Ending.the-variants as E
 use Rattle.line.specs.declared.read.Record.{Record}
-use Rattle.line.proofs.LineLaws.{ending-size}
+use Rattle.line.proofs.LineLaws.{ending-told}
 use Rattle.line.proofs.NumberLaws.{oneByOne, one-by-one, places-with}
 use Rattle.forms.specs.Form.{widenAnswer, narrowAnswer}
 use Rattle.forms.specs.Paper.{widePlaces, widenedPaper, narrowedPaper}
@@ -26,10 +26,6 @@ use Rattle.forms.proofs.CaseLaws.{widened-form, narrowed-record}
 use Rattle.exports.specs.Told.{Tells}
 use Rattle.exports.specs.Places.{widenedAnswer, narrowedAnswer}
 use Rattle.exports.proofs.ToldLaws.{told-case}
-
--- the number of an ending is how many bytes it has
-ending-told : {x y : Ending} {size : ℕ} → SizesEnding x size → x ≡ y → size ≡ endingNumber (endingOf y)
-ending-told {x} s e = s ∙ ending-size (endingOf x) ∙ ap (λ (z : Ending). endingNumber (endingOf z)) e
 
 module _ {r : ℕ} {l l′ : List ℕ} where
   pub wide-told : (w : Wide) (p : List ℕ) {x : Ending} {size : ℕ} → length p ≡ 20 → Forms.GivesEnding w x → SizesEnding x size → Forms.GivesPlaces w p

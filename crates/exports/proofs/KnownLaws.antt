@@ -1,6 +1,6 @@
 -- What is told of a line, of an INFO entry and of an allele, and of an answer that is known to be one. Assumes nothing.
 use Prim.Native.Nat.{ℕ}
-use mathlib.Core.Path.{_≡_, refl, ap, _∙_}
+use mathlib.Core.Path.{_≡_, refl, _∙_}
 use mathlib.Core.List.{List, [], _∷_}
 use Rattle.text.specs.Answer.{says}
 use Rattle.text.specs.declared.range.Range.{Range}
@@ -14,7 +14,7 @@ use Rattle.line.specs.declared.read.Record.{Record}
 use Rattle.line.specs.declared.read.Read.{Read}
 use Rattle.line.specs.declared.read.Read.the-variants as R
 use Rattle.line.specs.declared.place.Name.the-variants as N
-use Rattle.line.proofs.LineLaws.{ending-size}
+use Rattle.line.proofs.LineLaws.{ending-told}
 use Rattle.line.proofs.CaseLaws as L
 use Rattle.info.specs.Paper as IP
 use Rattle.info.specs.declared.step.Entry.{Entry}
@@ -58,7 +58,7 @@ module _ {r : ℕ} {l l′ : List ℕ} where
       → samples ≡ rangeOf line N.Samples
       → Tells (readPaper (R.Line line next)) l r l′
   line-told line next {x} {size} t k m a b c d e f g h i j =
-      let z : size ≡ endingNumber (endingOf (line .ending)) = m ∙ ending-size (endingOf x) ∙ ap (λ (y : Ending). endingNumber (endingOf y)) k in
+      let z : size ≡ endingNumber (endingOf (line .ending)) = ending-told {x = x} m k in
       told-case (L.read-line refl ∙ rw (z, a, b, c, d, e, f, g, h, i, j)) t
 
   pub allele-told : (a : Allele) (next : ℕ) {n m p : ℕ} → n ≡ a .number → m ≡ oneIf (a .missing) → p ≡ oneIf (a .phased)

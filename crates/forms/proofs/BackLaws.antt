@@ -5,7 +5,6 @@ use mathlib.Core.Path.{_≡_, refl, sym, ap, _∙_}
 use mathlib.Core.Bool.{Bool, true, false}
 use mathlib.Core.List.{List, [], _∷_, _++_}
 use native.Mathlib.Omega.{arith}
-use native.Mathlib.Decide.{ℕ-discrete}
 use native.Mathlib.Nat.{le-refl}
 use lib.ListN.{length, getD, take, drop, take-append-drop}
 use lib.Seq.{length-take-le, getD-take}
@@ -18,10 +17,9 @@ use Rattle.line.specs.Place.{nowhere, span, passed, rangeOf}
 use Rattle.line.specs.Paper.{recordPlaces, recordNumbers}
 use Rattle.line.specs.declared.read.Record.{Record}
 use Rattle.line.proofs.SpanLaws.{span-real, span-none, passed-none, passed-one, Rising, rising-numbers}
-use Rattle.forms.specs.Form.{endAt, chainedFrom, chained, bare}
+use Rattle.forms.specs.Form.{endAt, chainedFrom, chained}
 use Rattle.forms.proofs.ChainLaws.{chain-field, chain-single, chain-some, chain-rises, end-is, end-next}
-use Rattle.forms.proofs.MadeLaws.{Tail, bare-drop}
-use Rattle.forms.proofs.TurnLaws.{places-ten}
+use Rattle.forms.proofs.MadeLaws.{bare-drop}
 use Rattle.forms.proofs.FormLaws.{Fields, full, eight, MadeForm, tail, format-end, samples-end}
 
 -- ---- from places to numbers

@@ -1,33 +1,34 @@
 -- The statements on the two forms: the definitions meet them, and whatever meets them answers as the definitions do. Assumes nothing.
-use Prim.Native.Nat.{ℕ, _+_, _*_, _<_}
+use Prim.Native.Nat.{ℕ, _+_, _*_}
 use mathlib.Core.Path.{_≡_, refl, sym, ap, _∙_}
 use mathlib.Core.Bool.{Bool, true, false, true≢false}
 use mathlib.Core.List.{List, [], _∷_}
 use native.Mathlib.Omega.{arith}
-use lib.ListN.{length, getD}
+use lib.ListN.{getD}
 use Rattle.text.specs.Answer.{Answer, says, numberOf}
 use Rattle.text.specs.Pick.{pick}
 use Rattle.text.specs.Range.{rangeAt}
 use Rattle.text.specs.declared.range.Range.{Range}
-use Rattle.line.specs.Line.{Ending, endingNumber, numbersOf, readAnswer}
+use Rattle.line.specs.Line.{endingNumber, numbersOf}
 use Rattle.line.specs.Place.{rangeOf, columnNumber}
 use Rattle.line.specs.Paper.{endingOf, recordPlaces, recordNumbers}
 use Rattle.line.specs.Demands as Line
 use Rattle.line.specs.Demands.{Reader}
 use Rattle.line.specs.declared.ending.Ending.{Ending as DeclaredEnding}
 use Rattle.line.specs.declared.read.Record.{Record}
+use Rattle.line.proofs.LineLaws.{ending-numbered}
 use Rattle.line.proofs.CaseLaws.{record-values, read-record}
+use Rattle.line.proofs.Determined.{same-ending}
 use Rattle.line.proofs.RecordLaws.{range-place}
 use Rattle.line.specs.declared.place.Name.{Name}
 use Rattle.line.specs.declared.place.Name.the-variants as N
 use Rattle.forms.specs.Form.{made, widenAnswer, narrowAnswer}
 use Rattle.forms.specs.Paper.{wideRange, widePlaces, widenedPaper, narrowedPaper}
 use Rattle.forms.specs.Promises.{WidensRecord, NarrowsWide}
-use Rattle.forms.specs.Demands.{Makes, FormOf, Widens, OneWidener, Narrows, OneNarrower, BackAndForth, Alike, AlikeForms, ReadIsMade}
+use Rattle.forms.specs.Demands.{Makes, FormOf, Widens, OneWidener, Narrows, OneNarrower, BackAndForth, AlikeForms, ReadIsMade}
 use Rattle.forms.specs.declared.wide.Wide.{Wide}
 use Rattle.forms.specs.declared.turn.Widened.the-variants as W
 use Rattle.forms.specs.declared.turn.Narrowed.the-variants as R
-use Rattle.forms.proofs.Determined.{ending-by}
 use Rattle.forms.proofs.FormLaws.{MadeForm, made-form, form-made}
 use Rattle.forms.proofs.BackLaws.{numbers-back, places-back}
 use Rattle.forms.proofs.Inputs.{makes-form, form-of, answered}
@@ -116,10 +117,6 @@ record Turned (r : Record) (w : Wide) : Type 0 where
   places : widePlaces w ≡ recordPlaces r
   form : MadeForm (endingOf (r .ending)) (recordPlaces r)
 
--- an ending's number, by the ending
-numbered : {x y : DeclaredEnding} → x ≡ y → endingNumber (endingOf x) ≡ endingNumber (endingOf y)
-numbered = ap (λ (x : DeclaredEnding). endingNumber (endingOf x))
-
 module _ (r : Record) (w : Wide) where
   widened-turned : WidensRecord r (W.To w) → Turned r w
   unfolding widenedPaper widenAnswer
@@ -127,12 +124,12 @@ module _ (r : Record) (w : Wide) where
     where
       by : (b : Bool) → made (endingOf (r .ending)) (recordPlaces r) ≡ b
           → says 0 (endingNumber (endingOf (w .ending)) ∷ widePlaces w) ≡ pick b (says 0 (endingNumber (endingOf (r .ending)) ∷ recordPlaces r)) (says 32 []) → Turned r w
-      by true e q = record { ending = ending-by (w .ending) (r .ending) cc; places = cc; form = made-form (endingOf (r .ending)) (recordPlaces r) e }
+      by true e q = record { ending = same-ending (w .ending) (r .ending) cc; places = cc; form = made-form (endingOf (r .ending)) (recordPlaces r) e }
       by false e q = absurd (let z = ap numberOf q in omega arith)
 
   turned-widened : Turned r w → WidensRecord r (W.To w)
   unfolding widenedPaper widenAnswer
-  turned-widened t = rw (form-made (t .form), numbered (t .ending), t .places)
+  turned-widened t = rw (form-made (t .form), ending-numbered (t .ending), t .places)
 
   narrowed-turned : NarrowsWide w (R.To r) → Turned r w
   unfolding narrowedPaper narrowAnswer
@@ -143,7 +140,7 @@ module _ (r : Record) (w : Wide) where
       by true e q =
           let m = made-form (endingOf (w .ending)) (widePlaces w) e in
           let p = places-back m r cc in
-          let d : r .ending ≡ w .ending = ending-by (r .ending) (w .ending) cc in
+          let d : r .ending ≡ w .ending = same-ending (r .ending) (w .ending) cc in
           record { ending = sym d; places = sym p; form = rw (p, d) m }
       by false e q = absurd (let z = ap numberOf q in omega arith)
 
@@ -151,7 +148,7 @@ module _ (r : Record) (w : Wide) where
   unfolding narrowedPaper narrowAnswer
   turned-narrowed t =
       let m : made (endingOf (w .ending)) (widePlaces w) ≡ true = ap (λ (x : DeclaredEnding). made (endingOf x) (widePlaces w)) (t .ending) ∙ ap (made (endingOf (r .ending))) (t .places) ∙ form-made (t .form) in
-      rw (m, numbered (t .ending), t .places, numbers-back r (t .form))
+      rw (m, ending-numbered (t .ending), t .places, numbers-back r (t .form))
 
 pub back-and-forth : BackAndForth
 unfolding BackAndForth

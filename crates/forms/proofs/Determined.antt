@@ -2,17 +2,14 @@
 -- numbers. Assumes nothing.
 use Prim.Native.Nat.{ℕ}
 use mathlib.Core.Path.{_≡_, refl, sym, ap, _∙_}
-use mathlib.Core.List.{List, [], _∷_}
+use mathlib.Core.List.{List}
 use native.Mathlib.Omega.{arith}
 use lib.ListN.{getD}
-use Rattle.text.specs.Answer.{Answer, says, numberOf}
+use Rattle.text.specs.Answer.{numberOf}
 use Rattle.text.specs.Range.{rangeAt}
-use Rattle.line.specs.Line.{endingNumber}
-use Rattle.line.specs.Paper.{endingOf, recordNumbers}
 use Rattle.line.specs.declared.ending.Ending.{Ending}
 use Rattle.line.specs.declared.read.Record.{Record}
-use Rattle.line.proofs.LineLaws.{ending-known}
-use Rattle.line.proofs.Determined.{ending-injective, form-injective}
+use Rattle.line.proofs.Determined.{same-ending, form-injective}
 use Rattle.forms.specs.Paper.{widePlaces, widenedPaper, narrowedPaper}
 use Rattle.forms.specs.Promises.{Determined}
 use Rattle.forms.specs.declared.wide.Wide.{Wide}
@@ -48,20 +45,16 @@ wide-injective w w′ p q = sym (wide-back w) ∙ ap (λ (e : Ending). wideOf e 
 
 -- ---- the answers
 
--- endings with one number are one
-pub ending-by : (e f : Ending) → endingNumber (endingOf e) ≡ endingNumber (endingOf f) → e ≡ f
-ending-by e f h = ending-injective e f (ending-known (endingOf e) (endingOf f) h)
-
 pub widened-injective : (x y : Widened) → widenedPaper x ≡ widenedPaper y → x ≡ y
 unfolding widenedPaper
-widened-injective (W.To w) (W.To v) e = ap (λ (z : Wide). W.To z) (wide-injective w v (ending-by (w .ending) (v .ending) cc) cc)
+widened-injective (W.To w) (W.To v) e = ap (λ (z : Wide). W.To z) (wide-injective w v (same-ending (w .ending) (v .ending) cc) cc)
 widened-injective (W.To w) W.NotMade e = absurd (let z = ap numberOf e in omega arith)
 widened-injective W.NotMade (W.To w) e = absurd (let z = ap numberOf e in omega arith)
 widened-injective W.NotMade W.NotMade e = refl
 
 pub narrowed-injective : (x y : Narrowed) → narrowedPaper x ≡ narrowedPaper y → x ≡ y
 unfolding narrowedPaper
-narrowed-injective (R.To r) (R.To s) e = ap (λ (z : Record). R.To z) (form-injective r s (ending-by (r .ending) (s .ending) cc) cc)
+narrowed-injective (R.To r) (R.To s) e = ap (λ (z : Record). R.To z) (form-injective r s (same-ending (r .ending) (s .ending) cc) cc)
 narrowed-injective (R.To r) R.NotMade e = absurd (let z = ap numberOf e in omega arith)
 narrowed-injective R.NotMade (R.To r) e = absurd (let z = ap numberOf e in omega arith)
 narrowed-injective R.NotMade R.NotMade e = refl

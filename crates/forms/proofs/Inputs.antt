@@ -8,7 +8,7 @@ use mathlib.Core.List.{List, [], _∷_, _++_}
 use native.Mathlib.Omega.{arith}
 use lib.ListN.{length, getD, replicate, take, drop, take-append-drop, length-append, length-drop, length-replicate, getD-replicate, List·getD-append}
 use lib.Seq.{length-take-le, take-at, drop-at, getD-drop}
-use borrow.Author.Tests.{lt-ltb, eq-eqb, ne-eqb}
+use borrow.Author.Tests.{ne-eqb}
 use denote.Builtin.{u8}
 use denote.Slice.{Room}
 use Rattle.text.specs.Answer.{says, numberOf, valuesOf}
@@ -21,7 +21,7 @@ use Rattle.pieces.specs.Demands.{Free}
 use Rattle.pieces.proofs.PieceLaws.{joined-none, joined-one, joined-more}
 use Rattle.line.specs.Line.{Ending, nothing, feed, return-feed, endingBytes, endingNumber, leadingPlaces, fieldPlaces, readAnswer}
 use Rattle.line.specs.Demands as Line
-use Rattle.line.specs.Demands.{MayEnd, Column, Ended, by-nothing, by-feed, by-return-feed, Begins, Reader, Stands, One, Moved, OneReader}
+use Rattle.line.specs.Demands.{MayEnd, Ended, by-nothing, by-feed, by-return-feed, Begins, Reader, Stands, One, Moved, OneReader}
 use Rattle.line.proofs.ColumnLaws.{free-joined, utf8-all, nothing-bytes, feed-bytes, return-feed-bytes}
 use Rattle.line.proofs.LineLaws.{ending-known}
 use Rattle.line.proofs.RecordLaws.{begins-some}

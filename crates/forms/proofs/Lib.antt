@@ -9,3 +9,4 @@ pub mod Inputs
 pub mod Determined
 pub mod Demands
 pub mod Size
+pub mod Impostors

@@ -1,19 +1,20 @@
 -- The ways between the forms: a form's numbers are its places' starts and ends, one by one. Assumes nothing.
 use Prim.Native.Nat.{ℕ, zero, suc, _+_, _*_, _<_, _^_}
-use mathlib.Core.Path.{_≡_, refl, sym, ap, _∙_}
+use mathlib.Core.Path.{_≡_, sym, ap, _∙_}
 use mathlib.Core.Bool.{Bool, true, false}
 use mathlib.Core.List.{List, [], _∷_}
 use native.Mathlib.Omega.{arith}
 use lib.ListN.{length, getD, drop, drop-of-length-le}
 use lib.Seq.{drop-cons}
 use Rattle.text.specs.declared.range.Range.{Range}
-use Rattle.line.specs.Line.{endingNumber, endsOf, numbersOf}
+use Rattle.line.specs.Line.{endsOf, numbersOf}
 use Rattle.line.specs.Place.{rangeOf}
 use Rattle.line.specs.Paper.{endingOf, recordPlaces}
 use Rattle.line.specs.Promises.{GivesEnding, MakesRecord}
 use Rattle.line.specs.declared.ending.Ending.{Ending}
 use Rattle.line.specs.declared.read.Record.{Record}
 use Rattle.line.specs.declared.place.Name.the-variants as N
+use Rattle.line.proofs.LineLaws.{ending-numbered}
 use Rattle.forms.specs.Form.{endAt, made, widenAnswer, narrowAnswer}
 use Rattle.forms.specs.Paper.{widePlaces, widenedPaper, narrowedPaper}
 use Rattle.forms.specs.Promises.{MakesWide, WidensRecord, NarrowsWide}
@@ -28,11 +29,6 @@ pub places-told : (r : Record) {chrom pos id reference alt qual filter info form
     → chrom .start ∷ chrom .len ∷ pos .start ∷ pos .len ∷ id .start ∷ id .len ∷ reference .start ∷ reference .len ∷ alt .start ∷ alt .len ∷ qual .start ∷ qual .len ∷ filter .start ∷ filter .len ∷ info .start ∷ info .len ∷ format .start ∷ format .len ∷ samples .start ∷ samples .len ∷ [] ≡ recordPlaces r
 unfolding recordPlaces
 places-told r a b c d e f g h i j = rw (a, b, c, d, e, f, g, h, i, j)
-
--- there are twenty numbers
-pub places-ten : (r : Record) → length (recordPlaces r) ≡ 20
-unfolding recordPlaces
-places-ten r = refl
 
 -- ---- the ends of places
 
@@ -60,17 +56,13 @@ numbers-told places n a b c d e f g h i j = rw (a, b, c, d, e, f, g, h, i, j) (a
 
 -- ---- the answers
 
--- an ending's number, by the ending
-numbered : {x y : Ending} → x ≡ y → endingNumber (endingOf x) ≡ endingNumber (endingOf y)
-numbered = ap (λ (x : Ending). endingNumber (endingOf x))
-
 module _ (line : Record) {ending : Ending} {places : List ℕ} {b : Bool} (e : GivesEnding line ending) (p : places ≡ recordPlaces line) (m : b ≡ made (endingOf ending) places) where
   is-made : b ≡ made (endingOf (line .ending)) (recordPlaces line)
   is-made = m ∙ ap (λ (x : Ending). made (endingOf x) places) e ∙ ap (made (endingOf (line .ending))) p
 
   pub widened-to : (w : Wide) → b ≡ true → MakesWide ending places w → WidensRecord line (W.To w)
   unfolding widenedPaper widenAnswer
-  widened-to w t q = rw (← is-made, t, numbered (q .0 ∙ e), q .1 ∙ p)
+  widened-to w t q = rw (← is-made, t, ending-numbered (q .0 ∙ e), q .1 ∙ p)
 
   pub widened-not : b ≡ false → WidensRecord line W.NotMade
   unfolding widenedPaper widenAnswer
@@ -82,7 +74,7 @@ module _ (wide : Wide) {places : List ℕ} {b : Bool} (p : places ≡ widePlaces
 
   pub narrowed-to : (r : Record) {numbers : List ℕ} → b ≡ true → numbers ≡ numbersOf places → MakesRecord (wide .ending) numbers r → NarrowsWide wide (R.To r)
   unfolding narrowedPaper narrowAnswer
-  narrowed-to r t n q = rw (← form-made, t, numbered (q .0), q .1 ∙ n ∙ ap numbersOf p)
+  narrowed-to r t n q = rw (← form-made, t, ending-numbered (q .0), q .1 ∙ n ∙ ap numbersOf p)
 
   pub narrowed-not : b ≡ false → NarrowsWide wide R.NotMade
   unfolding narrowedPaper narrowAnswer

@@ -20,9 +20,4 @@ pub places-given : (w : Wide) → GivesPlaces w (w .chrom .start ∷ w .chrom .l
 unfolding widePlaces
 places-given w = refl
 
--- there are twenty numbers
-pub wide-ten : (w : Wide) → length (widePlaces w) ≡ 20
-unfolding widePlaces
-wide-ten w = refl
-
 pub ruleset laws = (wide-made, places-given)

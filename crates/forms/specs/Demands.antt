@@ -11,7 +11,7 @@ use denote.Slice.{Room}
 use Rattle.text.specs.Answer.{Answer, says}
 use Rattle.line.specs.Line.{Ending, endingNumber, numbersOf}
 use Rattle.line.specs.Place.{rangeOf}
-use Rattle.line.specs.Paper.{endingOf, recordPlaces, recordNumbers}
+use Rattle.line.specs.Paper.{endingOf, recordNumbers}
 use Rattle.line.specs.Promises.{ReadsLine}
 use Rattle.line.specs.Demands as Line
 use Rattle.line.specs.Demands.{Reader}

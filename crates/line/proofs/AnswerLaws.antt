@@ -17,7 +17,7 @@ use Rattle.text.proofs.Lists.{drop-take}
 use Rattle.text.specs.Verdict.{Verdict, fine, refused}
 use Rattle.pieces.specs.Pieces.{split}
 use Rattle.pieces.proofs.PieceLaws.{split-some}
-use Rattle.line.specs.Line.{Ending, endingBytes, endingNumber, Line, line, lineOf, verdict, fieldPlaces, allUtf8, judgedAnswer, lineAnswer, readAnswer}
+use Rattle.line.specs.Line.{Ending, endingBytes, endingNumber, Line, line, lineOf, verdict, allUtf8, judgedAnswer, lineAnswer, readAnswer}
 use Rattle.line.specs.Paper.{endingOf, recordValues, readPaper}
 use Rattle.line.specs.Promises.{NamesEnding, KeepsNumbers}
 use Rattle.line.specs.Demands.{ByColumns}
@@ -29,7 +29,7 @@ use Rattle.line.specs.declared.read.Read.the-variants as R
 use Rattle.line.specs.declared.read.Judged.{Judged}
 use Rattle.line.specs.declared.read.Judged.the-variants as J
 use Rattle.line.proofs.ColumnLaws.{line-whole, by-columns, fine-count}
-use Rattle.line.proofs.LineLaws.{ending-sized, read-beyond, read-end, read-line}
+use Rattle.line.proofs.LineLaws.{ending-sized, ending-numbered, read-beyond, read-end, read-line}
 
 -- ---- a line whose columns are in order
 
@@ -115,7 +115,7 @@ module _ {s : List ℕ} {at end next : ℕ} (g : InOrder s at end next) where
         by o =
             let v : allUtf8 (split 9 (o .text)) ≡ true = sym (by-columns (o .text)) ∙ told-text (o .text) (rw (q, o .stands) at u) in
             let d : endingOf y ≡ o .ending = b ∙ ending-sized (o .ending) (let z = o .past in omega arith) in
-            let n : endingNumber (endingOf (r .ending)) ≡ endingNumber (o .ending) = ap (λ (x : DeclaredEnding). endingNumber (endingOf x)) (f .ends) ∙ ap endingNumber d in
+            let n : endingNumber (endingOf (r .ending)) ≡ endingNumber (o .ending) = ending-numbered (f .ends) ∙ ap endingNumber d in
             rw (line-judged o, v, n, f .places, text-cut o, length-take-le end s (o .within))
 
     pub finish-broken : x ≡ U.Broken → readPaper (R.NotUtf8 next) ≡ lineAnswer at (lineOf (drop at s))

@@ -17,6 +17,7 @@ use Rattle.line.specs.declared.extent.Lined.the-variants as L
 use Rattle.line.specs.declared.read.Record.{Record}
 use Rattle.line.specs.declared.read.Read.{Read}
 use Rattle.line.specs.declared.read.Read.the-variants as R
+use Rattle.line.proofs.LineLaws.{ending-known}
 
 -- ---- how a line ended
 
@@ -31,6 +32,9 @@ ending-back E.ReturnFeed = refl
 
 pub ending-injective : (e f : Ending) → endingOf e ≡ endingOf f → e ≡ f
 ending-injective = LeftInverse·injective (λ (x : Line.Ending). declaredBy (endingNumber x)) endingOf ending-back
+
+pub same-ending : (e f : Ending) → endingNumber (endingOf e) ≡ endingNumber (endingOf f) → e ≡ f
+same-ending e f h = ending-injective e f (ending-known (endingOf e) (endingOf f) h)
 
 -- ---- the line at a place
 

@@ -1,7 +1,7 @@
 -- The three ways of the reader, an ending by its number, and the line that an input begins with, by where its first LF stands: each is the
 -- definition's clause. Assumes nothing.
 use Prim.Native.Nat.{ℕ, _<_, _≤_}
-use mathlib.Core.Path.{_≡_, refl, sym}
+use mathlib.Core.Path.{_≡_, refl, sym, ap, _∙_}
 use mathlib.Core.Bool.{Bool, true, false}
 use mathlib.Core.List.{List, [], _∷_, _++_, dropLast}
 use mathlib.Mathlib.Logic.Function.Defs.{LeftInverse·injective}
@@ -16,6 +16,9 @@ use Rattle.pieces.specs.Pieces.{split, joined}
 use Rattle.pieces.specs.Demands.{Free}
 use Rattle.pieces.proofs.PieceLaws.{split-nil, split-free, one-text, more-text}
 use Rattle.line.specs.Line.{Ending, nothing, feed, return-feed, endingBytes, endingNumber, endingBy, Line, line, fed, lineOf, lineAnswer, readAnswer}
+use Rattle.line.specs.Paper.{endingOf}
+use Rattle.line.specs.Promises.{SizesEnding}
+use Rattle.line.specs.declared.ending.Ending.{Ending as DeclaredEnding}
 
 -- ---- the reader at a place
 
@@ -54,6 +57,13 @@ ending-known = LeftInverse·injective endingBy endingNumber ending-back
 -- so does how many bytes it has
 pub ending-sized : {n : ℕ} (e : Ending) → n ≡ length (endingBytes e) → endingBy n ≡ e
 ending-sized e q = rw (q, ending-size e) (ending-back e)
+
+-- of an ending that is declared: one number for one ending, which is what its size is
+pub ending-numbered : {x y : DeclaredEnding} → x ≡ y → endingNumber (endingOf x) ≡ endingNumber (endingOf y)
+ending-numbered = ap (λ (x : DeclaredEnding). endingNumber (endingOf x))
+
+pub ending-told : {x y : DeclaredEnding} {size : ℕ} → SizesEnding x size → x ≡ y → size ≡ endingNumber (endingOf y)
+ending-told {x} s e = s ∙ ending-size (endingOf x) ∙ ending-numbered e
 
 module _ {n : ℕ} where
   pub named-nothing : n ≡ 0 → nothing ≡ endingBy n
