@@ -1,24 +1,19 @@
 -- Functions that the demands refuse, each on one form: ten fields of one byte, which can be made; ten empty places at 0, which cannot.
 -- Assumes nothing.
-use Prim.Native.Nat.{ℕ, _<_}
-use mathlib.Core.Path.{_≡_, refl, sym, ap, _∙_}
-use mathlib.Core.Bool.{true}
-use mathlib.Core.List.{List, [], _∷_}
+use Prim.Native.Nat.{ℕ}
+use mathlib.Core.Path.{_≡_, refl, ap}
 use native.Mathlib.Omega.{arith}
-use lib.ListN.{length, getD, take}
+use lib.ListN.{length, take}
 use Rattle.text.specs.Answer.{Answer, numberOf}
 use Rattle.text.specs.Range.{rangeAt}
-use Rattle.line.specs.Line.{nothing, numbersOf}
-use Rattle.line.specs.Paper.{recordNumbers}
+use Rattle.line.specs.Line.{nothing}
 use Rattle.line.specs.Demands as Line
 use Rattle.line.specs.Demands.{Reader}
 use Rattle.line.specs.declared.ending.Ending.the-variants as E
-use Rattle.line.specs.declared.read.Record.{Record}
 use Rattle.line.proofs.ColumnLaws.{nothing-bytes}
-use Rattle.line.proofs.NumberLaws.{made-record}
 use Rattle.forms.specs.Form.{endAt, chainedFrom, chained}
 use Rattle.forms.specs.Paper.{widePlaces}
-use Rattle.forms.specs.Demands.{Widens, Narrows}
+use Rattle.forms.specs.Demands.{Narrows}
 use Rattle.forms.specs.declared.wide.Wide.{Wide}
 use Rattle.forms.proofs.ChainLaws.{chain-some}
 use Rattle.forms.proofs.FormLaws.{Fields, full, eight, MadeForm}

@@ -42,6 +42,9 @@ pub unreached : Unreached
 unfolding Unreached nowhere
 unreached s room start end h = rw (span-none h) (let r = room .1 in omega arith)
 
+pub tab-real : {before end : ℕ} → before < end → rangeAt (before + 1) (end - (before + 1)) ≡ span (before + 1) end
+tab-real h = place-real (omega arith)
+
 -- ---- FORMAT and the samples
 
 module _ (r : Record) (before : ℕ) where
@@ -87,4 +90,4 @@ module _ {r : Record} (h : Rising r) where
   rising-numbers =
       rw (span-end (h .chrom), span-end (h .pos), span-end (h .id), span-end (h .reference), span-end (h .alt), span-end (h .qual), span-end (h .filter), span-end (h .info), span-end (h .format), span-end (h .samples), span-start (h .chrom))
 
-pub ruleset laws = (place-real, place-none, tab-none, info-none, info-one)
+pub ruleset laws = (place-real, place-none, tab-none, tab-real, info-none, info-one)

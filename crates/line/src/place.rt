@@ -51,7 +51,11 @@ fn past_tab(before: usize, end: usize) -> Range
     if end <= before {
         return no_place();
     }
-    span_of(before + 1, end)
+    let start = before + 1;
+    Range {
+        start,
+        len: end - start,
+    }
 }
 
 // The place of FORMAT, or of the samples.

@@ -10,15 +10,14 @@ no-place-requires c κs = search (needs, laws)
 returns : tie.Need-returns
 returns c = search (needs, laws)
 
-add-span-of : tie.Need-add-span-of
-add-span-of c = search (needs, laws)
+add-start : tie.Need-add-start
+add-start c = search (needs, laws)
 
-span-of-requires : tie.Need-span-of-requires
-span-of-requires c κs = search (needs, laws)
+sub-t5 : tie.Need-sub-t5
+sub-t5 c = search (needs, laws)
 
 returns-2 : tie.Need-returns-2
 returns-2 c = search (needs, laws)
 
 pub past-tab-spec : {M : Type 1} → statement M
-past-tab-spec =
-    tie.close (tie.spec no-place-requires returns add-span-of span-of-requires returns-2)
+past-tab-spec = tie.close (tie.spec no-place-requires returns add-start sub-t5 returns-2)
