@@ -11,27 +11,29 @@ use Rattle.text.specs.Range.{rangeAt}
 use Rattle.text.specs.declared.range.Range.{Range}
 use Rattle.line.specs.Line.{endingNumber, numbersOf}
 use Rattle.line.specs.Place.{rangeOf, columnNumber}
-use Rattle.line.specs.Paper.{endingOf, recordPlaces, recordNumbers}
+use Rattle.line.specs.Paper.{endingOf, recordPlaces, recordNumbers, readPaper}
 use Rattle.line.specs.Demands as Line
 use Rattle.line.specs.Demands.{Reader}
 use Rattle.line.specs.declared.ending.Ending.{Ending as DeclaredEnding}
 use Rattle.line.specs.declared.read.Record.{Record}
 use Rattle.line.proofs.LineLaws.{ending-numbered}
+use Rattle.line.proofs.AnswerLaws.{keeps-line}
 use Rattle.line.proofs.CaseLaws.{record-values, read-record}
 use Rattle.line.proofs.Determined.{same-ending}
 use Rattle.line.proofs.RecordLaws.{range-place}
+use Rattle.line.specs.declared.read.Read.the-variants as L
 use Rattle.line.specs.declared.place.Name.{Name}
 use Rattle.line.specs.declared.place.Name.the-variants as N
 use Rattle.forms.specs.Form.{made, widenAnswer, narrowAnswer}
 use Rattle.forms.specs.Paper.{wideRange, widePlaces, widenedPaper, narrowedPaper}
 use Rattle.forms.specs.Promises.{WidensRecord, NarrowsWide}
-use Rattle.forms.specs.Demands.{Makes, FormOf, Widens, OneWidener, Narrows, OneNarrower, BackAndForth, AlikeForms, ReadIsMade}
+use Rattle.forms.specs.Demands.{Makes, FormOf, Widens, OneWidener, Narrows, OneNarrower, BackAndForth, AlikeForms, Read, MadeRecords, ReadIsMade}
 use Rattle.forms.specs.declared.wide.Wide.{Wide}
 use Rattle.forms.specs.declared.turn.Widened.the-variants as W
 use Rattle.forms.specs.declared.turn.Narrowed.the-variants as R
 use Rattle.forms.proofs.FormLaws.{MadeForm, made-form, form-made}
 use Rattle.forms.proofs.BackLaws.{numbers-back, places-back}
-use Rattle.forms.proofs.Inputs.{makes-form, form-of, answered}
+use Rattle.forms.proofs.Inputs.{makes-form, form-of, form-makes, answered}
 
 -- ---- from the new form to the old one
 
@@ -183,10 +185,30 @@ alike-forms r w h =
 
 -- ---- records that were read
 
+-- what a record says on paper, value by value
+line-paper : (r : Record) (next : ℕ) → readPaper (L.Line r next) ≡ says 0 (next ∷ endingNumber (endingOf (r .ending)) ∷ recordPlaces r)
+line-paper r next = read-record refl ∙ ap (λ (l : List ℕ). says 0 (next ∷ l)) (record-values r)
+
+pub made-records : MadeRecords
+unfolding MadeRecords
+made-records r = (λ h. made-read (made-form (endingOf (r .ending)) (recordPlaces r) h), λ k. form-made (answered (k .input) (k .at) (k .next) (endingOf (r .ending)) (recordPlaces r) (k .is-input .room) (sym (k .reads) ∙ line-paper r (k .next))))
+  where
+    made-read : MadeForm (endingOf (r .ending)) (recordPlaces r) → Read r
+    made-read m =
+        let k = form-makes m in
+        record {
+          input = k .input;
+          at = k .at;
+          next = k .next;
+          is-input = k .is-input;
+          reads = line-paper r (k .next) ∙ sym (k .answers);
+          keeps = keeps-line r (k .next) (numbers-back r m);
+        }
+
 pub read-is-made : ReadIsMade
 unfolding ReadIsMade widenedPaper widenAnswer
 read-is-made s at next r room h q =
-    let m = answered s at next (endingOf (r .ending)) (recordPlaces r) room (sym h ∙ read-record refl ∙ ap (λ (l : List ℕ). says 0 (next ∷ l)) (record-values r)) in
+    let m = answered s at next (endingOf (r .ending)) (recordPlaces r) room (sym h ∙ line-paper r next) in
     let y : says 32 [] ≡ says 0 (endingNumber (endingOf (r .ending)) ∷ recordPlaces r) = q ∙ rw (form-made m) in
     let n = ap numberOf y in
     absurd (omega arith)

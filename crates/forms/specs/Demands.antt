@@ -11,8 +11,8 @@ use denote.Slice.{Room}
 use Rattle.text.specs.Answer.{Answer, says}
 use Rattle.line.specs.Line.{Ending, endingNumber, numbersOf}
 use Rattle.line.specs.Place.{rangeOf}
-use Rattle.line.specs.Paper.{endingOf, recordNumbers}
-use Rattle.line.specs.Promises.{ReadsLine}
+use Rattle.line.specs.Paper.{endingOf, recordPlaces, recordNumbers}
+use Rattle.line.specs.Promises.{ReadsLine, KeepsNumbers}
 use Rattle.line.specs.Demands as Line
 use Rattle.line.specs.Demands.{Reader}
 use Rattle.line.specs.declared.read.Record.{Record}
@@ -85,6 +85,19 @@ unfoldable pub AlikeForms : Type 0
 AlikeForms = (r : Record) (w : Wide) → WidensRecord r (W.To w) → Alike r w
 
 -- ---- records that were read
+
+-- there is an input, and a place in it, where the line reader may answer this record
+pub record Read (r : Record) : Type 0 where
+  pub input : List ℕ
+  pub at : ℕ
+  pub next : ℕ
+  pub is-input : Input input
+  pub reads : ReadsLine input at (L.Line r next)
+  pub keeps : KeepsNumbers (L.Line r next)
+
+-- so it is of exactly the records that can be made
+unfoldable pub MadeRecords : Type 0
+MadeRecords = (r : Record) → (made (endingOf (r .ending)) (recordPlaces r) ≡ true) ↔ Read r
 
 -- what the line reader made of an input is widened
 unfoldable pub ReadIsMade : Type 0

@@ -17,8 +17,8 @@ use Rattle.text.proofs.Lists.{drop-take}
 use Rattle.text.specs.Verdict.{Verdict, fine, refused}
 use Rattle.pieces.specs.Pieces.{split}
 use Rattle.pieces.proofs.PieceLaws.{split-some}
-use Rattle.line.specs.Line.{Ending, endingBytes, endingNumber, Line, line, lineOf, verdict, allUtf8, judgedAnswer, lineAnswer, readAnswer}
-use Rattle.line.specs.Paper.{endingOf, recordValues, readPaper}
+use Rattle.line.specs.Line.{Ending, endingBytes, endingNumber, Line, line, lineOf, verdict, allUtf8, numbersOf, judgedAnswer, lineAnswer, readAnswer}
+use Rattle.line.specs.Paper.{endingOf, recordPlaces, recordValues, recordNumbers, readPaper}
 use Rattle.line.specs.Promises.{NamesEnding, KeepsNumbers}
 use Rattle.line.specs.Demands.{ByColumns}
 use Rattle.line.specs.Inner.{accepted, denied, judgement, judgementOf, judgedPaper, InOrder, Unset, Marks, Told, Fields}
@@ -128,8 +128,11 @@ module _ {s : List ℕ} {at end next : ℕ} (g : InOrder s at end next) where
             rw (line-judged o, v)
 
 -- a record that has the numbers of its places keeps them in the answer
+pub keeps-line : (r : Record) (next : ℕ) → recordNumbers r ≡ numbersOf (recordPlaces r) → KeepsNumbers (R.Line r next)
+keeps-line r next h r′ n e = let d : r ≡ r′ = cc in rw d at h
+
 pub finish-numbers : {t : List ℕ} {at : ℕ} {y : DeclaredEnding} {r : Record} (next : ℕ) → Fields t at y r → KeepsNumbers (R.Line r next)
-finish-numbers {r = r} next f r′ n e = let d : r ≡ r′ = cc in rw d at (f .numbers)
+finish-numbers {r = r} next f = keeps-line r next (f .numbers)
 
 -- a refusal has none
 refused-numbers : (x : Read) → (numberOf (readPaper x) ≡ 0 → ⊥) → KeepsNumbers x
