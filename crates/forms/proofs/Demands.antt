@@ -27,7 +27,7 @@ use Rattle.line.specs.declared.place.Name.the-variants as N
 use Rattle.forms.specs.Form.{made, widenAnswer, narrowAnswer}
 use Rattle.forms.specs.Paper.{wideRange, widePlaces, widenedPaper, narrowedPaper}
 use Rattle.forms.specs.Promises.{WidensRecord, NarrowsWide}
-use Rattle.forms.specs.Demands.{Makes, FormOf, Widens, OneWidener, Narrows, OneNarrower, BackAndForth, AlikeForms, Read, MadeRecords, ReadIsMade}
+use Rattle.forms.specs.Demands.{Makes, FormOf, Widens, OneWidener, Narrows, OneNarrower, BackAndForth, AlikeForms, Answerable, MadeRecords, ReadIsMade}
 use Rattle.forms.specs.declared.wide.Wide.{Wide}
 use Rattle.forms.specs.declared.turn.Widened.the-variants as W
 use Rattle.forms.specs.declared.turn.Narrowed.the-variants as R
@@ -193,7 +193,7 @@ pub made-records : MadeRecords
 unfolding MadeRecords
 made-records r = (λ h. made-read (made-form (endingOf (r .ending)) (recordPlaces r) h), λ k. form-made (answered (k .input) (k .at) (k .next) (endingOf (r .ending)) (recordPlaces r) (k .is-input .room) (sym (k .reads) ∙ line-paper r (k .next))))
   where
-    made-read : MadeForm (endingOf (r .ending)) (recordPlaces r) → Read r
+    made-read : MadeForm (endingOf (r .ending)) (recordPlaces r) → Answerable r
     made-read m =
         let k = form-makes m in
         record {

@@ -87,7 +87,7 @@ AlikeForms = (r : Record) (w : Wide) → WidensRecord r (W.To w) → Alike r w
 -- ---- records that were read
 
 -- there is an input, and a place in it, where the line reader may answer this record
-pub record Read (r : Record) : Type 0 where
+pub record Answerable (r : Record) : Type 0 where
   pub input : List ℕ
   pub at : ℕ
   pub next : ℕ
@@ -97,7 +97,7 @@ pub record Read (r : Record) : Type 0 where
 
 -- so it is of exactly the records that can be made
 unfoldable pub MadeRecords : Type 0
-MadeRecords = (r : Record) → (made (endingOf (r .ending)) (recordPlaces r) ≡ true) ↔ Read r
+MadeRecords = (r : Record) → (made (endingOf (r .ending)) (recordPlaces r) ≡ true) ↔ Answerable r
 
 -- what the line reader made of an input is widened
 unfoldable pub ReadIsMade : Type 0

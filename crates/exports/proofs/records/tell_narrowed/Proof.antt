@@ -19,10 +19,10 @@ tell-none-requires : tie.Need-tell-none-requires
 tell-none-requires c κs = search needs
 
 returns : tie.Need-returns
-returns c = search (needs, arms, narrowed-known, narrowed-none)
+returns c = search (needs, arms, narrowed-known)
 
 returns-2 : tie.Need-returns-2
-returns-2 c = search (needs, arms, narrowed-known, narrowed-none)
+returns-2 c = search (needs, arms, narrowed-none)
 
 pub tell-narrowed-spec : {M : Type 1} → statement M
 tell-narrowed-spec =

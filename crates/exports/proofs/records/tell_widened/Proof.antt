@@ -19,10 +19,10 @@ tell-none-requires : tie.Need-tell-none-requires
 tell-none-requires c κs = search needs
 
 returns : tie.Need-returns
-returns c = search (needs, arms, widened-known, widened-none)
+returns c = search (needs, arms, widened-known)
 
 returns-2 : tie.Need-returns-2
-returns-2 c = search (needs, arms, widened-known, widened-none)
+returns-2 c = search (needs, arms, widened-none)
 
 pub tell-widened-spec : {M : Type 1} → statement M
 tell-widened-spec =
