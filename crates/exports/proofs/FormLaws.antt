@@ -13,7 +13,7 @@ use Rattle.line.specs.declared.ending.Ending.{Ending}
 use Rattle.line.specs.declared.ending.Ending.the-variants as E
 use Rattle.line.specs.declared.read.Record.{Record}
 use Rattle.line.proofs.LineLaws.{ending-told}
-use Rattle.line.proofs.NumberLaws.{oneByOne, one-by-one, places-with}
+use Rattle.line.proofs.NumberLaws.{eleven, twenty, places-with}
 use Rattle.forms.specs.Form.{widenAnswer, narrowAnswer}
 use Rattle.forms.specs.Paper.{widePlaces, widenedPaper, narrowedPaper}
 use Rattle.forms.specs.Promises as Forms
@@ -31,18 +31,16 @@ module _ {r : ℕ} {l l′ : List ℕ} where
   pub wide-told : (w : Wide) (p : List ℕ) {x : Ending} {size : ℕ} → length p ≡ 20 → Forms.GivesEnding w x → SizesEnding x size → Forms.GivesPlaces w p
       → Tells (says 0 (size ∷ getD p 0 0 ∷ getD p 1 0 ∷ getD p 2 0 ∷ getD p 3 0 ∷ getD p 4 0 ∷ getD p 5 0 ∷ getD p 6 0 ∷ getD p 7 0 ∷ getD p 8 0 ∷ getD p 9 0 ∷ getD p 10 0 ∷ getD p 11 0 ∷ getD p 12 0 ∷ getD p 13 0 ∷ getD p 14 0 ∷ getD p 15 0 ∷ getD p 16 0 ∷ getD p 17 0 ∷ getD p 18 0 ∷ getD p 19 0 ∷ [])) l r l′
       → Tells (widenedPaper (W.To w)) l r l′
-  unfolding oneByOne
   wide-told w p {x} {size} n e s g t =
       let d : endingNumber (endingOf (w .ending)) ≡ size = sym (ending-told {x = x} s e) in
-      rw (widened-form {x = W.To w} refl, d, ← g, ← one-by-one 20 0 p n) t
+      rw (widened-form {x = W.To w} refl, d, ← g, ← twenty p n) t
 
   pub record-told : (line : Record) (n : List ℕ) {x : Ending} {size : ℕ} → length n ≡ 11 → GivesEnding line x → SizesEnding x size → GivesNumbers line n
       → Tells (says 0 (size ∷ getD n 0 0 ∷ getD n 1 0 ∷ getD n 2 0 ∷ getD n 3 0 ∷ getD n 4 0 ∷ getD n 5 0 ∷ getD n 6 0 ∷ getD n 7 0 ∷ getD n 8 0 ∷ getD n 9 0 ∷ getD n 10 0 ∷ [])) l r l′
       → Tells (narrowedPaper (R.To line)) l r l′
-  unfolding oneByOne
   record-told line n {x} {size} k e s g t =
       let d : endingNumber (endingOf (line .ending)) ≡ size = sym (ending-told {x = x} s e) in
-      rw (narrowed-record {x = R.To line} refl, d, ← g, ← one-by-one 11 0 n k) t
+      rw (narrowed-record {x = R.To line} refl, d, ← g, ← eleven n k) t
 
 -- an answer that is known
 pub widened-known : {x : Widened} {w : Wide} → x ≡ W.To w → widenedPaper x ≡ widenedPaper (W.To w)

@@ -13,34 +13,17 @@ use borrow.Author.Tests.{leb-true, leb-false}
 use Rattle.text.specs.Range.{rangeAt, rangePlaces}
 use Rattle.text.specs.declared.range.Range.{Range}
 use Rattle.line.specs.Line.{Ending, endsOf, numbersOf}
-use Rattle.line.specs.Place.{nowhere, span, passed, rangeOf}
+use Rattle.line.specs.Place.{span, passed}
 use Rattle.line.specs.Paper.{recordPlaces, recordNumbers}
 use Rattle.line.specs.declared.read.Record.{Record}
-use Rattle.line.proofs.SpanLaws.{span-real, span-none, passed-none, passed-one, Rising, rising-numbers}
+use Rattle.line.proofs.SpanLaws.{span-real, span-some, span-within, spans, full-spans, bare-spans, format-place, samples-place, rising, rising-numbers}
+use Rattle.line.proofs.NumberLaws.{ends-none, ends-odd, ends-more, numbers-are, recordEnds, record-numbers}
 use Rattle.forms.specs.Form.{endAt, chainedFrom, chained}
 use Rattle.forms.proofs.ChainLaws.{chain-field, chain-single, chain-some, chain-rises, end-is, end-next}
 use Rattle.forms.proofs.MadeLaws.{bare-drop}
 use Rattle.forms.proofs.FormLaws.{Fields, full, eight, MadeForm, tail, format-end, samples-end}
 
 -- ---- from places to numbers
-
--- a place that is not empty is real
-span-some : (start end : ℕ) → 0 < span start end .len → start ≤ end
-unfolding nowhere
-span-some start end h = by (leb start end) refl
-  where
-    by : (b : Bool) → leb start end ≡ b → start ≤ end
-    by true e = leb-true start end e
-    by false e = absurd (let n = ap (λ (x : Range). x .len) (span-none (leb-false start end e)) in omega arith)
-
--- and so is one that starts within an input
-span-within : (start end : ℕ) → span start end .start ≤ 9223372036854775807 → start ≤ end
-unfolding nowhere
-span-within start end h = by (leb start end) refl
-  where
-    by : (b : Bool) → leb start end ≡ b → start ≤ end
-    by true e = leb-true start end e
-    by false e = absurd (let n = ap (λ (x : Range). x .start) (span-none (leb-false start end e)) in omega arith)
 
 module _ {e : Ending} (r : Record) (m : MadeForm e (recordPlaces r)) where
   -- the first eight of a form are not empty
@@ -56,98 +39,81 @@ module _ {e : Ending} (r : Record) (m : MadeForm e (recordPlaces r)) where
 
   -- nor does FORMAT, or do the samples, end before their start
   format-rises : passed r (r .info) ≤ r .format
-  unfolding recordPlaces rangeOf chained
+  unfolding chained
   format-rises = by (m .fields)
     where
+      place : Range
+      place = span (passed r (r .info)) (r .format)
+
+      starts : place .start ≡ getD (recordPlaces r) 16 0
+      starts = cc (format-place r)
+
+      sized : place .len ≡ getD (recordPlaces r) 17 0
+      sized = cc (format-place r)
+
       by : Fields (recordPlaces r) → passed r (r .info) ≤ r .format
-      by (full c) = span-some _ _ (chain-some _ (recordPlaces r) c 8 (omega arith))
-      by (eight c b) = span-within _ _ (let t = tail m b .format in let n = samples-end m b in let w = m .within in omega arith)
+      by (full c) = span-some _ _ (rw sized (chain-some _ (recordPlaces r) c 8 (let n = m .ten in omega arith)))
+      by (eight c b) = span-within _ _ (let s = starts in let t = tail m b .format in let n = samples-end m b in let w = m .within in omega arith)
 
   samples-rise : passed r (r .format) ≤ r .end
-  unfolding recordPlaces rangeOf chained
+  unfolding chained
   samples-rise = by (m .fields)
     where
-      by : Fields (recordPlaces r) → passed r (r .format) ≤ r .end
-      by (full c) = span-some _ _ (chain-some _ (recordPlaces r) c 9 (omega arith))
-      by (eight c b) = span-within _ _ (let t = tail m b .samples in let n = samples-end m b in let w = m .within in omega arith)
+      place : Range
+      place = span (passed r (r .format)) (r .end)
 
-  rises : Rising r
-  unfolding recordPlaces rangeOf
-  rises =
-      record {
-        chrom = span-some _ _ (some 0 (omega arith));
-        pos = span-some _ _ (some 1 (omega arith));
-        id = span-some _ _ (some 2 (omega arith));
-        reference = span-some _ _ (some 3 (omega arith));
-        alt = span-some _ _ (some 4 (omega arith));
-        qual = span-some _ _ (some 5 (omega arith));
-        filter = span-some _ _ (some 6 (omega arith));
-        info = span-some _ _ (some 7 (omega arith));
-        format = format-rises;
-        samples = samples-rise;
-      }
+      starts : place .start ≡ getD (recordPlaces r) 18 0
+      starts = cc (samples-place r)
+
+      sized : place .len ≡ getD (recordPlaces r) 19 0
+      sized = cc (samples-place r)
+
+      by : Fields (recordPlaces r) → passed r (r .format) ≤ r .end
+      by (full c) = span-some _ _ (rw sized (chain-some _ (recordPlaces r) c 9 (let n = m .ten in omega arith)))
+      by (eight c b) = span-within _ _ (let s = starts in let t = tail m b .samples in let n = samples-end m b in let w = m .within in omega arith)
 
   pub numbers-back : recordNumbers r ≡ numbersOf (recordPlaces r)
-  numbers-back = rising-numbers rises
+  numbers-back = rising-numbers (rising r some format-rises samples-rise)
 
 -- ---- from numbers to places
 
--- places by a start and ends, one tab between
-spans : ℕ → List ℕ → List ℕ
-spans from [] = []
-spans from (end ∷ ends) = span from end .start ∷ span from end .len ∷ spans (end + 1) ends
-
 chain-spans : (from : ℕ) (places : List ℕ) → chainedFrom from places ≡ true → spans from (endsOf places) ≡ places
-unfolding spans endsOf
-chain-spans from [] h = refl
+chain-spans from [] h = rw ends-none
 chain-spans from (start ∷ []) h = absurd (chain-single from start h)
 chain-spans from (start ∷ len ∷ places) h =
     let c = chain-field from start len places h in
     let s : span from (start + len) ≡ rangeAt from (start + len - from) = span-real (omega (arith, c .starts)) in
     let l : start + len - from ≡ len = omega (arith, c .starts) in
     let n : start + len + 1 ≡ from + len + 1 = omega (arith, c .starts) in
-    rw (s, l, n, chain-spans (from + len + 1) places (c .rest), c .starts)
+    rw (ends-more start len places, s, l, n, chain-spans (from + len + 1) places (c .rest), c .starts)
 
 ends-take : (n : ℕ) (places : List ℕ) → endsOf (take (2 * n) places) ≡ take n (endsOf places)
-unfolding endsOf
-ends-take zero places = refl
-ends-take (suc n) [] = let e : 2 * suc n ≡ suc (suc (2 * n)) = omega arith in rw e
-ends-take (suc n) (start ∷ []) = let e : 2 * suc n ≡ suc (suc (2 * n)) = omega arith in rw e
-ends-take (suc n) (start ∷ len ∷ places) = let e : 2 * suc n ≡ suc (suc (2 * n)) = omega arith in rw (e, ends-take n places)
+ends-take zero places = ends-none
+ends-take (suc n) [] = let e : 2 * suc n ≡ suc (suc (2 * n)) = omega arith in rw (e, ends-none)
+ends-take (suc n) (start ∷ []) = let e : 2 * suc n ≡ suc (suc (2 * n)) = omega arith in rw (e, ends-odd)
+ends-take (suc n) (start ∷ len ∷ places) = let e : 2 * suc n ≡ suc (suc (2 * n)) = omega arith in rw (e, ends-more start len (take (2 * n) places), ends-more start len places, ends-take n places)
 
 ends-get : (places : List ℕ) (i : ℕ) → 2 * i + 1 < length places → getD (endsOf places) i 0 ≡ endAt places i
-unfolding endsOf
 ends-get [] i l = absurd (omega arith)
 ends-get (start ∷ []) i l = absurd (omega arith)
-ends-get (start ∷ len ∷ places) zero l = sym (end-is (start ∷ len ∷ places) 0)
-ends-get (start ∷ len ∷ places) (suc i) l = ends-get places i (omega arith) ∙ sym (end-next start len places i)
-
--- where a record's fields end
-ends : Record → List ℕ
-ends r = r .chrom ∷ r .pos ∷ r .id ∷ r .reference ∷ r .alt ∷ r .qual ∷ r .filter ∷ r .info ∷ r .format ∷ r .end ∷ []
-
-full-spans : (r : Record) → (r .format ≡ r .info → ⊥) → recordPlaces r ≡ spans (r .start) (ends r)
-unfolding recordPlaces rangeOf spans ends
-full-spans r n = rw (passed-one r (r .info) n, passed-one r (r .format) n)
-
-bare-spans : (r : Record) → r .format ≡ r .info → recordPlaces r ≡ spans (r .start) (take 8 (ends r)) ++ (rangePlaces (span (r .info) (r .format)) ++ rangePlaces (span (r .format) (r .end)))
-unfolding recordPlaces rangeOf spans ends
-bare-spans r n = rw (passed-none r (r .info) n, passed-none r (r .format) n)
+ends-get (start ∷ len ∷ places) zero l = rw (ends-more start len places) (sym (end-is (start ∷ len ∷ places) 0))
+ends-get (start ∷ len ∷ places) (suc i) l = rw (ends-more start len places) (ends-get places i (omega arith) ∙ sym (end-next start len places i))
 
 module _ {e : Ending} {places : List ℕ} (m : MadeForm e places) (r : Record) (q : recordNumbers r ≡ numbersOf places) where
+  by-number : r .start ∷ recordEnds r ≡ getD places 0 0 ∷ endsOf places
+  by-number = sym (record-numbers r) ∙ q ∙ numbers-are places
+
   start-is : r .start ≡ getD places 0 0
-  unfolding recordNumbers numbersOf
-  start-is = ap (λ (l : List ℕ). getD l 0 0) q
+  start-is = ap (λ (l : List ℕ). getD l 0 0) by-number
 
-  ends-are : ends r ≡ endsOf places
-  unfolding recordNumbers numbersOf ends
-  ends-are = ap (drop 1) q
+  ends-are : recordEnds r ≡ endsOf places
+  ends-are = ap (drop 1) by-number
 
-  end-of : (i : ℕ) → i < 10 → getD (ends r) i 0 ≡ endAt places i
-  end-of i l = rw (ends-are) (ends-get places i (let n = m .ten in omega arith))
+  end-of : (i : ℕ) → i < 10 → getD (recordEnds r) i 0 ≡ endAt places i
+  end-of i l = ap (λ (l : List ℕ). getD l i 0) ends-are ∙ ends-get places i (let n = m .ten in omega arith)
 
   pub places-back : recordPlaces r ≡ places
-  unfolding ends chained
+  unfolding chained
   places-back = by (m .fields)
     where
       info-is : r .info ≡ endAt places 7
@@ -162,15 +128,15 @@ module _ {e : Ending} {places : List ℕ} (m : MadeForm e places) (r : Record) (
       by : Fields places → recordPlaces r ≡ places
       by (full c) =
           let k = chain-rises _ places c 7 8 (omega arith) (let n = m .ten in omega arith) in
-          full-spans r (λ z. omega (arith, info-is, format-is)) ∙ rw (start-is, ends-are) (chain-spans (getD places 0 0) places c)
+          full-spans r (λ z. omega (arith, info-is, format-is)) ∙ ap (λ (a : ℕ). spans a (recordEnds r)) start-is ∙ ap (spans (getD places 0 0)) ends-are ∙ chain-spans (getD places 0 0) places c
       by (eight c b) =
-          let h : take 8 (ends r) ≡ endsOf (take 16 places) = ap (take 8) ends-are ∙ sym (ends-take 8 places) in
+          let h : take 8 (recordEnds r) ≡ endsOf (take 16 places) = ap (take 8) ends-are ∙ sym (ends-take 8 places) in
           let f : r .format ≡ r .info = format-is ∙ format-end m b ∙ sym info-is in
           let z : r .end ≡ r .info = end-is-last ∙ samples-end m b ∙ sym info-is in
           let s : span (r .info) (r .info) ≡ rangeAt (r .info) (r .info - r .info) = span-real (le-refl _) in
           let n : r .info - r .info ≡ 0 = omega arith in
           let g : getD places 0 0 ≡ getD (take 16 places) 0 0 = sym (getD-take 16 places 0 0 (omega arith)) in
-          let k : spans (r .start) (take 8 (ends r)) ≡ take 16 places = rw (start-is, g, h) (chain-spans (getD (take 16 places) 0 0) (take 16 places) c) in
+          let k : spans (r .start) (take 8 (recordEnds r)) ≡ take 16 places = ap (λ (a : ℕ). spans a (take 8 (recordEnds r))) (start-is ∙ g) ∙ ap (spans (getD (take 16 places) 0 0)) h ∙ chain-spans (getD (take 16 places) 0 0) (take 16 places) c in
           let t : rangePlaces (span (r .info) (r .format)) ++ rangePlaces (span (r .format) (r .end)) ≡ drop 16 places = rw (f, z, s, n, info-is) (sym (bare-drop places b)) in
           bare-spans r f
           ∙ ap (λ (l : List ℕ). l ++ (rangePlaces (span (r .info) (r .format)) ++ rangePlaces (span (r .format) (r .end)))) k

@@ -16,7 +16,7 @@ use Rattle.line.specs.Paper.{endingOf}
 use Rattle.line.specs.Promises.{SizesEnding}
 use Rattle.line.specs.declared.ending.Ending.{Ending as DeclaredEnding}
 use Rattle.line.proofs.ColumnLaws.{nothing-bytes, feed-bytes, return-feed-bytes}
-use Rattle.line.proofs.NumberLaws.{oneByOne, one-by-one}
+use Rattle.line.proofs.NumberLaws.{last-four}
 use Rattle.forms.specs.Form.{endAt, chained, bare, tenFields, limit, made}
 
 -- ---- FORMAT and the samples empty at INFO's end
@@ -31,8 +31,7 @@ drop-bare places e = rw e (same-self (endAt places 7 ∷ 0 ∷ endAt places 7 �
 
 module _ (places : List ℕ) (n : length places ≡ 20) where
   tail : drop 16 places ≡ getD places 16 0 ∷ getD places 17 0 ∷ getD places 18 0 ∷ getD places 19 0 ∷ []
-  unfolding oneByOne
-  tail = sym (one-by-one 4 16 places n)
+  tail = last-four places n
 
   -- the four numbers are INFO's end, none, the same end and none
   pub record Tail : Type 0 where

@@ -15,6 +15,7 @@ use Rattle.line.specs.declared.ending.Ending.{Ending}
 use Rattle.line.specs.declared.read.Record.{Record}
 use Rattle.line.specs.declared.place.Name.the-variants as N
 use Rattle.line.proofs.LineLaws.{ending-numbered}
+use Rattle.line.proofs.NumberLaws.{ends-none, ends-more, numbers-are}
 use Rattle.forms.specs.Form.{endAt, made, widenAnswer, narrowAnswer}
 use Rattle.forms.specs.Paper.{widePlaces, widenedPaper, narrowedPaper}
 use Rattle.forms.specs.Promises.{MakesWide, WidensRecord, NarrowsWide}
@@ -23,27 +24,20 @@ use Rattle.forms.specs.declared.wide.Wide.{Wide}
 use Rattle.forms.specs.declared.turn.Widened.the-variants as W
 use Rattle.forms.specs.declared.turn.Narrowed.the-variants as R
 
--- ---- the places of a record
-
-pub places-told : (r : Record) {chrom pos id reference alt qual filter info format samples : Range} → chrom ≡ rangeOf r N.Chrom → pos ≡ rangeOf r N.Pos → id ≡ rangeOf r N.Id → reference ≡ rangeOf r N.Reference → alt ≡ rangeOf r N.Alt → qual ≡ rangeOf r N.Qual → filter ≡ rangeOf r N.Filter → info ≡ rangeOf r N.Info → format ≡ rangeOf r N.Format → samples ≡ rangeOf r N.Samples
-    → chrom .start ∷ chrom .len ∷ pos .start ∷ pos .len ∷ id .start ∷ id .len ∷ reference .start ∷ reference .len ∷ alt .start ∷ alt .len ∷ qual .start ∷ qual .len ∷ filter .start ∷ filter .len ∷ info .start ∷ info .len ∷ format .start ∷ format .len ∷ samples .start ∷ samples .len ∷ [] ≡ recordPlaces r
-unfolding recordPlaces
-places-told r a b c d e f g h i j = rw (a, b, c, d, e, f, g, h, i, j)
-
 -- ---- the ends of places
 
-pub endsBy : ℕ → ℕ → List ℕ → List ℕ
+endsBy : ℕ → ℕ → List ℕ → List ℕ
 endsBy zero k l = []
 endsBy (suc n) k l = endAt l k ∷ endsBy n (suc k) l
 
-pub ends-by : (n k : ℕ) (l : List ℕ) → length l ≡ 2 * (k + n) → endsBy n k l ≡ endsOf (drop (2 * k) l)
-unfolding endsBy endsOf endAt
-ends-by zero k l e = sym (ap endsOf (drop-of-length-le l {i = 2 * k} (omega arith)))
+ends-by : (n k : ℕ) (l : List ℕ) → length l ≡ 2 * (k + n) → endsBy n k l ≡ endsOf (drop (2 * k) l)
+unfolding endsBy endAt
+ends-by zero k l e = sym (ap endsOf (drop-of-length-le l {i = 2 * k} (omega arith)) ∙ ends-none)
 ends-by (suc n) k l e =
     let f : 2 * k + 1 ≡ suc (2 * k) = omega arith in
     let g : 2 * suc k ≡ suc (suc (2 * k)) = omega arith in
     let h : drop (2 * k) l ≡ getD l (2 * k) 0 ∷ getD l (suc (2 * k)) 0 ∷ drop (suc (suc (2 * k))) l = drop-cons l (2 * k) 0 (omega arith) ∙ rw (drop-cons l (suc (2 * k)) 0 (omega arith)) in
-    ap (λ (r : List ℕ). (getD l (2 * k) 0 + getD l (2 * k + 1) 0) ∷ r) (ends-by n (suc k) l (omega arith)) ∙ rw (f, g, h)
+    ap (λ (r : List ℕ). (getD l (2 * k) 0 + getD l (2 * k + 1) 0) ∷ r) (ends-by n (suc k) l (omega arith)) ∙ rw (f, g, h, ends-more)
 
 module _ (places : List ℕ) (g : Bounded places) where
   pub end-within : (i : ℕ) → i < 10 → (2 * i + 1 < length places) × (endAt places i < 2 ^ 64)
@@ -51,8 +45,8 @@ module _ (places : List ℕ) (g : Bounded places) where
 
 pub numbers-told : (places : List ℕ) {chrom pos id reference alt qual filter info format samples : ℕ} → length places ≡ 20 → chrom ≡ endAt places 0 → pos ≡ endAt places 1 → id ≡ endAt places 2 → reference ≡ endAt places 3 → alt ≡ endAt places 4 → qual ≡ endAt places 5 → filter ≡ endAt places 6 → info ≡ endAt places 7 → format ≡ endAt places 8 → samples ≡ endAt places 9
     → getD places 0 0 ∷ chrom ∷ pos ∷ id ∷ reference ∷ alt ∷ qual ∷ filter ∷ info ∷ format ∷ samples ∷ [] ≡ numbersOf places
-unfolding numbersOf endsBy
-numbers-told places n a b c d e f g h i j = rw (a, b, c, d, e, f, g, h, i, j) (ap (λ (r : List ℕ). getD places 0 0 ∷ r) (ends-by 10 0 places n))
+unfolding endsBy
+numbers-told places n a b c d e f g h i j = rw (a, b, c, d, e, f, g, h, i, j, numbers-are) (ap (λ (r : List ℕ). getD places 0 0 ∷ r) (ends-by 10 0 places n))
 
 -- ---- the answers
 

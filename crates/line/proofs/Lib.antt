@@ -3,8 +3,8 @@ pub mod LineLaws
 pub mod ReadLaws
 pub mod ExtentLaws
 pub mod Extents
-pub mod SpanLaws
 pub mod NumberLaws
+pub mod SpanLaws
 pub mod PlaceLaws
 pub mod AnswerLaws
 pub mod MarkLaws

@@ -66,9 +66,9 @@ module _ {t : List ℕ} {at : ℕ} {tabs : List ℕ} (h : Told t at tabs) where
       omega arith
 
   -- the first seven tabs stand behind each other, and so do the ends behind them
-  rising : (ending : Ending) {info format end : ℕ} → getD tabs 6 0 + 1 ≤ info → passed (recordBy ending at tabs info format end) info ≤ format
+  risen : (ending : Ending) {info format end : ℕ} → getD tabs 6 0 + 1 ≤ info → passed (recordBy ending at tabs info format end) info ≤ format
       → passed (recordBy ending at tabs info format end) format ≤ end → Rising (recordBy ending at tabs info format end)
-  rising ending i f e =
+  risen ending i f e =
       record {
         chrom = h .seven 0 (omega arith) .after;
         pos = h .seven 1 (omega arith) .after;
@@ -89,7 +89,7 @@ module _ {t : List ℕ} {at : ℕ} {tabs : List ℕ} (h : Told t at tabs) where
         let r : Record = recordBy ending at tabs (length t) (length t) (length t) in
         let p = passed-none r (length t) refl in
         let w = h .seven 6 (omega arith) .within in
-        let g : Rising r = rising ending (omega arith) (omega arith) (omega arith) in
+        let g : Rising r = risen ending (omega arith) (omega arith) (omega arith) in
         let n : length t - length t ≡ 0 = omega arith in
         let c = count-is in
         let l = ap length (h .eight z) in
@@ -112,7 +112,7 @@ module _ {t : List ℕ} {at : ℕ} {tabs : List ℕ} (h : Told t at tabs) where
         let w = f .within in
         let p = passed-one r (getD tabs 7 0) (λ z. omega arith) in
         let q = passed-one r (getD tabs 8 0) (λ z. omega arith) in
-        let g : Rising r = rising ending (i .after) (omega arith) (omega arith) in
+        let g : Rising r = risen ending (i .after) (omega arith) (omega arith) in
         let c = count-is in
         let c₈ = count-tab i in
         let c₉ = count-tab f in

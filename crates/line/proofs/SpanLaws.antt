@@ -1,16 +1,21 @@
 -- A place from a start to an end, and the ten of a record whose ends rise: each is real, and has the record's numbers. Assumes nothing.
-use Prim.Native.Nat.{ℕ, _+_, _-_, _≤_, _<_}
-use mathlib.Core.Path.{_≡_, sym, _∙_}
-use mathlib.Core.List.{[], _∷_}
+use Prim.Native.Nat.{ℕ, _+_, _-_, _*_, _≤_, _<_}
+use mathlib.Core.Path.{_≡_, refl, sym, ap, _∙_}
+use mathlib.Core.Bool.{Bool, true, false}
+use mathlib.Core.List.{List, [], _∷_, _++_}
 use native.Mathlib.Omega.{arith}
-use borrow.Author.Tests.{le-leb, lt-leb, eq-eqb, ne-eqb}
-use Rattle.text.specs.Range.{rangeAt}
+use lib.ListN.{getD, take}
+use lib.Dec.{leb}
+use borrow.Author.Tests.{le-leb, lt-leb, leb-true, leb-false, eq-eqb, ne-eqb}
+use Rattle.text.specs.Range.{rangeAt, rangePlaces}
 use Rattle.text.specs.declared.range.Range.{Range}
 use Rattle.line.specs.Line.{endsOf, numbersOf}
 use Rattle.line.specs.Place.{nowhere, span, passed, rangeOf}
 use Rattle.line.specs.Paper.{recordPlaces, recordNumbers}
 use Rattle.line.specs.Demands.{Unreached}
 use Rattle.line.specs.declared.read.Record.{Record}
+use Rattle.line.specs.declared.place.Name.the-variants as N
+use Rattle.line.proofs.NumberLaws.{recordEnds}
 
 -- ---- from a start to an end
 
@@ -38,6 +43,23 @@ place-none e h = e ∙ sym (span-none h)
 pub tab-none : {before end : ℕ} {x : Range} → x ≡ nowhere → end ≤ before → x ≡ span (before + 1) end
 tab-none e h = place-none e (omega arith)
 
+-- one that is not empty is real, and so is one that starts where an input may reach
+module _ (start end : ℕ) where
+  real : (nowhere ≡ span start end → ⊥) → start ≤ end
+  real h = by (leb start end) refl
+    where
+      by : (b : Bool) → leb start end ≡ b → start ≤ end
+      by true e = leb-true start end e
+      by false e = absurd (h (sym (span-none (leb-false start end e))))
+
+  pub span-some : 0 < span start end .len → start ≤ end
+  unfolding nowhere
+  span-some h = real (λ e. let n = ap (λ (x : Range). x .len) e in omega arith)
+
+  pub span-within : span start end .start ≤ 9223372036854775807 → start ≤ end
+  unfolding nowhere
+  span-within h = real (λ e. let n = ap (λ (x : Range). x .start) e in omega arith)
+
 pub unreached : Unreached
 unfolding Unreached nowhere
 unreached s room start end h = rw (span-none h) (let r = room .1 in omega arith)
@@ -63,6 +85,37 @@ module _ (r : Record) (before : ℕ) where
     pub info-one : (r .format ≡ r .info → ⊥) → x ≡ span (before + 1) end → x ≡ span (passed r before) end
     info-one n q = rw (passed-one n) q
 
+-- ---- the places of a record
+
+-- places by a start and ends, one tab between
+abbrev pub spans : ℕ → List ℕ → List ℕ
+spans from [] = []
+spans from (end ∷ ends) = span from end .start ∷ span from end .len ∷ spans (end + 1) ends
+
+module _ (r : Record) where
+  pub full-spans : (r .format ≡ r .info → ⊥) → recordPlaces r ≡ spans (r .start) (recordEnds r)
+  unfolding recordPlaces rangeOf
+  full-spans n = rw (passed-one r (r .info) n, passed-one r (r .format) n)
+
+  pub bare-spans : r .format ≡ r .info
+      → recordPlaces r ≡ spans (r .start) (take 8 (recordEnds r)) ++ (rangePlaces (span (r .info) (r .format)) ++ rangePlaces (span (r .format) (r .end)))
+  unfolding recordPlaces rangeOf
+  bare-spans n = rw (passed-none r (r .info) n, passed-none r (r .format) n)
+
+  pub places-told : {chrom pos id reference alt qual filter info format samples : Range} → chrom ≡ rangeOf r N.Chrom → pos ≡ rangeOf r N.Pos → id ≡ rangeOf r N.Id → reference ≡ rangeOf r N.Reference → alt ≡ rangeOf r N.Alt → qual ≡ rangeOf r N.Qual → filter ≡ rangeOf r N.Filter → info ≡ rangeOf r N.Info → format ≡ rangeOf r N.Format → samples ≡ rangeOf r N.Samples
+      → chrom .start ∷ chrom .len ∷ pos .start ∷ pos .len ∷ id .start ∷ id .len ∷ reference .start ∷ reference .len ∷ alt .start ∷ alt .len ∷ qual .start ∷ qual .len ∷ filter .start ∷ filter .len ∷ info .start ∷ info .len ∷ format .start ∷ format .len ∷ samples .start ∷ samples .len ∷ [] ≡ recordPlaces r
+  unfolding recordPlaces
+  places-told a b c d e f g h i j = rw (a, b, c, d, e, f, g, h, i, j)
+
+  -- FORMAT's is the ninth, the samples' the tenth
+  pub format-place : rangePlaces (span (passed r (r .info)) (r .format)) ≡ getD (recordPlaces r) 16 0 ∷ getD (recordPlaces r) 17 0 ∷ []
+  unfolding recordPlaces rangeOf
+  format-place = refl
+
+  pub samples-place : rangePlaces (span (passed r (r .format)) (r .end)) ≡ getD (recordPlaces r) 18 0 ∷ getD (recordPlaces r) 19 0 ∷ []
+  unfolding recordPlaces rangeOf
+  samples-place = refl
+
 -- ---- a record whose ends rise
 
 -- no field ends before it starts
@@ -77,6 +130,23 @@ pub record Rising (r : Record) : Type 0 where
   pub info : r .filter + 1 ≤ r .info
   pub format : passed r (r .info) ≤ r .format
   pub samples : passed r (r .format) ≤ r .end
+
+-- so it is where none of the first eight is empty, and the last two are real
+pub rising : (r : Record) → ((i : ℕ) → i < 8 → 0 < getD (recordPlaces r) (2 * i + 1) 0) → passed r (r .info) ≤ r .format → passed r (r .format) ≤ r .end → Rising r
+unfolding recordPlaces rangeOf
+rising r some f s =
+    record {
+      chrom = span-some _ _ (some 0 (omega arith));
+      pos = span-some _ _ (some 1 (omega arith));
+      id = span-some _ _ (some 2 (omega arith));
+      reference = span-some _ _ (some 3 (omega arith));
+      alt = span-some _ _ (some 4 (omega arith));
+      qual = span-some _ _ (some 5 (omega arith));
+      filter = span-some _ _ (some 6 (omega arith));
+      info = span-some _ _ (some 7 (omega arith));
+      format = f;
+      samples = s;
+    }
 
 module _ {r : Record} (h : Rising r) where
   pub rising-places : recordPlaces r
