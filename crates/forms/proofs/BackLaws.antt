@@ -1,15 +1,13 @@
 -- The numbers of places that can be made are their record's, and the record's places are these: field by field, as each starts past
 -- one tab after the end of the one before. Assumes nothing.
 use Prim.Native.Nat.{ℕ, zero, suc, _+_, _-_, _*_, _<_, _≤_}
-use mathlib.Core.Path.{_≡_, refl, sym, ap, _∙_}
-use mathlib.Core.Bool.{Bool, true, false}
+use mathlib.Core.Path.{_≡_, sym, ap, _∙_}
+use mathlib.Core.Bool.{true}
 use mathlib.Core.List.{List, [], _∷_, _++_}
 use native.Mathlib.Omega.{arith}
 use native.Mathlib.Nat.{le-refl}
 use lib.ListN.{length, getD, take, drop, take-append-drop}
 use lib.Seq.{length-take-le, getD-take}
-use lib.Dec.{leb}
-use borrow.Author.Tests.{leb-true, leb-false}
 use Rattle.text.specs.Range.{rangeAt, rangePlaces}
 use Rattle.text.specs.declared.range.Range.{Range}
 use Rattle.line.specs.Line.{Ending, endsOf, numbersOf}

@@ -6,14 +6,11 @@ use mathlib.Core.List.{List, [], _∷_}
 use native.Mathlib.Omega.{arith}
 use lib.ListN.{length, getD, drop, drop-of-length-le}
 use lib.Seq.{drop-cons}
-use Rattle.text.specs.declared.range.Range.{Range}
 use Rattle.line.specs.Line.{endsOf, numbersOf}
-use Rattle.line.specs.Place.{rangeOf}
 use Rattle.line.specs.Paper.{endingOf, recordPlaces}
 use Rattle.line.specs.Promises.{GivesEnding, MakesRecord}
 use Rattle.line.specs.declared.ending.Ending.{Ending}
 use Rattle.line.specs.declared.read.Record.{Record}
-use Rattle.line.specs.declared.place.Name.the-variants as N
 use Rattle.line.proofs.LineLaws.{ending-numbered}
 use Rattle.line.proofs.NumberLaws.{ends-none, ends-more, numbers-are}
 use Rattle.forms.specs.Form.{endAt, made, widenAnswer, narrowAnswer}
