@@ -7,7 +7,7 @@ use mathlib.Core.Logic.{_⊎_, inl, inr, ⊎-elim}
 use mathlib.Core.List.{List, [], _∷_, _++_}
 use native.Mathlib.Omega.{arith}
 use lib.ListN.{length, getD, replicate, take, drop, take-append-drop, length-append, length-drop, length-replicate, getD-replicate, List·getD-append}
-use lib.Seq.{length-take-le, take-at, drop-at, getD-drop}
+use lib.Seq.{length-take-le, take-at, drop-at}
 use borrow.Author.Tests.{ne-eqb}
 use denote.Builtin.{u8}
 use denote.Slice.{Room}
@@ -24,10 +24,10 @@ use Rattle.line.specs.Demands as Line
 use Rattle.line.specs.Demands.{MayEnd, Ended, by-nothing, by-feed, by-return-feed, Begins, Reader, Stands, One, Moved, OneReader}
 use Rattle.line.proofs.ColumnLaws.{free-joined, utf8-all, nothing-bytes, feed-bytes, return-feed-bytes}
 use Rattle.line.proofs.LineLaws.{ending-known}
-use Rattle.line.proofs.RecordLaws.{begins-some}
+use Rattle.line.proofs.RecordLaws.{joined-length, begins-some, behind}
 use Rattle.line.proofs.ShapeLaws.{begins-answer}
 use Rattle.line.proofs.TenPlaces.{leading-none, leading-rest, leading-more, leading-length, all-length, eight-fields, ten-fields, places-lie}
-use Rattle.line.proofs.MovesOn.{read-moved}
+use Rattle.line.proofs.MovesOn.{read-moved, zero-inside}
 use Rattle.line.proofs.One.{one}
 use Rattle.line.proofs.Meets as LineMeets
 use Rattle.forms.specs.Form.{endAt, chainedFrom, chained, bare, made}
@@ -126,11 +126,9 @@ leading-end (suc n) from (c ∷ d ∷ cs) (suc k) e =
 
 leading-chained : (n from : ℕ) (cs : List (List ℕ)) → ((i : ℕ) → i < length cs → 0 < length (getD cs i [])) → chainedFrom from (leadingPlaces n from cs) ≡ true
 leading-chained n from [] h = rw (leading-none n from) (chain-none from)
-leading-chained zero from (c ∷ cs) h = rw (leading-rest from c cs) (chain-on from from (length (joined 9 (c ∷ cs))) [] refl (joined-some c cs (h 0 (omega arith))) ∙ chain-none _)
-  where
-    joined-some : (c : List ℕ) (cs : List (List ℕ)) → 0 < length c → 0 < length (joined 9 (c ∷ cs))
-    joined-some c [] l = rw (joined-one 9 c) l
-    joined-some c (d ∷ cs) l = rw (joined-more 9 c d cs, length-append c (9 ∷ joined 9 (d ∷ cs))) (omega arith)
+leading-chained zero from (c ∷ cs) h =
+    let l = joined-length 9 (c ∷ cs) h in
+    rw (leading-rest from c cs) (chain-on from from (length (joined 9 (c ∷ cs))) [] refl (omega arith) ∙ chain-none (from + length (joined 9 (c ∷ cs)) + 1))
 leading-chained (suc n) from (c ∷ cs) h =
     rw (leading-more n from c cs)
     (chain-on from from (length c) (leadingPlaces n (from + length c + 1) cs) refl (h 0 (omega arith)) ∙ leading-chained n (from + length c + 1) cs (λ i l. h (suc i) (suc-le-suc l)))
@@ -177,7 +175,7 @@ module _ (at : ℕ) {t : List ℕ} {cs : List (List ℕ)} {e : Ending} {rest : L
             eight
             (rw (take-at front back 16 n) (chain-any at front (leading-chained 8 at cs full-columns)))
             (drop-bare (front ++ back) (drop-at front back 16 n ∙ rw seven));
-        ends = end-is (front ++ back) 9 ∙ rw (at-back 2, at-back 3) (omega arith);
+        ends = end-is (front ++ back) 9 ∙ rw (behind (front ++ back) (drop-at front back 16 n) 2, behind (front ++ back) (drop-at front back 16 n) 3) (omega arith);
       })
     where
       front : List ℕ
@@ -192,9 +190,6 @@ module _ (at : ℕ) {t : List ℕ} {cs : List (List ℕ)} {e : Ending} {rest : L
       seven : endAt (front ++ back) 7 ≡ text-end
       seven = end-append front back 7 (let k = n in omega arith) ∙ leading-end 8 at cs 7 n
 
-      at-back : (i : ℕ) → getD (front ++ back) (16 + i) 0 ≡ getD back i 0
-      at-back i = sym (getD-drop 16 (front ++ back) i 0) ∙ ap (λ (l : List ℕ). getD l i 0) (drop-at front back 16 n)
-
   formed : Formed (fieldPlaces at cs text-end)
   formed = ⊎-elim formed-eight formed-ten (b .shaped .count)
 
@@ -204,12 +199,11 @@ unfolding One text-end
 answered s at next e places room h =
     let m : Moved s at (readAnswer s at) = read-moved s at in
     let z : numberOf (readAnswer s at) ≡ 0 = rw h in
-    let a = m .further (λ q. omega arith) (λ q. omega arith) in
     let w = m .within (λ q. omega arith) in
     let o : Stands s at (readAnswer s at) = one s at z in
     let v : next ∷ endingNumber e ∷ places ≡ valuesOf (readAnswer s at) = rw h in
     let x : next ≡ m .next = cc (v ∙ m .values) in
-    let q : says 0 (next ∷ endingNumber e ∷ places) ≡ says 0 ((at + length (joined 9 (o .columns)) + length (endingBytes (o .ending))) ∷ endingNumber (o .ending) ∷ fieldPlaces at (o .columns) (at + length (joined 9 (o .columns)))) = sym h ∙ begins-answer s at (omega arith) (o .begin) in
+    let q : says 0 (next ∷ endingNumber e ∷ places) ≡ says 0 ((at + length (joined 9 (o .columns)) + length (endingBytes (o .ending))) ∷ endingNumber (o .ending) ∷ fieldPlaces at (o .columns) (at + length (joined 9 (o .columns)))) = sym h ∙ begins-answer s at (zero-inside s at z) (o .begin) in
     let p : places ≡ fieldPlaces at (o .columns) (at + length (joined 9 (o .columns))) = cc in
     let y : next ≡ at + length (joined 9 (o .columns)) + length (endingBytes (o .ending)) = cc in
     let k : e ≡ o .ending = ending-known e (o .ending) cc in

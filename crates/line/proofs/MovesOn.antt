@@ -312,6 +312,14 @@ pub moves-on : MovesOn readAnswer
 unfolding MovesOn
 moves-on = read-moved
 
+-- 0 only from a place in the input
+pub zero-inside : (s : List ℕ) (at : ℕ) → numberOf (readAnswer s at) ≡ 0 → at < length s
+zero-inside s at z =
+    let m = read-moved s at in
+    let a = m .further (λ e. omega arith) (λ e. omega arith) in
+    let b = m .within (λ e. omega arith) in
+    omega arith
+
 -- ---- which numbers go where
 
 -- 1 at the end and 6 beyond it, both at the place given; else 0, or a refusal

@@ -18,7 +18,7 @@ use Rattle.line.specs.Line.{fieldPlaces, readAnswer}
 use Rattle.line.specs.Demands.{MayEnd, Lies, TenPlaces, Stands, One}
 use Rattle.line.proofs.ShapeLaws.{begins-answer, begins-only}
 use Rattle.line.proofs.TenPlaces.{places-lie}
-use Rattle.line.proofs.MovesOn.{read-moved}
+use Rattle.line.proofs.MovesOn.{zero-inside}
 use Rattle.line.proofs.Faults.{Told, faulty, begun, told, faulty-answer, faulty-refuses}
 
 -- ---- what the places cut out
@@ -83,11 +83,7 @@ unfolding One
 one s at z = by (told s at)
   where
     within : at < length s
-    within =
-        let m = read-moved s at in
-        let a = m .further (λ e. omega arith) (λ e. omega arith) in
-        let b = m .within (λ e. omega arith) in
-        omega arith
+    within = zero-inside s at z
 
     by : Told s at → Stands s at (readAnswer s at)
     by (faulty n next f) =

@@ -68,7 +68,7 @@ tells-ending s at next r x read q cs e rest b =
 -- ---- pieces that are not empty
 
 -- joined, they have no fewer bytes than there are pieces
-joined-length : (b : ℕ) (ps : List (List ℕ)) → ((i : ℕ) → i < length ps → 0 < length (getD ps i [])) → length ps ≤ length (joined b ps)
+pub joined-length : (b : ℕ) (ps : List (List ℕ)) → ((i : ℕ) → i < length ps → 0 < length (getD ps i [])) → length ps ≤ length (joined b ps)
 joined-length b [] h = rw (joined-none b) (omega arith)
 joined-length b (p ∷ []) h = rw (joined-one b p) (h 0 (omega arith))
 joined-length b (p ∷ q ∷ ps) h =
@@ -128,7 +128,7 @@ range-place r N.Format = record { starts = refl; sized = refl }
 range-place r N.Samples = record { starts = refl; sized = refl }
 
 -- what stands behind the first eight places
-behind : (places : List ℕ) {l : List ℕ} → drop 16 places ≡ l → (j : ℕ) → getD places (16 + j) 0 ≡ getD l j 0
+pub behind : (places : List ℕ) {l : List ℕ} → drop 16 places ≡ l → (j : ℕ) → getD places (16 + j) 0 ≡ getD l j 0
 behind places e j = sym (getD-drop 16 places j 0) ∙ ap (λ (l : List ℕ). getD l j 0) e
 
 -- the column of a field but the samples
