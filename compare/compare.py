@@ -39,8 +39,8 @@ def is_text(part):
 
 
 def field_bounds(verb, numbers):
-    """The start and the end of each field, of the numbers that the Rust answers to `line` or `small`."""
-    if verb == b"line":
+    """The start and the end of each field, of the numbers that the Rust answers to `line`, `plain` or `small`."""
+    if verb != b"small":
         return [(start, start + length) for start, length in zip(numbers[::2], numbers[1::2])]
     # where FORMAT is absent, the last two start past their ends, and are empty all the same
     start, *ends = numbers
@@ -50,7 +50,7 @@ def field_bounds(verb, numbers):
 def across_a_tab(line, rust, ours):
     """The Rust accepts a line of which a field by itself is not UTF-8; ours is 5, with the same next place."""
     verb, argument, *_ = line.split(b" ")
-    if verb not in (b"line", b"small"):
+    if verb not in (b"line", b"plain", b"small"):
         return False
     number, past, *numbers = map(int, rust.split(" "))
     if number != 0 or ours != f"5 {past}":
@@ -76,7 +76,7 @@ def listed(line, rust, ours):
 # refusal it is the offset, of an accepted line the ending.
 LEFT_OUT = {
     b"decimal": ("12", 1), b"pos": ("21", 1), b"read": ("12", 2), b"alleles": ("12", 2), b"gtstep": ("12", 1),
-    b"line": ("0", 2), b"small": ("0", 2),
+    b"line": ("0", 2), b"plain": ("0", 2), b"small": ("0", 2),
 }
 
 

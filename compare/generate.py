@@ -1844,6 +1844,135 @@ def forms_of_lines(large, dice):
     yield from random_forms(large, dice)
 
 
+# ---- plain
+
+# It is asked all that `line` is: see `asked_of_plain`. Here are more lines, asked of both, for what a reader may get
+# wrong that goes over a line three times: for its end, for all its tabs, and to judge its columns.
+MANY_COLUMNS = (*COLUMNS, *[b"7"] * 88)
+ONE_BYTE_COLUMNS = tuple(bytes([letter]) for letter in b"abcdefghijkl")
+# Ends of a line that are wrong by themselves, or near to that.
+ODD_ENDS = (b"", b"\r", b"\r\r\n", b"\t", b"\t\n", b"\t\r", b"\t\r\n", b"\xff\n", b"\xc3")
+
+
+def emptied(columns, *indexes):
+    """The line of the columns, some of them, given by index, empty."""
+    return row(replaced(columns, dict.fromkeys(indexes, b"")))
+
+
+# Lines with tabs, empty columns and faults of their own, which say nothing of the line before or behind them.
+OTHER_LINES = (
+    row(COLUMNS) + b"\n", b"\t" * 12 + b"\n", b"\t\r\n", b"\n", b"\r\n", b"\xff\t\t\n",
+    *(emptied(COLUMNS[:8], index) + b"\n" for index in (0, 1, 7)),
+)
+# Short lines of every kind.
+SHORT_LINES = (
+    row(ONE_BYTE_COLUMNS[:8]) + b"\n", row(ONE_BYTE_COLUMNS[:10]) + b"\r\n", emptied(ONE_BYTE_COLUMNS[:8], 2) + b"\n",
+    emptied(ONE_BYTE_COLUMNS, 10) + b"\r\n", row(ONE_BYTE_COLUMNS[:9]) + b"\n", b"\r\tb\n", b"\t\t\r\n", b"\r\r\n",
+    row(replaced(ONE_BYTE_COLUMNS[:8], {3: b"\xc3", 4: b"\xa9"})) + b"\n", row(ONE_BYTE_COLUMNS[:8]) + b"\r",
+)
+
+
+def empty_columns(large):
+    """One empty column of 9, 11 and 100; two of 11."""
+    for count in (9, 11, 100):
+        for index, ending in itertools.product(range(count), ENDINGS if large or count < 100 else (b"\r\n",)):
+            yield emptied(MANY_COLUMNS[:count], index) + ending
+    for indexes in itertools.combinations(range(11), 2):
+        yield emptied(COLUMNS[:11], *indexes) + b"\n"
+
+
+def empty_before_ends(large):
+    """An empty column early or late, and an end of the line that is wrong too."""
+    for count, end in itertools.product((3, 7, 8, 9, 10, 11), ODD_ENDS):
+        for index in range(count) if large else (1, count - 2):
+            yield emptied(COLUMNS[:count], index) + end
+
+
+def empty_and_broken(large):
+    """An empty column, and before it or behind it one that is no UTF-8."""
+    for count, wrong in itertools.product((8, 9, 10, 11, 12), (b"\xc3", b"\xff")) if large else ((11, b"\xc3"),):
+        for empty, other in itertools.permutations(range(count), 2):
+            yield row(replaced(COLUMNS[:count], {empty: b"", other: wrong})) + b"\n"
+
+
+def tabs_before_ends(large):
+    """Tabs right before each end, behind columns and alone."""
+    ends = (b"\n", b"\r\n", b"\r\r\n", b"\r", b"")
+    for count, tabs, end in itertools.product(range(1, 13) if large else (1, 7, 8, 9, 10), (2, 3), ends):
+        yield row(COLUMNS[:count]) + b"\t" * tabs + end
+    for tabs, end in itertools.product(range(1, 14) if large else (1, 7, 8, 9, 10, 12), ends):
+        yield b"\t" * tabs + end
+
+
+def returns_before_tabs(large):
+    """A CR at the end of each column, alone and behind a letter; and of the one before an empty one."""
+    for count, column in itertools.product((9, 11), (b"\r", b"a\r")):
+        for index, ending in itertools.product(range(count), ENDINGS if large else (b"\r\n",)):
+            yield row(replaced(COLUMNS[:count], {index: column})) + ending
+    for index in range(10):
+        yield row(replaced(COLUMNS[:11], {index: b"a\r", index + 1: b""})) + b"\r\n"
+
+
+def of_every_length(large):
+    """A first column of each length, so that tabs, CR and LF come to stand in each place of a block of bytes."""
+    for length in range(1, 300 if large else 50):
+        yield b"a" * length + seven(b"I", b"F", b"s")[1:] + b"\r\n\ta"
+        yield b"a" * length + seven(b"I", b"F", b"s", b"", b"u")[1:]
+
+
+def beside_others():
+    """A line before another line and behind it."""
+    for count, ending, other in itertools.product((1, 7, 8, 9, 10, 11), (b"\n", b"\r\n"), OTHER_LINES):
+        line = row(COLUMNS[:count]) + ending
+        yield line + other, 0
+        yield other + line, len(other)
+
+
+def from_every_place(large):
+    """Short lines one after the other, from every place to past the end; at large every two of them besides."""
+    texts = [b"".join(SHORT_LINES), *(map(b"".join, itertools.product(SHORT_LINES, repeat=2)) if large else ())]
+    for text in texts:
+        for at in range(len(text) + 3):
+            yield text, at
+
+
+def random_row(dice):
+    """A line of any number of columns, of which now and then one is empty, CR or no UTF-8."""
+    count = dice.pick((1, 2, 7, 8, 8, 9, 10, 10, 11, 12, 20))
+    good, other = (b"a", b"bb", "\u00e9".encode(), b"a\r"), (b"", b"\r", b"\xc3", b"\xa9")
+    columns = [dice.pick(good if dice.roll(15) else other) for _ in range(count)]
+    return row(columns) + dice.pick((b"\n", b"\r\n", b"\r\r\n", b"\t\n"))
+
+
+def random_rows(large, dice):
+    """Three lines in a text, the last maybe not ended, read from the start of each and from elsewhere."""
+    for _ in range(6_000 if large else 40):
+        found = [random_row(dice) for _ in range(3)]
+        text = b"".join(found)[: -dice.roll(3) or None]
+        for at in itertools.accumulate(map(len, found[:-1]), initial=0):
+            yield ask("line", text, at)
+        yield ask("line", text, dice.roll(len(text) + 2))
+
+
+def lines_in_passes(large, dice):
+    shapes = (
+        empty_columns, empty_before_ends, empty_and_broken, tabs_before_ends, returns_before_tabs, of_every_length,
+    )
+    for text in itertools.chain(*(shape(large) for shape in shapes)):
+        yield ask("line", text, 0)
+    for text, at in itertools.chain(beside_others(), from_every_place(large)):
+        yield ask("line", text, at)
+    yield from random_rows(large, dice)
+
+
+def asked_of_plain(cases):
+    """Each case of `line`, asked of `plain`: it is none where the longer verb makes it too long."""
+    for line, good in cases:
+        if good and line.startswith(b"line "):
+            again = line.replace(b"line", b"plain", 1)
+            yield again, len(again) <= LONGEST_LINE
+
+
 # ---- the form of a case
 
 NO_CASES = (
@@ -2138,6 +2267,24 @@ NO_FORM_CASES = (
 )
 
 
+# The same of plain.
+NO_PLAIN_CASES = (
+    # an unknown verb, an argument too few or too many, spaces
+    b"plai - 0", b"plains - 0", b"plainer - 0", b"plan - 0", b"lain - 0", b"xplain - 0", b"Plain - 0", b"PLAIN - 0",
+    b"plaim - 0", b"plainline - 0", b"plain", b"plain ", b"plain -", b"plain 0", b"plain - ", b"plain - 0 0",
+    b"plain - 0 ", b"plain  - 0", b"plain -  0", b" plain - 0", b"plain - 0\r", b"plain\t- 0", b"plain -\t0",
+    b"plain-0", b"plain -0", b"plain lf - 0", b"plain - lf 0", b"plain - 0 lf", b"plain - lf", b"plain 0 -",
+    b"plain id - 0", b"plain line - 0", b"line plain - 0", b"plain 0 1 2 1 4 1",
+    # hex that is odd, upper case or none
+    b"plain 6 0", b"plain 6A 0", b"plain 616 0", b"plain 0x61 0", b"plain -- 0", b"plain 61- 0", b"plain . 0",
+    b"plain 6g 0", b"plain \xff\xff 0",
+    # a number that is empty, has a sign or a leading zero, passes its type, or is none
+    b"plain - 00", b"plain - 01", b"plain - +0", b"plain - -0", b"plain - -", b"plain - -1", b"plain - a",
+    b"plain - 0a", b"plain - 0,0", b"plain - 1.0", b"plain - 0x0", b"plain - 18446744073709551616",
+    b"plain - 99999999999999999999", b"plain 61 18446744073709551625", b"plain 61 36893488147419103232",
+)
+
+
 def spoilt(lines, large):
     """Good lines with one byte put in, in every place, that makes each of them none."""
     for line, byte in itertools.product(lines, b"\x00\t\r \x7f\x80\xffxG" if large else b"\x00 x"):
@@ -2308,6 +2455,22 @@ def long_form_lines(large):
         yield none(b"narrow lf " + GOOD_PLACES + b" " * LONGEST_LINE)
 
 
+def long_plain_lines(large):
+    """The same of plain, whose arguments have a byte less room than those of line."""
+    text = b"0123456789" * 10 + seven(b"I", b"F", b"")
+    text += filler(32_763 - len(text))
+    yield ask("plain", text, 100)
+    if large:
+        yield ask("plain", text[:-1] + b"\xc3", 100)
+        yield ask("plain", text[:-2] + b"\r\n", 100)
+        yield ask("plain", text[:-1] + b"\t", 100)
+        yield ask("plain", b"a\t" * 16_381 + b"\t", 100)
+        yield ask("plain", b"a\t" * 16_381 + b"a", 100)
+        yield none(ask("plain", text, 1_000)[0])
+        yield none(b"plain - " + b"0" * (LONGEST_LINE - 8))
+        yield none(b"plain " + b"6" * (LONGEST_LINE - 9) + b" 0")
+
+
 def form(large):
     """Lines that are none and long lines, each before a case with an answer of its own: a shift shows at once."""
     good = (b"utf8 41", b"print 5 70", b"space -", b"decimal 2b37") if large else (b"utf8 41", b"print 5 70")
@@ -2317,7 +2480,7 @@ def form(large):
     lists = (b"filters 2 0 61 1", *((b"alts 2 0 61 1",) if large else ()))
     one_step, one_count = (b"gtstep 30 0",), (b"altcount 2c",)
     ended = (b"join 9 0 crlf 6162 1,2", *((b"join 9 0 none 6162 1,2",) if large else ()))
-    formed = (b"small 6109 0", b"widen lf " + GOOD_ENDS, b"narrow none " + GOOD_PLACES)
+    formed, plain = (b"small 6109 0", b"widen lf " + GOOD_ENDS, b"narrow none " + GOOD_PLACES), (b"plain 6109 0",)
     lines = (
         *map(none, (*NO_CASES, *spoilt(good, large))), *long_lines(large),
         *map(none, (*NO_RECORD_CASES, *spoilt(more, large))), *long_record_lines(large),
@@ -2328,6 +2491,7 @@ def form(large):
         *map(none, (*NO_ALT_CASES, *spoilt(one_count, large))), *long_alt_lines(large),
         *map(none, (*NO_ENDING_CASES, *spoilt(ended, large))),
         *map(none, (*NO_FORM_CASES, *spoilt(formed, large))), *long_form_lines(large),
+        *map(none, (*NO_PLAIN_CASES, *spoilt(plain, large))), *long_plain_lines(large),
     )
     for index, case in enumerate(lines):
         yield case
@@ -2342,13 +2506,15 @@ def areas(large):
         infos(large, Dice(8)), samples(large, Dice(9)), genotypes(large, Dice(10)), written_genotypes(large, Dice(11)),
         entry_lists(large, Dice(12)), genotype_steps(large, Dice(13)), offsets(large, Dice(14)),
         alt_counts(large, Dice(15)), line_endings(large, Dice(16)), forms_of_lines(large, Dice(17)),
+        lines_in_passes(large, Dice(18)),
     )
 
 
 def stored():
     """The stored lines in order, each with whether it is a case; each question once, as areas overlap."""
-    yield from dict.fromkeys(itertools.chain(*areas(False)))
-    yield from form(False)
+    cases = (*dict.fromkeys(itertools.chain(*areas(False))), *form(False))
+    yield from cases
+    yield from asked_of_plain(cases)
     yield ask("decimal", b"+3629")
 
 

@@ -710,6 +710,7 @@ VERBS = {
     b"decimal": (decimal, (hexed,)),
     b"print": (print_number, (room, number)),
     b"line": (line_places, (hexed, number)),
+    b"plain": (line_places, (hexed, number)),
     b"small": (small, (hexed, number)),
     b"widen": (widen, (line_ending, *[number] * 11)),
     b"narrow": (narrow, (line_ending, *[number] * 20)),

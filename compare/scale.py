@@ -59,6 +59,10 @@ def more_forms(dice):
     return generate.random_forms(True, dice)
 
 
+def more_rows(dice):
+    return generate.random_rows(True, dice)
+
+
 # ---- all short texts
 
 # The bytes at the edges of UTF-8's table, and those of white space; then fewer of them.
@@ -499,6 +503,7 @@ GOOD_CASES = (
     b"small 6309310a 0", b"small 6109620963096409650966096709680d0a 0", b"widen lf " + generate.GOOD_ENDS,
     b"widen none 4 5 7 9 11 13 15 17 19 19 19", b"narrow crlf " + generate.GOOD_PLACES,
     b"narrow lf 9 1 11 1 13 1 15 1 17 1 19 1 21 1 23 1 24 0 24 0",
+    b"plain 6309310a 0", b"plain 6109620963096409650966096709680d0a 0",
 )
 
 
@@ -516,7 +521,7 @@ def harmed_cases(dice):
 
 AGAIN = (
     more_texts, more_lines, more_fields, more_columns, more_samples, more_genotypes, more_lists, more_alts,
-    more_endings, more_forms,
+    more_endings, more_forms, more_rows,
 )
 EXHAUSTIVE = (
     short_characters, short_numbers, short_line_ends, short_line_tails, columns_of_every_kind, dots_of_every_kind,
@@ -544,10 +549,17 @@ def malformed():
     yield from words_for_endings()
 
 
+def with_plain(cases):
+    """The cases and, after each of `line`, the same of `plain`."""
+    for case in cases:
+        yield case
+        yield from generate.asked_of_plain((case,))
+
+
 def parts():
-    """Every part's cases, each part with dice of its own."""
+    """Every part's cases, each part with dice of its own; every case of `line` is asked of `plain` too."""
     found = [*generate.areas(True), malformed(), *(make() for make in EXHAUSTIVE)]
     dice = map(Dice, itertools.count(1_000))
     for _, make in itertools.product(range(ROUNDS), (*AGAIN, *NEAR, *HARMED)):
         found.append(make(next(dice)))
-    return found
+    return list(map(with_plain, found))

@@ -21,12 +21,13 @@
  * end of the text, or of the piece of a genotype. So it can be the text's length, where there is no byte.
  *
  * How values cross. A function that answers more than its number is lent an array `values`, always of the same length:
- * BRUNCADORZA_VALUES numbers, and BRUNCADORZA_LINE_VALUES for the three functions on whole lines: bruncadorza_read_line,
- * bruncadorza_narrow and bruncadorza_widen. In C such a parameter is a plain pointer, so a caller must keep that so many numbers
- * are there, aligned, and in no slice and no other array of the same call. The function sets values[0] to how many values follow
- * and values[1], values[2], .. to the values, and changes nothing behind them. How many there are tells an absent thing from a
- * present one. No function fills its array: there is room for values that are added later, so that a caller's arrays can stay as
- * they are. The arrays `places` and `numbers` of the last two cross in the same way, and are only read.
+ * BRUNCADORZA_VALUES numbers, and BRUNCADORZA_LINE_VALUES for the four functions on whole lines: bruncadorza_read_line,
+ * bruncadorza_split_line, bruncadorza_narrow and bruncadorza_widen. In C such a parameter is a plain pointer, so a caller must
+ * keep that so many numbers are there, aligned, and in no slice and no other array of the same call. The function sets values[0]
+ * to how many values follow and values[1], values[2], .. to the values, and changes nothing behind them. How many there are tells
+ * an absent thing from a present one. No function fills its array: there is room for values that are added later, so that a
+ * caller's arrays can stay as they are. The arrays `places` and `numbers` of the last two cross in the same way, and are only
+ * read.
  *
  * In the comments below `0: next, start, length` says that the number 0 comes with these three values, and `6` that it comes
  * with none.
@@ -92,8 +93,8 @@ enum bruncadorza_ending {
     BRUNCADORZA_ENDING_RETURN_FEED = 2 /* CR LF */
 };
 
-/* How long the array `values` is: for bruncadorza_read_line, bruncadorza_narrow and bruncadorza_widen, and for every other function
-   that has values. */
+/* How long the array `values` is: for bruncadorza_read_line, bruncadorza_split_line, bruncadorza_narrow and bruncadorza_widen, and
+   for every other function that has values. */
 #define BRUNCADORZA_LINE_VALUES 24
 #define BRUNCADORZA_VALUES 8
 
@@ -124,6 +125,11 @@ uint64_t bruncadorza_print_decimal(uint64_t n, uint8_t *out, size_t out_n,
    of the ten fields. 1 to 6: the next place, from which to go on. */
 uint64_t bruncadorza_read_line(const uint8_t *s, size_t s_n, size_t at,
                                uint64_t values[BRUNCADORZA_LINE_VALUES]);
+
+/* Answers as bruncadorza_read_line does, whatever it is given, in three plain steps. It is slower, and after a refusal 2 it goes
+   over the rest of the line again. */
+uint64_t bruncadorza_split_line(const uint8_t *s, size_t s_n, size_t at,
+                                uint64_t values[BRUNCADORZA_LINE_VALUES]);
 
 /* The text of a field (enum bruncadorza_name) at the place that bruncadorza_read_line gave for it in the same `s`. 0: its start
    and length, or no value where it is absent (`.` in QUAL). 6 where the place does not fit `s`; 10 where `name` is above 9. */

@@ -62,10 +62,11 @@ fn text(input: &Input) -> &[u8] {
     &input.text
 }
 
-fn rows() -> [Row; 10] {
+fn rows() -> [Row; 11] {
     let row = |name, bytes, theirs, ours| Row { name, bytes, theirs, ours };
     [
         row("read lines", body, Some(theirs::read as Run), ours::read as Run),
+        row("read lines, plainly", body, Some(theirs::read), ours::read_plainly),
         row("read lines, POS", body, Some(theirs::read_pos), ours::read_pos),
         row("INFO steps", info, Some(theirs::info_steps), ours::info_steps),
         row("INFO count", info, Some(theirs::info_count), ours::info_count),

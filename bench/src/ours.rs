@@ -6,6 +6,7 @@ type Bytes = *const u8;
 
 unsafe extern "C" {
     fn bruncadorza_read_line(s: Bytes, s_n: usize, at: usize, values: &mut [u64; 24]) -> u64;
+    fn bruncadorza_split_line(s: Bytes, s_n: usize, at: usize, values: &mut [u64; 24]) -> u64;
     fn bruncadorza_read_pos(text: Bytes, text_n: usize, values: &mut Values) -> u64;
     fn bruncadorza_info_step(column: Bytes, column_n: usize, at: usize, values: &mut Values) -> u64;
     fn bruncadorza_info_count(column: Bytes, column_n: usize) -> u64;
@@ -33,16 +34,19 @@ unsafe extern "C" {
 /// The ending LF, as the joiner takes it.
 const FEED: u64 = 1;
 
-/// Every line of the body. A visitor gets its length and the values that follow the next place and the ending: the start
-/// and the length of each field.
+/// Every line of the body, by one of the two readers. A visitor gets its length and the values that follow the next place and
+/// the ending: the start and the length of each field.
 #[inline]
-fn each_line(input: &Input, mut visit: impl FnMut(usize, &[u64], &mut Tally)) -> Tally {
+fn each_line_by(
+    reader: impl Fn(&[u8], usize, &mut [u64; 24]) -> u64, input: &Input,
+    mut visit: impl FnMut(usize, &[u64], &mut Tally),
+) -> Tally {
     let body = &input.body[..];
     let mut tally = Tally::default();
     let mut values = [0; 24];
     let mut at = 0;
     loop {
-        let number = unsafe { bruncadorza_read_line(body.as_ptr(), body.len(), at, &mut values) };
+        let number = reader(body, at, &mut values);
         if number == 1 {
             return tally;
         }
@@ -54,12 +58,22 @@ fn each_line(input: &Input, mut visit: impl FnMut(usize, &[u64], &mut Tally)) ->
 }
 
 #[inline]
+fn each_line(input: &Input, visit: impl FnMut(usize, &[u64], &mut Tally)) -> Tally {
+    each_line_by(|s, at, values| unsafe { bruncadorza_read_line(s.as_ptr(), s.len(), at, values) }, input, visit)
+}
+
+#[inline]
 fn place(fields: &[u64], number: usize) -> Place {
     Place { start: fields[2 * number] as usize, len: fields[2 * number + 1] as usize }
 }
 
 pub fn read(input: &Input, _: &mut Room) -> Tally {
     each_line(input, |len, _, tally| tally.add(len))
+}
+
+pub fn read_plainly(input: &Input, _: &mut Room) -> Tally {
+    let split = |s: &[u8], at, values: &mut _| unsafe { bruncadorza_split_line(s.as_ptr(), s.len(), at, values) };
+    each_line_by(split, input, |len, _, tally| tally.add(len))
 }
 
 pub fn read_pos(input: &Input, _: &mut Room) -> Tally {

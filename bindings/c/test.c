@@ -70,6 +70,34 @@ static void leaves(void) {
     CHECK(memcmp(out, "123\xEE", 4) == 0);
 }
 
+/* Whether bruncadorza_split_line answers as bruncadorza_read_line does, and both change nothing behind the values. */
+static int split_alike(const uint8_t *s, size_t n, size_t at) {
+    uint64_t read[BRUNCADORZA_LINE_VALUES];
+    uint64_t split[BRUNCADORZA_LINE_VALUES];
+    uint64_t i;
+    for (i = 0; i < BRUNCADORZA_LINE_VALUES; i += 1) {
+        read[i] = 77;
+        split[i] = 77;
+    }
+    if (bruncadorza_read_line(s, n, at, read) != bruncadorza_split_line(s, n, at, split)) {
+        return 0;
+    }
+    for (i = 0; i < BRUNCADORZA_LINE_VALUES; i += 1) {
+        if (split[i] != read[i] || (i > read[0] && read[i] != 77)) {
+            return 0;
+        }
+    }
+    return 1;
+}
+
+/* bruncadorza_read_line, and a check that the other reader answers the same. */
+#define READ_LINE(...) read_line(__LINE__, __VA_ARGS__)
+
+static uint64_t read_line(int line, const uint8_t *s, size_t n, size_t at, uint64_t *values) {
+    check(split_alike(s, n, at), "bruncadorza_split_line answers the same", line);
+    return bruncadorza_read_line(s, n, at, values);
+}
+
 static void lines(void) {
     static const char text[] = "1\t7\t.\tA\tC,G\t.\tPASS\tDP=9;DB\tGT\t0|2\t./1\r\n#";
     const uint8_t *s = (const uint8_t *)text;
@@ -78,17 +106,17 @@ static void lines(void) {
     uint64_t values[BRUNCADORZA_LINE_VALUES];
     uint64_t place[BRUNCADORZA_VALUES];
 
-    CHECK(bruncadorza_read_line(s, n, 0, values) == BRUNCADORZA_DONE && are(values, 22, expected));
+    CHECK(READ_LINE(s, n, 0, values) == BRUNCADORZA_DONE && are(values, 22, expected));
     CHECK(bruncadorza_field_text(s, n, BRUNCADORZA_INFO, 19, 7, place) == BRUNCADORZA_DONE && two(place, 19, 7));
     CHECK(bruncadorza_field_text(s, n, BRUNCADORZA_ID, 4, 1, place) == BRUNCADORZA_DONE && two(place, 5, 0));
     CHECK(bruncadorza_field_text(s, n, BRUNCADORZA_QUAL, 12, 1, place) == BRUNCADORZA_DONE && none(place));
     CHECK(bruncadorza_field_text(s, n, BRUNCADORZA_CHROM, n, 1, place) == BRUNCADORZA_BEYOND && none(place));
     CHECK(bruncadorza_field_text(s, n, 10, 0, 1, place) == BRUNCADORZA_NOTHING && none(place));
-    CHECK(bruncadorza_read_line(s, n, 39, values) == BRUNCADORZA_COLUMN_CUT && one(values, n));
-    CHECK(bruncadorza_read_line(s, n, n, values) == BRUNCADORZA_END && one(values, n));
-    CHECK(bruncadorza_read_line(s, n, n + 1, values) == BRUNCADORZA_BEYOND && one(values, n + 1));
-    CHECK(bruncadorza_read_line(BYTES("\t"), 0, values) == BRUNCADORZA_EMPTY_COLUMN && one(values, 1));
-    CHECK(bruncadorza_read_line(BYTES("1\n"), 0, values) == BRUNCADORZA_COLUMN_FED && one(values, 2));
+    CHECK(READ_LINE(s, n, 39, values) == BRUNCADORZA_COLUMN_CUT && one(values, n));
+    CHECK(READ_LINE(s, n, n, values) == BRUNCADORZA_END && one(values, n));
+    CHECK(READ_LINE(s, n, n + 1, values) == BRUNCADORZA_BEYOND && one(values, n + 1));
+    CHECK(READ_LINE(BYTES("\t"), 0, values) == BRUNCADORZA_EMPTY_COLUMN && one(values, 1));
+    CHECK(READ_LINE(BYTES("1\n"), 0, values) == BRUNCADORZA_COLUMN_FED && one(values, 2));
     CHECK(bruncadorza_place_in(s, n, 1, n - 1, place) == BRUNCADORZA_DONE && two(place, 1, n - 1));
     CHECK(bruncadorza_place_in(s, n, 1, SIZE_MAX, place) == BRUNCADORZA_BEYOND && none(place));
     CHECK(bruncadorza_read_pos(BYTES("7"), values) == BRUNCADORZA_DONE && one(values, 7));
@@ -121,18 +149,37 @@ static void read_endings(void) {
     uint64_t values[BRUNCADORZA_LINE_VALUES];
 
     values[23] = 77;
-    CHECK(bruncadorza_read_line(BYTES(LINE "\n" LINE "\r\n" LINE), 0, values) == BRUNCADORZA_DONE && are_line(values, 0, BRUNCADORZA_ENDING_FEED));
-    CHECK(bruncadorza_read_line(BYTES(LINE "\n" LINE "\r\n" LINE), 16, values) == BRUNCADORZA_DONE && are_line(values, 16, BRUNCADORZA_ENDING_RETURN_FEED));
-    CHECK(bruncadorza_read_line(BYTES(LINE "\n" LINE "\r\n" LINE), 33, values) == BRUNCADORZA_DONE && are_line(values, 33, BRUNCADORZA_ENDING_NOTHING));
-    CHECK(bruncadorza_read_line(BYTES(LINE "\n"), 0, values) == BRUNCADORZA_DONE && are_line(values, 0, BRUNCADORZA_ENDING_FEED));
-    CHECK(bruncadorza_read_line(BYTES(LINE "\r\n"), 0, values) == BRUNCADORZA_DONE && are_line(values, 0, BRUNCADORZA_ENDING_RETURN_FEED));
-    CHECK(bruncadorza_read_line(BYTES(LINE), 0, values) == BRUNCADORZA_DONE && are_line(values, 0, BRUNCADORZA_ENDING_NOTHING));
+    CHECK(READ_LINE(BYTES(LINE "\n" LINE "\r\n" LINE), 0, values) == BRUNCADORZA_DONE && are_line(values, 0, BRUNCADORZA_ENDING_FEED));
+    CHECK(READ_LINE(BYTES(LINE "\n" LINE "\r\n" LINE), 16, values) == BRUNCADORZA_DONE && are_line(values, 16, BRUNCADORZA_ENDING_RETURN_FEED));
+    CHECK(READ_LINE(BYTES(LINE "\n" LINE "\r\n" LINE), 33, values) == BRUNCADORZA_DONE && are_line(values, 33, BRUNCADORZA_ENDING_NOTHING));
+    CHECK(READ_LINE(BYTES(LINE "\n"), 0, values) == BRUNCADORZA_DONE && are_line(values, 0, BRUNCADORZA_ENDING_FEED));
+    CHECK(READ_LINE(BYTES(LINE "\r\n"), 0, values) == BRUNCADORZA_DONE && are_line(values, 0, BRUNCADORZA_ENDING_RETURN_FEED));
+    CHECK(READ_LINE(BYTES(LINE), 0, values) == BRUNCADORZA_DONE && are_line(values, 0, BRUNCADORZA_ENDING_NOTHING));
     /* A CR that no LF follows, and one before a CR LF, belong to INFO. */
-    CHECK(bruncadorza_read_line(BYTES(LINE "\r"), 0, values) == BRUNCADORZA_DONE && values[0] == 22);
+    CHECK(READ_LINE(BYTES(LINE "\r"), 0, values) == BRUNCADORZA_DONE && values[0] == 22);
     CHECK(values[1] == 16 && values[2] == BRUNCADORZA_ENDING_NOTHING && values[17] == 14 && values[18] == 2);
-    CHECK(bruncadorza_read_line(BYTES(LINE "\r\r\n"), 0, values) == BRUNCADORZA_DONE && values[0] == 22);
+    CHECK(READ_LINE(BYTES(LINE "\r\r\n"), 0, values) == BRUNCADORZA_DONE && values[0] == 22);
     CHECK(values[1] == 18 && values[2] == BRUNCADORZA_ENDING_RETURN_FEED && values[17] == 14 && values[18] == 2);
     CHECK(values[23] == 77);
+}
+
+/* From each place of a text with every refusal in it, and from beyond its end. */
+static void split_lines(void) {
+    static const char text[] = LINE "\n\t\n1\n\xFF\t" LINE "\tGT\t0|1\r\n#";
+    uint64_t values[BRUNCADORZA_LINE_VALUES];
+    int seen[BRUNCADORZA_BEYOND + 1] = {0};
+    uint64_t number;
+    size_t at;
+
+    for (at = 0; at <= sizeof text; at += 1) {
+        number = READ_LINE((const uint8_t *)text, sizeof text - 1, at, values);
+        if (number <= BRUNCADORZA_BEYOND) {
+            seen[number] = 1;
+        }
+    }
+    for (number = BRUNCADORZA_DONE; number <= BRUNCADORZA_BEYOND; number += 1) {
+        CHECK(seen[number]);
+    }
 }
 
 /* A line's record in both forms. First of LINE and `GT` and `0|1` behind it, at the place 5; then of LINE alone, at the place 0. */
@@ -179,11 +226,11 @@ static void kept_records(void) {
     uint64_t kept[BRUNCADORZA_LINE_VALUES];
     uint64_t back[BRUNCADORZA_LINE_VALUES];
 
-    CHECK(bruncadorza_read_line(BYTES("#\r\n#\n" LINE "\tGT\t0|1\r\n#"), 5, read) == BRUNCADORZA_DONE && read[0] == 22);
+    CHECK(READ_LINE(BYTES("#\r\n#\n" LINE "\tGT\t0|1\r\n#"), 5, read) == BRUNCADORZA_DONE && read[0] == 22);
     CHECK(bruncadorza_narrow(read[2], &read[3], kept) == BRUNCADORZA_DONE);
     CHECK(are_form(kept, BRUNCADORZA_ENDING_RETURN_FEED, sampled_numbers, 11));
     CHECK(bruncadorza_widen(kept[1], &kept[2], back) == BRUNCADORZA_DONE && are(back, 21, &read[2]));
-    CHECK(bruncadorza_read_line(BYTES(LINE), 0, read) == BRUNCADORZA_DONE && read[0] == 22);
+    CHECK(READ_LINE(BYTES(LINE), 0, read) == BRUNCADORZA_DONE && read[0] == 22);
     CHECK(bruncadorza_narrow(read[2], &read[3], kept) == BRUNCADORZA_DONE);
     CHECK(are_form(kept, BRUNCADORZA_ENDING_NOTHING, bare_numbers, 11));
     CHECK(bruncadorza_widen(kept[1], &kept[2], back) == BRUNCADORZA_DONE && are(back, 21, &read[2]));
@@ -576,7 +623,7 @@ static void empty_slices(void) {
     CHECK(bruncadorza_find_space(NULL, 0, values) == BRUNCADORZA_DONE && one(values, 0));
     CHECK(bruncadorza_read_decimal(NULL, 0, values) == BRUNCADORZA_BAD_NUMBER && one(values, 0));
     CHECK(bruncadorza_print_decimal(0, NULL, 0, values) == BRUNCADORZA_SHORT && none(values));
-    CHECK(bruncadorza_read_line(NULL, 0, 0, values) == BRUNCADORZA_END && one(values, 0));
+    CHECK(READ_LINE(NULL, 0, 0, values) == BRUNCADORZA_END && one(values, 0));
     CHECK(bruncadorza_field_text(NULL, 0, BRUNCADORZA_CHROM, 0, 0, values) == BRUNCADORZA_DONE && two(values, 0, 0));
     CHECK(bruncadorza_place_in(NULL, 0, 0, 0, values) == BRUNCADORZA_DONE && two(values, 0, 0));
     CHECK(bruncadorza_read_pos(NULL, 0, values) == BRUNCADORZA_BAD_POS && one(values, 0));
@@ -608,6 +655,7 @@ int main(void) {
     leaves();
     lines();
     read_endings();
+    split_lines();
     record_forms();
     kept_records();
     refused_places();

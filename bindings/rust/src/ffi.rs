@@ -11,8 +11,8 @@ compile_error!("the library is for processors with 64-bit little-endian numbers"
 
 use crate::text::Range;
 
-/// How long `values` is: for the line reader and the two forms of its record, and for every other entry.
-const LINE_VALUES: usize = 24;
+/// How long `values` is: for the two line readers and the two forms of their record, and for every other entry.
+pub(crate) const LINE_VALUES: usize = 24;
 const VALUES: usize = 8;
 
 /// How many numbers the two forms of a line's record have beside the ending.
@@ -27,6 +27,7 @@ extern "C" {
     fn bruncadorza_print_decimal(n: u64, out: *mut u8, out_n: usize, values: &mut [u64; VALUES]) -> u64;
 
     fn bruncadorza_read_line(s: *const u8, s_n: usize, at: usize, values: &mut [u64; LINE_VALUES]) -> u64;
+    fn bruncadorza_split_line(s: *const u8, s_n: usize, at: usize, values: &mut [u64; LINE_VALUES]) -> u64;
     fn bruncadorza_field_text(
         s: *const u8, s_n: usize, name: u64, start: usize, len: usize,
         values: &mut [u64; VALUES],
@@ -168,6 +169,10 @@ pub(crate) fn print_decimal(number: u64, out: &mut [u8]) -> Told {
 
 pub(crate) fn read_line(s: &[u8], at: usize) -> Told<LINE_VALUES> {
     Told::by(|values| unsafe { bruncadorza_read_line(s.as_ptr(), s.len(), at, values) })
+}
+
+pub(crate) fn split_line(s: &[u8], at: usize) -> Told<LINE_VALUES> {
+    Told::by(|values| unsafe { bruncadorza_split_line(s.as_ptr(), s.len(), at, values) })
 }
 
 pub(crate) fn field_text(s: &[u8], name: u64, place: Range) -> Told {
@@ -404,4 +409,30 @@ pub(crate) fn join(text: &[u8], ends: &[usize], ending: u64, out: &mut [u8], at:
             values,
         )
     })
+}
+
+#[cfg(test)]
+mod tests {
+    use super::*;
+
+    type Reader = unsafe extern "C" fn(*const u8, usize, usize, &mut [u64; LINE_VALUES]) -> u64;
+
+    /// From each place of a text with every refusal in it both line readers leave the same array, and what was behind the values.
+    #[test]
+    fn both_line_readers_leave_the_same_values() {
+        let text = b"1\t7\t.\tA\tC\t.\t.\tx\n\t\n1\n\xFF\t7\t.\tA\tC\t.\t.\tx\tGT\t0|1\r\n#";
+        let mut seen = [false; 7];
+        for at in 0..=text.len() + 1 {
+            let by = |reader: Reader| {
+                let mut values = [77; LINE_VALUES];
+                let number = unsafe { reader(text.as_ptr(), text.len(), at, &mut values) };
+                (number, values)
+            };
+            let (number, values) = by(bruncadorza_read_line);
+            assert_eq!(by(bruncadorza_split_line), (number, values));
+            assert!(values[size(values[0]) + 1..].iter().all(|&n| n == 77));
+            seen[size(number)] = true;
+        }
+        assert_eq!(seen, [true; 7]);
+    }
 }

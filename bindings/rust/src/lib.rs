@@ -48,4 +48,5 @@ pub mod line;
 pub mod lists;
 pub mod samples;
 pub mod spelling;
+pub mod splitter;
 pub mod text;

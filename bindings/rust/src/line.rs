@@ -1,6 +1,6 @@
 //! Lines, how they ended, and the places of their ten fields.
 
-use crate::ffi::{self, ranges, size, PLACES};
+use crate::ffi::{self, ranges, size, LINE_VALUES, PLACES};
 use crate::fields::{text_in, Text};
 use crate::forms::{narrow, Narrowed, SmallRecord, Wide};
 use crate::text::Range;
@@ -170,9 +170,7 @@ impl Read<'_> {
     }
 }
 
-/// Reads the line at the place `at` of the input.
-pub fn read_line(s: &[u8], at: usize) -> Read<'_> {
-    let told = ffi::read_line(s, at);
+pub(crate) fn read_of(s: &[u8], told: ffi::Told<LINE_VALUES>) -> Read<'_> {
     match (told.number, told.values()) {
         (0, [next, ending @ 0..=2, places @ ..]) if places.len() == PLACES => {
             let record = Record {
@@ -192,4 +190,9 @@ pub fn read_line(s: &[u8], at: usize) -> Read<'_> {
             "0 with the next place, the ending and ten places, or 1 to 6 with the next place",
         ),
     }
+}
+
+/// Reads the line at the place `at` of the input.
+pub fn read_line(s: &[u8], at: usize) -> Read<'_> {
+    read_of(s, ffi::read_line(s, at))
 }

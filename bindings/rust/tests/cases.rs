@@ -3,7 +3,7 @@
 //!
 //! Functions that no verb asks for (the judges of a genotype and of an entry, the iterators) are held to the answers of the verbs
 //! beside them, and so are all steps over a genotype together. The line reader and the joiner are held to each other, and so are the
-//! ways between the two forms of a line's record.
+//! two line readers and the ways between the two forms of a line's record.
 
 use std::collections::BTreeMap;
 use std::fmt::Write as _;
@@ -13,19 +13,21 @@ use std::path::Path;
 
 use bruncadorza::text::Range;
 use bruncadorza::{
-    alleles, decimal, fields, forms, genotype, info, join, line, lists, samples, spelling, text,
+    alleles, decimal, fields, forms, genotype, info, join, line, lists, samples, spelling,
+    splitter, text,
 };
 use forms::{Narrowed, SmallRecord, Wide, Widened};
 use genotype::Allele;
 use line::Ending;
 
 /// Every verb that a case can have.
-const VERBS: [&str; 34] = [
+const VERBS: [&str; 35] = [
     "utf8",
     "space",
     "decimal",
     "print",
     "line",
+    "plain",
     "small",
     "widen",
     "narrow",
@@ -100,6 +102,15 @@ fn a_wrong_answer_is_seen() {
         (
             "line 310931093109310931093109310931 0",
             "0 15 0 1 2 1 4 1 6 1 8 1 10 1 12 1 14 1 15 0 15 0",
+        ),
+        ("plain - 0", "1 1"),
+        (
+            "plain 3109310931093109310931093109310d0a 0",
+            "0 17 lf 0 1 2 1 4 1 6 1 8 1 10 1 12 1 14 1 15 0 15 0",
+        ),
+        (
+            "plain 310931093109310931093109310931 0",
+            "0 15 none 0 1 2 1 4 1 6 1 8 1 10 1 12 1 14 1 15 0 16 0",
         ),
         ("small - 0", "1 1"),
         (
@@ -210,7 +221,7 @@ fn a_line_read_and_joined_is_the_same_bytes() {
                 }
                 let start = other.repeat(before);
                 let source = [&start[..], line, bytes, &other.repeat(behind)].concat();
-                let read = line::read_line(&source, start.len());
+                let read = read_both(&source, start.len());
                 let line::Read::Line(record, next) = read else {
                     panic!("{source:?}: {}", read.number());
                 };
@@ -303,7 +314,7 @@ fn answer(words: &[&str]) -> String {
         ["space", s] => space(&bytes(s)),
         ["decimal", s] => read_decimal(&bytes(s)),
         ["print", room, n] => print(size(room), number(n)),
-        ["line", s, at] => read_line(&bytes(s), size(at)),
+        ["line" | "plain", s, at] => read_line(&bytes(s), size(at)),
         ["small", s, at] => small(&bytes(s), size(at)),
         ["widen", ending, ref numbers @ ..] => widen(ending_of(ending), &sizes(numbers)),
         ["narrow", ending, ref places @ ..] => narrow(ending_of(ending), &sizes(places)),
@@ -484,8 +495,15 @@ fn print(room: usize, n: u64) -> String {
 
 // Lines
 
-fn read_line(s: &[u8], at: usize) -> String {
+/// What both line readers find: the same.
+fn read_both(s: &[u8], at: usize) -> line::Read<'_> {
     let read = line::read_line(s, at);
+    assert_eq!(splitter::split_line(s, at), read);
+    read
+}
+
+fn read_line(s: &[u8], at: usize) -> String {
+    let read = read_both(s, at);
     let mut out = said(read.number(), Some(read.next()));
     if let line::Read::Line(record, next) = read {
         held_by_joiner(record, at, next);
@@ -498,7 +516,7 @@ fn read_line(s: &[u8], at: usize) -> String {
 }
 
 fn small(s: &[u8], at: usize) -> String {
-    let read = line::read_line(s, at);
+    let read = read_both(s, at);
     let out = said(read.number(), Some(read.next()));
     let line::Read::Line(record, _) = read else {
         return out;
@@ -583,7 +601,7 @@ fn held_by_joiner(record: line::Record, at: usize, next: usize) {
 }
 
 fn field(name: &str, s: &[u8], at: usize) -> String {
-    let read = line::read_line(s, at);
+    let read = read_both(s, at);
     let line::Read::Line(record, _) = read else {
         return said(read.number(), None);
     };
@@ -913,7 +931,7 @@ fn join_columns(room: usize, at: usize, ending: Ending, s: &[u8], ends: &[usize]
 
 /// Reads a line that was joined: its columns and its ending are those that were given.
 fn held_by_reader(out: &[u8], at: usize, ending: Ending, s: &[u8], ends: &[usize]) {
-    let line::Read::Line(record, next) = line::read_line(out, at) else {
+    let line::Read::Line(record, next) = read_both(out, at) else {
         panic!("a line that was joined is refused");
     };
     assert_eq!((record.ending(), next), (ending, out.len()));

@@ -504,7 +504,7 @@ pub fn answer(case: &str) -> Answer {
             Some(s) => Ok(s.parse::<usize>().map(|v| format!("0 {v}")).unwrap_or("12".into())),
         },
         "print" => Ok(output(number(1)?, 0, Ok(number(2)?.to_string().into_bytes()))),
-        "line" => line(&bytes(1)?, number(2)?, starts_and_lengths),
+        "line" | "plain" => line(&bytes(1)?, number(2)?, starts_and_lengths),
         "small" => line(&bytes(1)?, number(2)?, start_and_ends),
         "field" => field(word(1)?, &bytes(2)?, number(3)?),
         "pos" => pos(&bytes(1)?),

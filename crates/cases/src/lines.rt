@@ -1,4 +1,4 @@
-// The verbs of the crates line and fields.
+// The verbs of the crates line, splitter and fields.
 use crate::output::Answer;
 use crate::output::Buffer;
 use crate::output::Place;
@@ -31,6 +31,7 @@ use line::place::place_of;
 use line::read::Read;
 use line::read::Record;
 use line::read::read_line;
+use splitter::split::split_line;
 use text::range::Range;
 
 pub fn answer(
@@ -40,7 +41,7 @@ pub fn answer(
     out: &mut Buffer,
     at: Place,
 ) -> Answer {
-    let verb = index_in(b"pos line small field place", 5, word(case, 0));
+    let verb = index_in(b"pos line small plain field place", 6, word(case, 0));
     if arguments != takes(verb) {
         return Answer::NoCase;
     }
@@ -48,8 +49,9 @@ pub fn answer(
         0 => answer_pos(case, text, out, at),
         1 => answer_line(case, verb, text, out, at),
         2 => answer_line(case, verb, text, out, at),
-        3 => answer_field(case, text, out, at),
-        4 => answer_place(case, text, out, at),
+        3 => answer_line(case, verb, text, out, at),
+        4 => answer_field(case, text, out, at),
+        5 => answer_place(case, text, out, at),
         _ => Answer::NoCase,
     }
 }
@@ -60,6 +62,7 @@ fn takes(verb: usize) -> usize {
         0 => 1,
         1 => 2,
         2 => 2,
+        3 => 2,
         _ => 3,
     }
 }
@@ -83,16 +86,17 @@ fn pos(s: &[u8], out: &mut Buffer, at: Place) -> Place {
     }
 }
 
-// `line` and `small`, which are given a text and a place.
+// `line`, `small` and `plain`, which are given a text and a place.
 fn answer_line(case: &[u8], verb: usize, text: &mut Text, out: &mut Buffer, at: Place) -> Answer {
     let Placed::At(end, from) = decode_and_number(case, 1, text) else {
         return Answer::NoCase;
     };
-    let read = read_line(part(text, 0, end), from);
-    if verb == 1 {
-        return Answer::Given(line(read, out, at));
+    let s = part(text, 0, end);
+    match verb {
+        1 => Answer::Given(line(read_line(s, from), out, at)),
+        2 => Answer::Given(small(read_line(s, from), out, at)),
+        _ => Answer::Given(line(split_line(s, from), out, at)),
     }
-    Answer::Given(small(read, out, at))
 }
 
 // A reading, and of a line the place of each field.

@@ -35,6 +35,7 @@ determined =
       read-decimal = λ t l. one-told _ l;
       print-decimal = λ n out l. one-writing _ _ l;
       read-line = λ s at l. one-told _ l;
+      split-line = λ s at l. one-told _ l;
       field-text = λ s name start len l. one-told _ l;
       place-in = λ s start len l. one-told _ l;
       read-pos = λ t l. one-told _ l;

@@ -155,6 +155,7 @@ pub record Determined : Type 0 where
   pub read-decimal : (t l : List ℕ) → OneOutcome (ReadsDecimal t l)
   pub print-decimal : (n : ℕ) (out l : List ℕ) → OneWriting (PrintsDecimal n out l)
   pub read-line : (s : List ℕ) (at : ℕ) (l : List ℕ) → OneOutcome (ReadsLine s at l)
+  pub split-line : (s : List ℕ) (at : ℕ) (l : List ℕ) → OneOutcome (ReadsLine s at l)
   pub field-text : (s : List ℕ) (name start len : ℕ) (l : List ℕ) → OneOutcome (FindsText s name start len l)
   pub place-in : (s : List ℕ) (start len : ℕ) (l : List ℕ) → OneOutcome (FindsPlace s start len l)
   pub read-pos : (t l : List ℕ) → OneOutcome (ReadsPos t l)

@@ -11,6 +11,7 @@ use lib.Dec.{leb, eqb}
 use borrow.Author.Tests.{leb-false, lt-leb, eqb-false, ne-eqb}
 use Rattle.text.specs.Pick.{pick}
 use Rattle.text.specs.Bytes.{isEmpty, endsIn}
+use Rattle.text.specs.Answer.{says}
 use Rattle.text.specs.Utf8.{isUtf8}
 use Rattle.text.proofs.ByteLaws.{empty-some, some-empty, last-back, ends-behind, ends-last, ends-is}
 use Rattle.text.proofs.Demands.{nil-text, parted}
@@ -18,7 +19,7 @@ use Rattle.text.specs.Verdict.{Verdict, fine, refused}
 use Rattle.pieces.specs.Pieces.{split, joined}
 use Rattle.pieces.specs.Demands.{Free}
 use Rattle.pieces.proofs.PieceLaws.{first-free, joined-none, joined-one, joined-more, free-nil, free-cons, free-tail, free-append, free-left, free-right, split-some, split-nil, split-joined, split-whole, split-append, one-text, more-text}
-use Rattle.line.specs.Line.{Ending, nothing, feed, return-feed, endingBytes, line, fed, lineIn, lineOf, required, lastVerdict, verdict, allUtf8}
+use Rattle.line.specs.Line.{Ending, nothing, feed, return-feed, endingBytes, line, fed, lineIn, lineOf, required, lastVerdict, verdict, fieldPlaces, allUtf8, endingNumber, judgedAnswer, lineAnswer}
 use Rattle.line.specs.Demands.{Ended, by-nothing, by-feed, by-return-feed, LineCut, ByColumns}
 
 -- ---- pieces joined
@@ -178,6 +179,44 @@ unfolding allUtf8
 utf8-all [] each = refl
 utf8-all (c ∷ cs) each = rw (each 0 (omega arith)) (utf8-all cs (λ i l. each (suc i) (suc-le-suc l)))
 
+-- ---- the verdict, column by column
+
+pub verdict-last : (k from : ℕ) (c : List ℕ) (e : Ending) (past : ℕ) → verdict k from (c ∷ []) e past ≡ lastVerdict k c e past
+unfolding verdict
+verdict-last k from c e past = refl
+
+-- a column, a tab, and more
+pub verdict-more : (k from : ℕ) (c : List ℕ) (ds : List (List ℕ)) (e : Ending) (past : ℕ) → 0 < length ds
+    → verdict k from (c ∷ ds) e past ≡ pick (isEmpty c) (refused 2 (from + 1)) (verdict (k + 1) (from + length c + 1) ds e past)
+unfolding verdict
+verdict-more k from c [] e past l = absurd (omega arith)
+verdict-more k from c (d ∷ ds) e past l = refl
+
+-- the last column is cut by the end of the input, or ended by an LF
+pub last-cut : (k : ℕ) (c : List ℕ) (past : ℕ) → lastVerdict k c nothing past ≡ pick (required k || isEmpty c) (refused 4 past) fine
+unfolding lastVerdict
+last-cut k c past = refl
+
+pub last-fed : (k : ℕ) (c : List ℕ) (e : Ending) (past : ℕ) → (e ≡ nothing → ⊥)
+    → lastVerdict k c e past ≡ pick (required k) (refused 3 past) (pick (isEmpty c) (refused 2 past) fine)
+unfolding lastVerdict
+last-fed k c nothing past n = absurd (n refl)
+last-fed k c feed past n = refl
+last-fed k c return-feed past n = refl
+
+-- ---- the answer, by the verdict
+
+module _ (at : ℕ) (t : List ℕ) (e : Ending) (rest : List ℕ) where
+  pub line-refused : {n next : ℕ} → verdict 1 at (split 9 t) e (at + length t + length (endingBytes e)) ≡ refused n next → lineAnswer at (line t e rest) ≡ says n (next ∷ [])
+  unfolding lineAnswer judgedAnswer
+  line-refused h = rw h
+
+  pub line-fine : verdict 1 at (split 9 t) e (at + length t + length (endingBytes e)) ≡ fine
+      → lineAnswer at (line t e rest)
+      ≡ pick (isUtf8 t) (says 0 ((at + length t + length (endingBytes e)) ∷ endingNumber e ∷ fieldPlaces at (split 9 t) (at + length t))) (says 5 ((at + length t + length (endingBytes e)) ∷ []))
+  unfolding lineAnswer judgedAnswer ByColumns
+  line-fine h = rw (h, by-columns t)
+
 -- ---- columns in order
 
 -- the verdict is fine past a test that would have refused
@@ -195,7 +234,7 @@ last-fine k c nothing past h = or-none (required k) (isEmpty c) (past-test _ _ _
 last-fine k c feed past h = let p = past-test (required k) _ _ h in (p .0, past-test (isEmpty c) _ _ (p .1) .0)
 last-fine k c return-feed past h = let p = past-test (required k) _ _ h in (p .0, past-test (isEmpty c) _ _ (p .1) .0)
 
-fine-last : (k : ℕ) (c : List ℕ) (e : Ending) (past : ℕ) → required k ≡ false → isEmpty c ≡ false → lastVerdict k c e past ≡ fine
+pub fine-last : (k : ℕ) (c : List ℕ) (e : Ending) (past : ℕ) → required k ≡ false → isEmpty c ≡ false → lastVerdict k c e past ≡ fine
 unfolding lastVerdict
 fine-last k c nothing past r m = rw (r, m)
 fine-last k c feed past r m = rw (r, m)

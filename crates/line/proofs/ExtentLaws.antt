@@ -12,8 +12,8 @@ use Rattle.pieces.specs.Inner.{Quiet, quietLength}
 use Rattle.pieces.proofs.EitherLaws.{either-quiet, either-second}
 use Rattle.line.specs.Line.{feed, return-feed, endingBytes, endingNumber, fed, lineOf, extentAnswer, lineAtAnswer}
 use Rattle.line.specs.Paper.{endingOf, linedPaper}
-use Rattle.line.specs.Promises.{NamesEnding}
-use Rattle.line.specs.Demands.{FirstFeed}
+use Rattle.line.specs.Promises.{NamesEnding, FindsLine}
+use Rattle.line.specs.Demands.{FirstFeed, NoFeed}
 use Rattle.line.specs.Inner.{TextEnd, input, none, bare, return}
 use Rattle.line.specs.declared.ending.Ending.{Ending}
 use Rattle.line.specs.declared.ending.Ending.the-variants as E
@@ -32,6 +32,40 @@ module _ (s : List ℕ) (at : ℕ) where
   pub at-inside : at ≤ length s → lineAtAnswer s at ≡ extentAnswer at (lineOf (drop at s))
   unfolding lineAtAnswer
   at-inside h = rw (le-leb _ _ h)
+
+-- ---- the line, by where its first LF stands
+
+-- with none it goes to the end of the input
+pub found-unfed : (s : List ℕ) (at : ℕ) → at ≤ length s → NoFeed s at → FindsLine s at (L.At (length s) E.Nothing (length s))
+unfolding NoFeed linedPaper extentAnswer endingNumber endingBytes
+found-unfed s at h f =
+    let l : at + length (drop at s) ≡ length s = omega (arith, length-drop at s) in
+    let m : length s + 0 ≡ length s = omega arith in
+    sym (at-inside s at h ∙ rw (line-end (drop at s) (rest-free s 10 at h f), l, m))
+
+module _ (s : List ℕ) (at stop : ℕ) (g : FirstFeed s at stop) where
+  text : List ℕ
+  text = column s at stop g
+
+  reached : at ≤ length s
+  reached = let a = g .after in let w = g .within in omega arith
+
+  found-closed : {x end : ℕ} → Closes s at stop g x → x ≡ end → (r : Ending) → NamesEnding (stop + 1 - end) r → linedPaper (L.At end r (stop + 1)) ≡ lineAtAnswer s at
+  unfolding linedPaper extentAnswer endingBytes fed text
+  found-closed {end = end} (plain c) q r b =
+      let l : at + length text ≡ end = omega (arith, column-length s at stop g, g .after) in
+      let m : end + 1 ≡ stop + 1 = omega arith in
+      let k : stop + 1 - end ≡ 1 = omega arith in
+      sym (at-inside s at reached ∙ rw (line-here s at stop g, c, l, b, ending-sized feed k, m))
+  found-closed {end = end} (returned a c) q r b =
+      let l : at + length (dropLast text) ≡ end = omega (arith, length-last text, column-length s at stop g) in
+      let m : end + 2 ≡ stop + 1 = omega arith in
+      let k : stop + 1 - end ≡ 2 = omega arith in
+      sym (at-inside s at reached ∙ rw (line-here s at stop g, c, l, b, ending-sized return-feed k, m))
+
+  -- with one it goes there, and the byte before it tells the ending
+  pub found-fed : {end : ℕ} → TextEnd s at stop end → (r : Ending) → NamesEnding (stop + 1 - end) r → FindsLine s at (L.At end r (stop + 1))
+  found-fed z = found-closed (closes s at stop g z) refl
 
 -- ---- each way through the code
 
@@ -70,33 +104,13 @@ module _ (s : List ℕ) (at : ℕ) {stop : ℕ} (h : at ≤ length s) (first : s
         by (return a b c) = omega arith
 
     pub finds-nothing : stop ≡ length s → linedPaper (L.At end E.Nothing stop) ≡ lineAtAnswer s at
-    unfolding linedPaper extentAnswer endingNumber endingBytes
+    unfolding NoFeed
     finds-nothing q =
-        let f = rest-free s 10 at h (rw q at (quiet .no-first)) in
-        let l : at + length (drop at s) ≡ length s = omega (arith, length-drop at s) in
-        let m : length s + 0 ≡ length s = omega arith in
         let y : end ≡ length s = input-end s (rw q at z) in
-        sym (at-inside s at h ∙ rw (line-end (drop at s) f, l, m, q, y))
+        rw (q, y) (found-unfed s at h (rw q at (quiet .no-first)))
 
-    module _ (n : stop ≡ length s → ⊥) where
-      text : List ℕ
-      text = column s at stop (stop-feed n)
-
-      finds-closed : {x : ℕ} → Closes s at stop (stop-feed n) x → x ≡ end → (r : Ending) → NamesEnding (stop + 1 - end) r → linedPaper (L.At end r (stop + 1)) ≡ lineAtAnswer s at
-      unfolding linedPaper extentAnswer endingBytes fed text
-      finds-closed (plain c) q r b =
-          let l : at + length text ≡ end = omega (arith, column-length s at stop (stop-feed n), stop-after) in
-          let m : end + 1 ≡ stop + 1 = omega arith in
-          let k : stop + 1 - end ≡ 1 = omega arith in
-          sym (at-inside s at h ∙ rw (line-here s at stop (stop-feed n), c, l, b, ending-sized feed k, m))
-      finds-closed (returned a c) q r b =
-          let l : at + length (dropLast text) ≡ end = omega (arith, length-last text, column-length s at stop (stop-feed n)) in
-          let m : end + 2 ≡ stop + 1 = omega arith in
-          let k : stop + 1 - end ≡ 2 = omega arith in
-          sym (at-inside s at h ∙ rw (line-here s at stop (stop-feed n), c, l, b, ending-sized return-feed k, m))
-
-      pub finds-fed : (r : Ending) → NamesEnding (stop + 1 - end) r → linedPaper (L.At end r (stop + 1)) ≡ lineAtAnswer s at
-      finds-fed = finds-closed (closes s at stop (stop-feed n) z) refl
+    pub finds-fed : (stop ≡ length s → ⊥) → (r : Ending) → NamesEnding (stop + 1 - end) r → linedPaper (L.At end r (stop + 1)) ≡ lineAtAnswer s at
+    finds-fed n = found-fed s at stop (stop-feed n) z
 
 -- ---- how many bytes an ending has
 

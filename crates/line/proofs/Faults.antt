@@ -18,7 +18,7 @@ use Rattle.pieces.proofs.NumberLaws.{start-first, start-later}
 use Rattle.line.specs.Line.{Ending, nothing, feed, return-feed, endingBytes, Line, line, lineOf, required, lastVerdict, verdict, fieldPlaces, allUtf8, judgedAnswer, lineAnswer, readAnswer}
 use Rattle.line.specs.Demands.{MayEnd, Column, Ended, by-nothing, by-feed, by-return-feed, Shaped, Begins, Refuses, Bad, empty-tabbed, empty-fed, empty-returned, early-fed, early-cut, empty-cut, Behind, Faulty, bad-column, not-text, Faults}
 use Rattle.line.proofs.LineLaws.{read-line, BeforeFeed, plain, returned, before-feed}
-use Rattle.line.proofs.ColumnLaws.{free-each, line-whole, line-tab, line-feed, line-end, fed-plain, fed-return, InOrder, order-one, order-more, count-required, required-count}
+use Rattle.line.proofs.ColumnLaws.{free-each, verdict-last, verdict-more, line-refused, line-whole, line-tab, line-feed, line-end, fed-plain, fed-return, InOrder, order-one, order-more, count-required, required-count}
 use Rattle.line.proofs.ShapeLaws.{shaped-line, shaped-split, shaped-fine, shaped-answer, cut-shaped, begins-answer}
 use Rattle.line.proofs.TenPlaces.{places-lie}
 
@@ -29,22 +29,16 @@ verdictOf k from (line t e rest) = verdict k from (split 9 t) e (from + length t
 
 -- a refused verdict is the answer
 verdict-answer : (from : ℕ) (l : Line) {n next : ℕ} → verdictOf 1 from l ≡ refused n next → lineAnswer from l ≡ says n (next ∷ [])
-unfolding verdictOf lineAnswer judgedAnswer
-verdict-answer from (line t e rest) h = rw h
+unfolding verdictOf
+verdict-answer from (line t e rest) h = line-refused from t e rest h
 
 -- one column
 verdict-one : (k from : ℕ) (t : List ℕ) (e : Ending) (rest : List ℕ) → Free 9 t
     → verdictOf k from (line t e rest) ≡ lastVerdict k t e (from + length t + length (endingBytes e))
-unfolding verdictOf verdict
-verdict-one k from t e rest f = rw (split-whole t f)
+unfolding verdictOf
+verdict-one k from t e rest f = rw (split-whole t f) (verdict-last k from t e _)
 
 -- a column, a tab, and more
-verdict-more : (k from : ℕ) (c : List ℕ) (ds : List (List ℕ)) (e : Ending) (past : ℕ) → 0 < length ds
-    → verdict k from (c ∷ ds) e past ≡ pick (isEmpty c) (refused 2 (from + 1)) (verdict (k + 1) (from + length c + 1) ds e past)
-unfolding verdict
-verdict-more k from c [] e past l = absurd (omega arith)
-verdict-more k from c (d ∷ ds) e past l = refl
-
 verdict-tab : (k from : ℕ) (c u : List ℕ) → Free 9 c → Free 10 c
     → verdictOf k from (lineOf (c ++ 9 ∷ u)) ≡ pick (isEmpty c) (refused 2 (from + 1)) (verdictOf (k + 1) (from + length c + 1) (lineOf u))
 unfolding verdictOf

@@ -46,7 +46,7 @@ pub search-first : {s : List ℕ} {from : ℕ} → from ≤ length s → Clear s
 search-first h = record { after = omega arith; within = h; no-first = λ k p q e. omega arith; no-second = λ k p q e. omega arith }
 
 -- what holds of no byte before i, and not of that at i, holds of none before i + 1
-none-more : (s : List ℕ) (b : ℕ) {from i : ℕ} → ((k : ℕ) → from ≤ k → k < i → getD s k 0 ≡ b → ⊥) → (getD s i 0 ≡ b → ⊥)
+pub none-more : (s : List ℕ) (b : ℕ) {from i : ℕ} → ((k : ℕ) → from ≤ k → k < i → getD s k 0 ≡ b → ⊥) → (getD s i 0 ≡ b → ⊥)
     → (k : ℕ) → from ≤ k → k < i + 1 → getD s k 0 ≡ b → ⊥
 none-more s b {from} {i} f n k p q e =
     elim (decLt k i) [ yes l ↦ f k p l e | no l ↦ let z : k ≡ i = omega arith in n (rw z at e) ]

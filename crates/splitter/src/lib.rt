@@ -1,0 +1,2 @@
+// A line, split in three plain steps.
+pub mod split;
