@@ -13,7 +13,7 @@ use Rattle.pieces.proofs.EitherLaws.{either-quiet, either-second}
 use Rattle.line.specs.Line.{feed, return-feed, endingBytes, endingNumber, fed, lineOf, extentAnswer, lineAtAnswer}
 use Rattle.line.specs.Paper.{endingOf, linedPaper}
 use Rattle.line.specs.Promises.{NamesEnding, FindsLine}
-use Rattle.line.specs.Demands.{FirstFeed, NoFeed}
+use Rattle.line.specs.Demands.{FirstFeed}
 use Rattle.line.specs.Inner.{TextEnd, input, none, bare, return}
 use Rattle.line.specs.declared.ending.Ending.{Ending}
 use Rattle.line.specs.declared.ending.Ending.the-variants as E
@@ -36,8 +36,9 @@ module _ (s : List ℕ) (at : ℕ) where
 -- ---- the line, by where its first LF stands
 
 -- with none it goes to the end of the input
-pub found-unfed : (s : List ℕ) (at : ℕ) → at ≤ length s → NoFeed s at → FindsLine s at (L.At (length s) E.Nothing (length s))
-unfolding NoFeed linedPaper extentAnswer endingNumber endingBytes
+pub found-unfed : (s : List ℕ) (at : ℕ) → at ≤ length s → ((k : ℕ) → at ≤ k → k < length s → getD s k 0 ≡ 10 → ⊥)
+    → FindsLine s at (L.At (length s) E.Nothing (length s))
+unfolding linedPaper extentAnswer endingNumber endingBytes
 found-unfed s at h f =
     let l : at + length (drop at s) ≡ length s = omega (arith, length-drop at s) in
     let m : length s + 0 ≡ length s = omega arith in
@@ -104,7 +105,6 @@ module _ (s : List ℕ) (at : ℕ) {stop : ℕ} (h : at ≤ length s) (first : s
         by (return a b c) = omega arith
 
     pub finds-nothing : stop ≡ length s → linedPaper (L.At end E.Nothing stop) ≡ lineAtAnswer s at
-    unfolding NoFeed
     finds-nothing q =
         let y : end ≡ length s = input-end s (rw q at z) in
         rw (q, y) (found-unfed s at h (rw q at (quiet .no-first)))

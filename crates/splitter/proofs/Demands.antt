@@ -1,8 +1,7 @@
 -- Two that meet one contract are one, since it determines the answer; on paper they are the line reader's definition. Assumes nothing.
 use Prim.Native.Nat.{ℕ}
 use mathlib.Core.Path.{_≡_, sym, ap, _∙_, subst, fun-ext}
-use mathlib.Core.List.{List}
-use Rattle.text.specs.Answer.{Answer, numberOf}
+use Rattle.text.specs.Answer.{numberOf}
 use Rattle.line.specs.Line.{readAnswer}
 use Rattle.line.specs.Place.{rangeOf}
 use Rattle.line.specs.Paper.{readPaper}
@@ -12,7 +11,7 @@ use Rattle.line.specs.declared.read.Read.{Read}
 use Rattle.line.specs.declared.read.Read.the-variants as R
 use Rattle.line.proofs.Meets.{meets, one-reader}
 use Rattle.line.proofs.Determined.{read-paper-injective}
-use Rattle.splitter.specs.Demands.{Splitter, nextOf, SameLine, Alike, OneSplitter, onPaper, MeetsThem, OneByThem}
+use Rattle.splitter.specs.Demands.{nextOf, SameLine, Alike, OneSplitter, onPaper, MeetsThem, OneByThem}
 use Rattle.splitter.proofs.Determined.{determined}
 
 -- one answer is like itself

@@ -1,12 +1,12 @@
 -- The end of a line: no LF stands before the place that is looked at. Assumes nothing.
 use Prim.Native.Nat.{ℕ, _+_, _-_, _≤_, _<_}
-use mathlib.Core.Path.{_≡_, refl, sym}
+use mathlib.Core.Path.{_≡_}
 use mathlib.Core.List.{List}
 use native.Mathlib.Omega.{arith}
 use lib.ListN.{length, getD}
-use Rattle.line.specs.Demands.{FirstFeed, NoFeed}
+use Rattle.line.specs.Demands.{FirstFeed}
 use Rattle.line.specs.Promises.{FindsLine}
-use Rattle.line.specs.Inner.{TextEnd, none, bare, return}
+use Rattle.line.specs.Inner.{none, bare, return}
 use Rattle.line.specs.declared.ending.Ending.the-variants as E
 use Rattle.line.specs.declared.extent.Lined.the-variants as L
 use Rattle.line.proofs.LineLaws.{named-feed, named-return-feed}
@@ -31,7 +31,6 @@ module _ {s : List ℕ} {at i : ℕ} (g : Unfed s at i) where
 
   -- no LF was found
   pub ends-nothing : i ≡ length s → FindsLine s at (L.At i E.Nothing i)
-  unfolding NoFeed
   ends-nothing e = rw e (found-unfed s at (let a = g .after in omega arith) (rw e at (g .none)))
 
   -- one was found

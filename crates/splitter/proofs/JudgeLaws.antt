@@ -4,10 +4,10 @@ use mathlib.Core.Path.{_≡_, refl, sym, ap, _∙_}
 use mathlib.Core.Bool.{Bool, true, false, _||_, or-true}
 use mathlib.Core.List.{List, [], _∷_, _++_}
 use native.Mathlib.Omega.{arith}
-use lib.ListN.{length, getD, take, drop, length-append, length-drop}
+use lib.ListN.{length, getD, take, drop}
 use lib.Seq.{take-at}
 use Rattle.text.specs.Pick.{pick}
-use Rattle.text.specs.Answer.{Answer, says}
+use Rattle.text.specs.Answer.{says}
 use Rattle.text.specs.Bytes.{isEmpty}
 use Rattle.text.specs.Verdict.{fine, refused}
 use Rattle.text.specs.Utf8.{isUtf8, utf8Answer}
@@ -19,8 +19,8 @@ use Rattle.text.proofs.Lists.{drop-take}
 use Rattle.text.proofs.ByteLaws.{none-empty, some-empty}
 use Rattle.pieces.specs.Pieces.{split, joined}
 use Rattle.pieces.proofs.PieceLaws.{split-some, split-joined}
-use Rattle.line.specs.Line.{Ending, nothing, feed, return-feed, endingBytes, endingNumber, line, lineOf, required, lastVerdict, verdict, fieldPlaces, lineAnswer, readAnswer}
-use Rattle.line.specs.Paper.{endingOf, readPaper}
+use Rattle.line.specs.Line.{nothing, feed, return-feed, endingBytes, endingNumber, required, lastVerdict, verdict, fieldPlaces, lineAnswer, readAnswer}
+use Rattle.line.specs.Paper.{endingOf}
 use Rattle.line.specs.Demands.{MayEnd}
 use Rattle.line.specs.Promises.{ReadsLine, KeepsNumbers}
 use Rattle.line.specs.declared.ending.Ending.{Ending as DeclaredEnding}
@@ -33,10 +33,10 @@ use Rattle.line.proofs.ColumnLaws.{line-whole, line-refused, line-fine, last-cu
 use Rattle.line.proofs.AnswerLaws.{keeps-line, keeps-empty, keeps-fed, keeps-cut, keeps-broken}
 use Rattle.line.proofs.CaseLaws.{read-record, read-empty, read-fed, read-cut, read-broken, record-values}
 use Rattle.line.proofs.Extents.{Found, found}
-use Rattle.splitter.specs.Inner.{tabsFrom, firstGap, lastStart, Keeps, Seen, HasEnds}
+use Rattle.splitter.specs.Inner.{Keeps, Seen, HasEnds}
 use Rattle.splitter.specs.declared.split.Tabs.{Tabs}
 use Rattle.splitter.proofs.TabLaws.{Nine}
-use Rattle.splitter.proofs.ColumnLaws.{tabs-few, tabsOf, tabs-columns, tabs-count, LastOf, gap-refused, last-decides}
+use Rattle.splitter.proofs.ColumnLaws.{tabs-few, tabsOf, tabs-columns, LastOf, gap-refused, last-decides}
 use Rattle.splitter.proofs.PlaceLaws.{places-are, numbers-kept}
 
 -- ---- an ending of a declared line
@@ -88,7 +88,7 @@ module _ {s : List ℕ} {at end : ℕ} {ending : DeclaredEnding} {next : ℕ} {r
 
   -- ---- a refusal
 
-  pub past : ℕ
+  past : ℕ
   past = at + length text + length (endingBytes (endingOf ending))
 
   past-is : past ≡ next

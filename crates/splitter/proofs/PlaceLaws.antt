@@ -6,8 +6,8 @@ use mathlib.Core.List.{List, [], _∷_, _++_}
 use native.Mathlib.Omega.{arith}
 use native.Mathlib.Decide.{decLt}
 use lib.ListN.{length, getD, take, drop, length-append, List·getD-append, List·getD-eq-default}
-use lib.Seq.{ext-getD, getD-take, getD-at, getD-append-seam, length-take-le, take-all}
-use Rattle.text.specs.Range.{rangeAt, rangePlaces}
+use lib.Seq.{ext-getD, getD-take, getD-at, length-take-le}
+use Rattle.text.specs.Range.{rangePlaces}
 use Rattle.pieces.specs.Pieces.{joined}
 use Rattle.pieces.proofs.PieceLaws.{joined-one}
 use Rattle.line.specs.Line.{leadingPlaces, fieldPlaces, numbersOf}

@@ -1,18 +1,17 @@
 -- The three steps, one after the other: what each found is what the next is given. Assumes nothing.
-use Prim.Native.Nat.{ℕ, _≤_, _<_}
-use mathlib.Core.Path.{_≡_, refl, sym, ap}
+use Prim.Native.Nat.{ℕ, _≤_}
+use mathlib.Core.Path.{_≡_, sym}
 use mathlib.Core.List.{List}
 use native.Mathlib.Omega.{arith}
 use lib.ListN.{length, take, drop}
 use lib.Seq.{length-take-le}
-use Rattle.line.specs.Paper.{endingOf}
 use Rattle.line.specs.Promises.{FindsLine, ReadsLine}
 use Rattle.line.specs.declared.ending.Ending.{Ending}
 use Rattle.line.specs.declared.extent.Lined.{Lined}
 use Rattle.line.specs.declared.extent.Lined.the-variants as L
 use Rattle.line.specs.declared.read.Read.the-variants as R
 use Rattle.line.proofs.AnswerLaws.{reads-beyond, reads-end, keeps-end, keeps-beyond}
-use Rattle.line.proofs.Extents.{Found, found, beyond}
+use Rattle.line.proofs.Extents.{found, beyond}
 use Rattle.splitter.specs.Inner.{tabsFrom, Keeps, Seen}
 use Rattle.splitter.specs.declared.split.Tabs.{Tabs}
 

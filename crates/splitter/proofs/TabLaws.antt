@@ -12,7 +12,6 @@ use borrow.Author.Tests.{eq-eqb, ne-eqb}
 use Rattle.text.specs.Pick.{pick}
 use Rattle.text.proofs.Lists.{here}
 use Rattle.splitter.specs.Inner.{tabsFrom, firstGap, lastStart, Keeps}
-use Rattle.splitter.specs.declared.split.Tabs.{Tabs}
 
 -- ---- the next byte
 
