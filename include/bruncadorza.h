@@ -126,8 +126,8 @@ uint64_t bruncadorza_print_decimal(uint64_t n, uint8_t *out, size_t out_n,
 uint64_t bruncadorza_read_line(const uint8_t *s, size_t s_n, size_t at,
                                uint64_t values[BRUNCADORZA_LINE_VALUES]);
 
-/* Answers as bruncadorza_read_line does, whatever it is given, in three plain steps. It is slower, and after a refusal 2 it goes
-   over the rest of the line again. */
+/* Answers as bruncadorza_read_line does, whatever it is given, in three plain steps. It is slower, and goes to the end of the line
+   also where an early column is refused. */
 uint64_t bruncadorza_split_line(const uint8_t *s, size_t s_n, size_t at,
                                 uint64_t values[BRUNCADORZA_LINE_VALUES]);
 

@@ -94,8 +94,8 @@ pub extern "C" fn bruncadorza_read_line(s: &[u8], at: usize, values: &mut [u64; 
     tell_read(read_line(s, at), values)
 }
 
-// Answers as `bruncadorza_read_line` does, whatever it is given, in three plain steps. It is slower, and after a refusal 2 it goes
-// over the rest of the line again.
+// Answers as `bruncadorza_read_line` does, whatever it is given, in three plain steps. It is slower, and goes to the end of the line
+// also where an early column is refused.
 #[no_mangle]
 pub extern "C" fn bruncadorza_split_line(
     s: &[u8],
