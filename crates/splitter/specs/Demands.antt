@@ -12,7 +12,7 @@ use Rattle.line.specs.declared.read.Read.{Read}
 use Rattle.line.specs.declared.read.Read.the-variants as R
 use Rattle.line.specs.declared.place.Name.{Name}
 
--- a function that is given an input and a place, and answers as the line reader does
+-- a function of an input and a place whose answers are of the line reader's type
 abbrev pub Splitter : Type 0
 Splitter = List ℕ → ℕ → Read
 
