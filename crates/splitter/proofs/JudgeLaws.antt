@@ -35,7 +35,6 @@ use Rattle.line.proofs.CaseLaws.{read-record, read-empty, read-fed, read-cut, r
 use Rattle.line.proofs.Extents.{Found, found}
 use Rattle.splitter.specs.Inner.{Keeps, Seen, HasEnds}
 use Rattle.splitter.specs.declared.split.Tabs.{Tabs}
-use Rattle.splitter.proofs.TabLaws.{Nine}
 use Rattle.splitter.proofs.ColumnLaws.{tabs-few, tabsOf, tabs-columns, LastOf, gap-refused, last-decides}
 use Rattle.splitter.proofs.PlaceLaws.{places-are, numbers-kept}
 
@@ -185,16 +184,13 @@ module _ {s : List ℕ} {at end : ℕ} {ending : DeclaredEnding} {next : ℕ} {r
         unfolding columns
         full = fine-order 1 at columns (endingOf ending) past (split-some 9 text) order .full
 
-        nine : Nine (tabsOf at columns) end (r .ends)
-        nine = record { size = tabs .nine; each = tabs .ends }
-
         pub judge-kept : KeepsNumbers (R.Line y next)
-        judge-kept = keeps-line y next (numbers-kept at end columns columns-end nine y (f .numbers) many full)
+        judge-kept = keeps-line y next (numbers-kept at end columns columns-end (tabs .ends) y (f .numbers) many full)
 
         pub judge-line : {x : Utf8} → utf8Paper x ≡ utf8Answer (take (end - at) (drop at s)) → x ≡ U.Text → ReadsLine s at (R.Line y next)
         unfolding text
         judge-line u e =
-            let p = places-are at end columns columns-end nine y (f .numbers) many in
+            let p = places-are at end columns columns-end (tabs .ends) y (f .numbers) many in
             let z : at + length text ≡ end = sym (here .ends) in
             read-record refl
             ∙ rw (record-values y, ending-numbered (f .ended), p)

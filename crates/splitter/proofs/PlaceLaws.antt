@@ -20,9 +20,8 @@ use Rattle.line.specs.declared.read.Record.{Record}
 use Rattle.line.proofs.NumberLaws.{eleven, recordEnds, record-numbers}
 use Rattle.line.proofs.SpanLaws.{span-real, passed-none, passed-one, spans, full-spans, bare-spans, rising, rising-numbers}
 use Rattle.line.proofs.TenPlaces.{leading-none, leading-rest, leading-more, eight-fields, ten-fields, places-lie}
-use Rattle.splitter.specs.Inner.{HasEnds}
+use Rattle.splitter.specs.Inner.{Nine, HasEnds}
 use Rattle.splitter.specs.declared.split.Tabs.{Tabs}
-use Rattle.splitter.proofs.TabLaws.{Nine}
 use Rattle.splitter.proofs.ColumnLaws.{tabsOf, tabs-count, behind, tabs-within, tabs-rise}
 
 -- ---- the leading places, by the tabs

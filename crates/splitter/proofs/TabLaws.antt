@@ -11,7 +11,7 @@ use lib.Dec.{eqb}
 use borrow.Author.Tests.{eq-eqb, ne-eqb}
 use Rattle.text.specs.Pick.{pick}
 use Rattle.text.proofs.Lists.{here}
-use Rattle.splitter.specs.Inner.{tabsFrom, firstGap, lastStart, Keeps}
+use Rattle.splitter.specs.Inner.{tabsFrom, firstGap, lastStart, Nine, Keeps}
 
 -- ---- the next byte
 
@@ -62,10 +62,7 @@ unfolding lastStart
 last-more from [] tab = refl
 last-more from (x ∷ seen) tab = last-more (x + 1) seen tab
 
--- the first nine, and the end of the text for those that are not there
-pub record Nine (tabs : List ℕ) (end : ℕ) (ends : List ℕ) : Type 0 where
-  pub size : length ends ≡ 9
-  pub each : (j : ℕ) → j < 9 → getD ends j 0 ≡ getD tabs j end
+-- ---- the first nine
 
 nine-first : (end : ℕ) → Nine [] end (replicate 9 end)
 nine-first end = record { size = refl; each = by 9 }
@@ -132,7 +129,7 @@ module _ {t : List ℕ} {at end i count : ℕ} {ends : List ℕ} {gap start : �
       let e = g .ended in
       let q : tabsFrom at (drop at t) ≡ g .seen = g .whole ∙ ap (λ (l : List ℕ). g .seen ++ tabsFrom i l) (drop-of-length-le t {i = i} (omega arith)) ∙ append-nil (g .seen) in
       rw (q, ← e)
-      (record { count = g .counted; nine = g .nine .size; ends = g .nine .each; gap = g .gap-is; last = g .last })
+      (record { count = g .counted; ends = g .nine; gap = g .gap-is; last = g .last })
 
   module _ (h : i < end) where
     pub looked-beside : (getD t i 0 ≡ 9 → ⊥) → Looked t at end (i + 1) count ends gap start

@@ -29,11 +29,15 @@ unfoldable pub lastStart : ℕ → List ℕ → ℕ
 lastStart from [] = from
 lastStart from (tab ∷ tabs) = lastStart (tab + 1) tabs
 
+-- where the first nine stand; the end of the text for each that is not there
+pub record Nine (tabs : List ℕ) (end : ℕ) (ends : List ℕ) : Type 0 where
+  pub size : length ends ≡ 9
+  pub each : (i : ℕ) → i < 9 → getD ends i 0 ≡ getD tabs i end
+
 -- what is kept of them all, of a line that starts at the place `at` and whose text ends at `end`
 pub record Keeps (tabs : List ℕ) (at end : ℕ) (r : Tabs) : Type 0 where
   pub count : r .count ≡ length tabs
-  pub nine : length (r .ends) ≡ 9
-  pub ends : (i : ℕ) → i < 9 → getD (r .ends) i 0 ≡ getD tabs i end
+  pub ends : Nine tabs end (r .ends)
   pub gap : r .gap ≡ firstGap end at tabs
   pub last : r .last ≡ lastStart at tabs
 
@@ -47,6 +51,7 @@ pub record Seen (s : List ℕ) (at end : ℕ) (ending : Ending) (next : ℕ) (r 
 
 -- ---- the record
 
+-- the line's ending, its start, where its first nine fields end by the tabs, and where its text ends
 pub record HasEnds (at end : ℕ) (ending : Ending) (tabs : Tabs) (r : Record) : Type 0 where
   pub ended : r .ending ≡ ending
   pub numbers : recordNumbers r ≡ at ∷ tabs .ends ++ end ∷ []
