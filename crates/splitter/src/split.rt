@@ -27,14 +27,14 @@ fn find_end(s: &[u8], at: usize) -> Lined
         return Lined::Beyond;
     }
     let mut feed = at;
-    while feed < s.len() && s[feed] != 10 {
+    while feed < s.len() && s[feed] != b'\n' {
         feed += 1;
     }
     if feed == s.len() {
         return Lined::At(feed, Ending::Nothing, feed);
     }
     let next = feed + 1;
-    if feed > at && s[feed - 1] == 13 {
+    if feed > at && s[feed - 1] == b'\r' {
         return Lined::At(feed - 1, Ending::ReturnFeed, next);
     }
     Lined::At(feed, Ending::Feed, next)
@@ -64,7 +64,7 @@ fn find_tabs(t: &[u8], at: usize) -> Tabs
     let mut start = at;
     let mut i = at;
     while i < end {
-        if t[i] == 9 {
+        if t[i] == b'\t' {
             if count < 9 {
                 ends[count] = i;
             }
@@ -90,11 +90,11 @@ fn judge(s: &[u8], at: usize, end: usize, ending: Ending, next: usize, tabs: Tab
     ensures { λ r. ⌜ ReadsLine (now (s .entry)) at r ⌝ }
     ensures { λ r. ⌜ KeepsNumbers r ⌝ }
 {
-    // A column that a tab ends is empty: 2.
+    // 2: a column that a tab ends is empty.
     if tabs.gap < end {
         return Read::Empty(tabs.gap + 1);
     }
-    // The last column, whose number is one more than there are tabs, needs a tab behind it: 4 or 3.
+    // 4 or 3: the last column, whose number is one more than there are tabs, is one that needs a tab behind it.
     if needs_tab(tabs.count + 1) {
         return match ending {
             Ending::Nothing => Read::Cut(next),
@@ -102,7 +102,7 @@ fn judge(s: &[u8], at: usize, end: usize, ending: Ending, next: usize, tabs: Tab
             Ending::ReturnFeed => Read::Fed(next),
         };
     }
-    // It is empty: 4 or 2.
+    // 4 or 2: it is empty.
     if tabs.last == end {
         return match ending {
             Ending::Nothing => Read::Cut(next),
@@ -110,7 +110,7 @@ fn judge(s: &[u8], at: usize, end: usize, ending: Ending, next: usize, tabs: Tab
             Ending::ReturnFeed => Read::Empty(next),
         };
     }
-    // All columns are in order, and all that is left to judge is UTF-8: 0 or 5.
+    // 0 or 5: all columns are in order, and only UTF-8 is left to judge.
     match check_utf8(&s[at..end]) {
         Utf8::Text => Read::Line(record_of(at, end, ending, tabs), next),
         Utf8::Broken => Read::NotUtf8(next),
