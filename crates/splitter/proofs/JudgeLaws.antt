@@ -38,7 +38,7 @@ use Rattle.splitter.specs.declared.split.Tabs.{Tabs}
 use Rattle.splitter.proofs.ColumnLaws.{tabs-few, tabsOf, tabs-columns, LastOf, gap-refused, last-decides}
 use Rattle.splitter.proofs.PlaceLaws.{places-are, numbers-kept}
 
--- ---- an ending of a declared line
+-- ---- an ending with an LF is not nothing
 
 fed-some : {x : DeclaredEnding} → x ≡ E.Feed → endingOf x ≡ nothing → ⊥
 fed-some e h = let f : feed ≡ nothing = sym (ap endingOf e) ∙ h in let z : _≡_ {A = ℕ} 0 1 = cc in omega arith
