@@ -34,15 +34,6 @@ tabs-mark from (b ∷ c) t f =
     let z : from + 1 + length c ≡ from + suc (length c) = omega arith in
     rw (ne-eqb b 9 (free-head f)) (tabs-mark (from + 1) c t (free-tail f) ∙ rw z)
 
-pub tabs-few : (from : ℕ) (t : List ℕ) → length (tabsFrom from t) ≤ length t
-unfolding tabsFrom
-tabs-few from [] = omega arith
-tabs-few from (b ∷ t) = by (eqb b 9) (tabs-few (from + 1) t)
-  where
-    by : (q : Bool) → length (tabsFrom (from + 1) t) ≤ length t → length (pick q (from ∷ tabsFrom (from + 1) t) (tabsFrom (from + 1) t)) ≤ suc (length t)
-    by true l = omega arith
-    by false l = omega arith
-
 -- ---- the same by the columns, the first of which starts at the place `from`
 
 abbrev pub tabsOf : ℕ → List (List ℕ) → List ℕ

@@ -18,7 +18,8 @@ use Rattle.text.proofs.CharLaws.{told-text, told-broken}
 use Rattle.text.proofs.Lists.{drop-take}
 use Rattle.text.proofs.ByteLaws.{none-empty, some-empty}
 use Rattle.pieces.specs.Pieces.{split, joined}
-use Rattle.pieces.proofs.PieceLaws.{split-some, split-joined}
+use Rattle.pieces.proofs.PieceLaws.{split-some, split-joined, split-count}
+use Rattle.pieces.proofs.CountLaws.{count-most}
 use Rattle.line.specs.Line.{nothing, feed, return-feed, endingBytes, endingNumber, required, lastVerdict, verdict, fieldPlaces, lineAnswer, readAnswer}
 use Rattle.line.specs.Paper.{endingOf}
 use Rattle.line.specs.Demands.{MayEnd}
@@ -35,7 +36,7 @@ use Rattle.line.proofs.CaseLaws.{read-record, read-empty, read-fed, read-cut, r
 use Rattle.line.proofs.Extents.{Found, found}
 use Rattle.splitter.specs.Inner.{Keeps, Seen, HasEnds}
 use Rattle.splitter.specs.declared.split.Tabs.{Tabs}
-use Rattle.splitter.proofs.ColumnLaws.{tabs-few, tabsOf, tabs-columns, LastOf, gap-refused, last-decides}
+use Rattle.splitter.proofs.ColumnLaws.{tabsOf, tabs-columns, tabs-count, LastOf, gap-refused, last-decides}
 use Rattle.splitter.proofs.PlaceLaws.{places-are, numbers-kept}
 
 -- ---- an ending with an LF is not nothing
@@ -76,11 +77,12 @@ module _ {s : List ℕ} {at end : ℕ} {ending : DeclaredEnding} {next : ℕ} {r
   tabs = rw (drop-take s at end end-after end-within, stands, tabs-columns at text) at (g .tabs)
 
   pub count-few : r .count ≤ length s
-  unfolding text
+  unfolding columns text
   count-few =
-      let t = tabs-few at (drop at (take end s)) in
-      let c = g .tabs .count in
-      let l = ap length (drop-take s at end end-after end-within ∙ stands) in
+      let c = tabs .count in
+      let n = tabs-count at columns (split-some 9 text) in
+      let k = split-count 9 text in
+      let m = count-most 9 text in
       let e = here .ends in
       let w = end-within in
       omega arith

@@ -1,11 +1,11 @@
 -- The tabs of a line, byte by byte: those that were seen, and those of what is left. Assumes nothing.
-use Prim.Native.Nat.{ℕ, zero, suc, _+_, _≤_, _<_}
+use Prim.Native.Nat.{ℕ, suc, _+_, _≤_, _<_}
 use mathlib.Core.Path.{_≡_, refl, sym, ap, _∙_}
 use mathlib.Core.Bool.{Bool, true, false}
 use mathlib.Core.List.{List, [], _∷_, _++_, append-assoc, append-nil}
 use native.Mathlib.Omega.{arith}
 use native.Mathlib.Decide.{decLt, ℕ-discrete}
-use lib.ListN.{length, getD, set, replicate, drop, length-append, length-set, drop-of-length-le, List·getD-append, List·getD-eq-default}
+use lib.ListN.{length, getD, set, replicate, drop, length-append, length-set, drop-of-length-le, getD-replicate, List·getD-append, List·getD-eq-default}
 use lib.Seq.{getD-set-same, getD-set-other, getD-append-seam}
 use lib.Dec.{eqb}
 use borrow.Author.Tests.{eq-eqb, ne-eqb}
@@ -65,12 +65,7 @@ last-more from (x ∷ seen) tab = last-more (x + 1) seen tab
 -- ---- the first nine
 
 nine-first : (end : ℕ) → Nine [] end (replicate 9 end)
-nine-first end = record { size = refl; each = by 9 }
-  where
-    by : (n j : ℕ) → j < n → getD {A = ℕ} (replicate n end) j 0 ≡ end
-    by zero j l = absurd (omega arith)
-    by (suc n) zero l = refl
-    by (suc n) (suc j) l = by n j (omega arith)
+nine-first end = record { size = refl; each = λ j l. getD-replicate 9 j end 0 l }
 
 module _ {tabs : List ℕ} {end : ℕ} {ends : List ℕ} (g : Nine tabs end ends) (tab : ℕ) where
   pub nine-more : {count : ℕ} → count ≡ length tabs → count < 9 → Nine (tabs ++ tab ∷ []) end (set ends count tab)

@@ -32,12 +32,12 @@ nextOf (R.Cut next) = next
 nextOf (R.NotUtf8 next) = next
 nextOf (R.Beyond next) = next
 
--- two lines have one ending, and each column at one place
+-- two lines have one ending, and one place for each column
 pub record SameLine (r q : Record) : Type 0 where
   pub ending : r .ending ≡ q .ending
   pub columns : (name : Name) → rangeOf r name ≡ rangeOf q name
 
--- two answers have one number and one next place, and if one is a line so is the other, and the same; in all they are one
+-- two answers have one number and one next place, and, where they are lines, one ending and one place for each column; in all they are one
 pub record Alike (one other : Read) : Type 0 where
   pub number : numberOf (readPaper one) ≡ numberOf (readPaper other)
   pub next : nextOf one ≡ nextOf other
