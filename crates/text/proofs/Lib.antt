@@ -16,3 +16,4 @@ pub mod TextLaws
 pub mod Demands
 pub mod Determined
 pub mod CaseLaws
+pub mod FlagLaws

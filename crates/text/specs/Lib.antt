@@ -15,3 +15,4 @@ pub mod Space
 pub mod Promises
 pub mod Inner
 pub mod Demands
+pub mod Flags
