@@ -7,9 +7,9 @@ use mathlib.Core.Option.{Option, some, none}
 use native.Mathlib.Omega.{arith}
 use native.Mathlib.Numerals.{unary-clauses}
 use native.Mathlib.Decide.{ℕ-discrete}
-use lib.ListN.{length, take, drop, length-drop, length-take}
+use lib.ListN.{length, getD, take, drop, length-drop, length-take, List·getD-eq-default}
 use lib.Dec.{leb, eqb}
-use lib.Seq.{take-at, drop-drop}
+use lib.Seq.{take-at, drop-drop, getD-drop}
 use borrow.Author.Tests.{eqb-true, leb-true, lt-leb}
 use Rattle.text.specs.Pick.{pick, within}
 use Rattle.text.specs.Answer.{says}
@@ -17,7 +17,8 @@ use Rattle.text.specs.Utf8.{Row, row, table, Lead, lead, leadIn, leadOf,
 use Rattle.text.specs.Inner.{CharAt}
 use Rattle.text.specs.Paper.{utf8Paper}
 use Rattle.text.specs.declared.utf8.Utf8.the-variants.{Text, Broken}
-use Rattle.text.proofs.Utf8Laws.{alone}
+use Rattle.text.proofs.Lists.{here}
+use Rattle.text.proofs.Utf8Laws.{under, alone, size-cut, size-second, size-third, size-fourth}
 
 -- ---- what holds of every row holds of what a first byte asks for
 
@@ -42,6 +43,14 @@ lead-sober : (a : ℕ) → sober (leadOf a) ≡ true
 unfolding leadOf table allRows sober
 lead-sober a = in-rows sober a table refl refl
 
+sober-small : (n l h : ℕ) → sober (lead n l h) ≡ true → n ≤ 4
+unfolding sober
+sober-small n l h o = leb-true n 4 (and-eq-true-iff _ _ .0 o .0)
+
+sober-low : (n l h : ℕ) → sober (lead n l h) ≡ true → 2 ≤ n → 0x80 ≤ l
+unfolding sober
+sober-low n l h o p = leb-true 0x80 l (rw (lt-leb n 1 p) at (and-eq-true-iff (leb n 4) _ .0 o .1))
+
 -- ---- the size of the first character
 
 follows-size : (m l h : ℕ) (s : List ℕ) → follows (lead m l h) s ≡ true → suc (length s) ≡ m
@@ -55,14 +64,14 @@ pub record Sized (d : Lead) (s : List ℕ) (n : ℕ) : Type 0 where
   pub small : n ≤ 4
 
 sized : (d : Lead) (s : List ℕ) (n : ℕ) → sober d ≡ true → sizeBy d s ≡ n → (n ≡ 0 → ⊥) → Sized d s n
-unfolding sizeBy sober
+unfolding sizeBy
 sized (lead m l h) s n o e z = by (follows (lead m l h) (take (m - 1) s)) refl e
   where
     by : (t : Bool) → follows (lead m l h) (take (m - 1) s) ≡ t → pick t m 0 ≡ n → Sized (lead m l h) s n
     by true f e =
         let k = follows-size m l h (take (m - 1) s) f in
         let j = length-take (m - 1) s in
-        let i = leb-true m 4 (and-eq-true-iff _ _ .0 o .0) in
+        let i = sober-small m l h o in
         record { fits = omega arith; follow = rw (← e) f; small = omega arith }
     by false f e = absurd (z (sym e))
 
@@ -110,6 +119,24 @@ char-size (a ∷ r) s e = by (leadOf a) e
         let j : length r ≡ m - 1 = omega arith in
         rw (take-at r s (m - 1) j, f) (sym k)
 
+-- ---- the size by four bytes
+
+-- a byte that is not there may be taken for 0, which stands in no character behind the first byte
+padded : (d : Lead) (s : List ℕ) → sober d ≡ true → sizeBy d s ≡ sizeBy d (getD s 0 0 ∷ getD s 1 0 ∷ getD s 2 0 ∷ [])
+unfolding sizeBy follows second further
+padded (lead zero l h) s o = refl
+padded (lead (suc zero) l h) s o = refl
+padded (lead (suc (suc n)) l h) [] o =
+    let p = sober-low (suc (suc n)) l h o (omega arith) in
+    size-cut (suc (suc n)) l h [] (omega arith) ∙ sym (size-second (suc (suc n)) l h 0 (0 ∷ 0 ∷ []) (omega arith) (under l h 0 (omega arith)))
+padded (lead (suc (suc zero)) l h) (b ∷ s) o = refl
+padded (lead (suc (suc (suc n))) l h) (b ∷ []) o =
+    size-cut (suc (suc (suc n))) l h (b ∷ []) (omega arith) ∙ sym (size-third (suc (suc (suc n))) l h b 0 (0 ∷ []) (omega arith) refl)
+padded (lead (suc (suc (suc zero))) l h) (b ∷ c ∷ s) o = refl
+padded (lead (suc (suc (suc (suc zero)))) l h) (b ∷ c ∷ []) o = size-cut 4 l h (b ∷ c ∷ []) (omega arith) ∙ sym (size-fourth l h b c 0 [] refl)
+padded (lead (suc (suc (suc (suc zero)))) l h) (b ∷ c ∷ d ∷ s) o = refl
+padded (lead (suc (suc (suc (suc (suc n))))) l h) (b ∷ c ∷ s) o = absurd (let m = sober-small _ l h o in omega arith)
+
 -- ---- the bytes of a character
 
 pub alone-char : (b : ℕ) → b < 0x80 → isChar (b ∷ []) ≡ true
@@ -138,13 +165,12 @@ further-high (b ∷ s) e =
     more (within-low 0x80 0xbf b (p .0)) (further-high s (p .1))
 
 second-high : (d : Lead) (s : List ℕ) → sober d ≡ true → follows d s ≡ true → High s
-unfolding sober follows second
+unfolding follows second
 second-high (lead n l h) [] o e = nothing
 second-high (lead n l h) (b ∷ s) o e =
     let k = follows-size n l h (b ∷ s) e in
     let p = and-eq-true-iff (within l h b) (further s) .0 (and-eq-true-iff (eqb (suc (length (b ∷ s))) n) _ .0 e .1) in
-    let q : leb 0x80 l ≡ true = rw (lt-leb n 1 (omega arith)) at (and-eq-true-iff (leb n 4) _ .0 o .1) in
-    let r = leb-true 0x80 l q in
+    let r = sober-low n l h o (omega arith) in
     let w = within-low l h b (p .0) in
     let z : 0x80 ≤ b = omega arith in
     more z (further-high s (p .1))
@@ -187,6 +213,26 @@ char-at {s} {at} h e =
     let m = size-small (drop at s) in
     record { size = e; fits = omega arith; small = omega arith }
 
+pub byte-none : (s : List ℕ) {at : ℕ} (k : ℕ) → at < length s → length s - at ≤ k → 0 ≡ getD s (at + k) 0
+byte-none s k h p = sym (List·getD-eq-default s 0 (omega arith))
+
+pub at-alone : {s : List ℕ} {at : ℕ} → at < length s → getD s at 0 < 0x80 → CharAt s at 1
+at-alone {s} {at} h p = char-at h (rw (here s at h) (sym (char-size (getD s at 0 ∷ []) (drop (at + 1) s) (alone-char _ p))))
+
+pub at-four : {s : List ℕ} {at b c d r : ℕ} → at < length s → b ≡ getD s (at + 1) 0 → c ≡ getD s (at + 2) 0 → d ≡ getD s (at + 3) 0
+    → r ≡ charSize (getD s at 0 ∷ b ∷ c ∷ d ∷ []) → CharAt s at r
+unfolding charSize
+at-four {s} {at} h e f g k =
+    let p = padded (leadOf (getD s at 0)) (drop (at + 1) s) (lead-sober (getD s at 0)) in
+    let i : at + 1 + 0 ≡ at + 1 = omega arith in
+    let j : at + 1 + 1 ≡ at + 2 = omega arith in
+    let l : at + 1 + 2 ≡ at + 3 = omega arith in
+    char-at h (rw (here s at h) (k ∙ rw (e, f, g) (sym (simp (getD-drop, i, j, l) at p))))
+
+pub at-within : {s : List ℕ} {at r : ℕ} → at + 4 ≤ length s → r ≡ charSize (getD s at 0 ∷ getD s (at + 1) 0 ∷ getD s (at + 2) 0 ∷ getD s (at + 3) 0 ∷ [])
+    → CharAt s at r
+at-within h k = at-four (omega arith) refl refl refl k
+
 module _ {s : List ℕ} {i n : ℕ} (h : i < length s) (g : CharAt s i n) where
   pub char-next : (n ≡ 0 → ⊥) → charsOf (drop i s) ≡ before (take n (drop i s)) (charsOf (drop (i + n) s))
   char-next z = chars-next (drop i s) n (sym (g .size)) z ∙ ap (λ (t : List ℕ). before (take n (drop i s)) (charsOf t)) (drop-drop n i s)
@@ -210,3 +256,5 @@ told-broken t e = by (isUtf8 t) e
     by : (b : Bool) → says 5 [] ≡ pick b (says 0 []) (says 5 []) → b ≡ false
     by true e = cc
     by false e = refl
+
+pub ruleset laws = (byte-none, at-alone, at-four, at-within)

@@ -1,4 +1,4 @@
--- Flags gathered by `|` over 64 bytes: none is set exactly where each byte passed is as asked. Assumes nothing.
+-- Flags gathered by `|` over a block of bytes: none is set exactly where each byte passed is as asked. Assumes nothing.
 use Prim.Native.Nat.{ℕ, zero, suc, _+_, _-_, _<_, _≤_}
 use mathlib.Core.Path.{_≡_, refl}
 use mathlib.Core.Bool.{Bool, true, false}
@@ -9,7 +9,7 @@ use lib.ListN.{length, getD}
 use lib.Dec.{eqb, ltb}
 use lib.Bits.{bitOr, or-add-and, and-le-r, and-le-l, or-lt}
 use borrow.Author.Tests.{eqb-true, eqb-false, ltb-true, ltb-false}
-use Rattle.text.specs.Flags.{OneIf, Neither, Plain, Each, Tells}
+use Rattle.text.specs.Flags.{OneIf, Neither, Plain, Each, TellsOf}
 
 -- ---- `|` of numbers
 
@@ -35,12 +35,16 @@ one-none o z e = omega (arith, o .same e)
 
 -- ---- the bytes passed
 
--- of the 64 bytes from `at` on the first i are as asked exactly where the flags h are at most `most`
-pub record Gathered (P : List ℕ → ℕ → Type 0) (s : List ℕ) (at i most h : ℕ) : Type 0 where
-  pub short : i ≤ 64
-  pub fits : at + 64 ≤ length s
+-- of the n bytes from `at` on the first i are as asked exactly where the flags h are at most `most`
+pub record GatheredOf (n : ℕ) (P : List ℕ → ℕ → Type 0) (s : List ℕ) (at i most h : ℕ) : Type 0 where
+  pub short : i ≤ n
+  pub fits : at + n ≤ length s
   pub all : h ≤ most → Each P s at (at + i)
   pub none : Each P s at (at + i) → h ≤ most
+
+-- of 64 bytes
+abbrev pub Gathered : (List ℕ → ℕ → Type 0) → List ℕ → ℕ → ℕ → ℕ → ℕ → Type 0
+Gathered P s at i most h = GatheredOf 64 P s at i most h
 
 pub each-over : (P : List ℕ → ℕ → Type 0) (s : List ℕ) {a b c : ℕ} → Each P s a b → Each P s b c → Each P s a c
 each-over P s {a} {b} f g k h l = elim (decLe b k) [ yes m ↦ g k m l | no m ↦ f k h (omega arith) ]
@@ -53,11 +57,11 @@ each-more P s at i f p k h l = by (ℕ-discrete k (at + i))
     by (no n) = f k h (omega arith)
 
 -- none before the first
-pub start-flags : {P : List ℕ → ℕ → Type 0} {s : List ℕ} {at most : ℕ} → at + 64 ≤ length s → Gathered P s at 0 most 0
+pub start-flags : {P : List ℕ → ℕ → Type 0} {s : List ℕ} {n at most : ℕ} → at + n ≤ length s → GatheredOf n P s at 0 most 0
 start-flags f = record { short = omega arith; fits = f; all = λ z k h l. absurd (omega arith); none = λ z. omega arith }
 
-module _ {P : List ℕ → ℕ → Type 0} {s : List ℕ} {at i most h : ℕ} (g : Gathered P s at i most h) where
-  pub more-flags : {r : ℕ} → i < 64 → (r ≤ most → (h ≤ most) × P s (at + i)) → (h ≤ most → P s (at + i) → r ≤ most) → Gathered P s at (i + 1) most r
+module _ {P : List ℕ → ℕ → Type 0} {s : List ℕ} {n at i most h : ℕ} (g : GatheredOf n P s at i most h) where
+  pub more-flags : {r : ℕ} → i < n → (r ≤ most → (h ≤ most) × P s (at + i)) → (h ≤ most → P s (at + i) → r ≤ most) → GatheredOf n P s at (i + 1) most r
   more-flags l f b =
       record {
         short = omega arith;
@@ -66,22 +70,22 @@ module _ {P : List ℕ → ℕ → Type 0} {s : List ℕ} {at i most h : ℕ} (g
         none = λ e. b (g .none (λ k p q. e k p (omega arith))) (e (at + i) (omega arith) (omega arith));
       }
 
-  past-flags : 64 ≤ i → (r : Bool) → (r ≡ true → h ≤ most) → (r ≡ false → most < h) → Tells P s at r
-  past-flags l r f n =
+  past-flags : n ≤ i → (r : Bool) → (r ≡ true → h ≤ most) → (r ≡ false → most < h) → TellsOf n P s at r
+  past-flags l r f m =
       let w = g .short in
-      let z : i ≡ 64 = omega arith in
+      let z : i ≡ n = omega arith in
       record {
         yes = λ e. rw z at (g .all (f e));
-        no = λ e a. absurd (omega (arith, n e, g .none (rw z a)));
+        no = λ e a. absurd (omega (arith, m e, g .none (rw z a)));
       }
 
-pub zero-past : {P : List ℕ → ℕ → Type 0} {s : List ℕ} {at i h : ℕ} → Gathered P s at i 0 h → 64 ≤ i → Tells P s at (eqb h 0)
+pub zero-past : {P : List ℕ → ℕ → Type 0} {s : List ℕ} {n at i h : ℕ} → GatheredOf n P s at i 0 h → n ≤ i → TellsOf n P s at (eqb h 0)
 zero-past {h = h} g l = past-flags g l (eqb h 0) (λ e. omega (arith, eqb-true h 0 e)) (λ e. (let n = eqb-false h 0 e in omega arith))
 
 -- ---- neither of two bytes
 
-pub neither-turn : {a b : ℕ} {s : List ℕ} {at i h p q : ℕ} → Gathered (Neither a b) s at i 0 h → i < 64 → OneIf (getD s (at + i) 0) a p → OneIf (getD s (at + i) 0) b q
-    → Gathered (Neither a b) s at (i + 1) 0 (bitOr (bitOr h p) q)
+pub neither-turn : {a b : ℕ} {s : List ℕ} {n at i h p q : ℕ} → GatheredOf n (Neither a b) s at i 0 h → i < n → OneIf (getD s (at + i) 0) a p → OneIf (getD s (at + i) 0) b q
+    → GatheredOf n (Neither a b) s at (i + 1) 0 (bitOr (bitOr h p) q)
 neither-turn {h = h} {p = p} {q = q} g l o u =
     let a = or-left (bitOr h p) q in
     let b = or-right (bitOr h p) q in
@@ -92,13 +96,13 @@ neither-turn {h = h} {p = p} {q = q} g l o u =
 
 -- ---- bytes below 80 hex
 
-pub plain-turn : {s : List ℕ} {at i h : ℕ} → Gathered Plain s at i 127 h → i < 64 → Gathered Plain s at (i + 1) 127 (bitOr h (getD s (at + i) 0))
-plain-turn {s} {at} {i} {h} g l =
+pub plain-turn : {s : List ℕ} {n at i h : ℕ} → GatheredOf n Plain s at i 127 h → i < n → GatheredOf n Plain s at (i + 1) 127 (bitOr h (getD s (at + i) 0))
+plain-turn {s = s} {at = at} {i = i} {h = h} g l =
     let a = or-left h (getD s (at + i) 0) in
     let b = or-right h (getD s (at + i) 0) in
     more-flags g l (λ z. (omega arith, record { small = omega arith })) (λ z y. (let w = or-lt 7 h (getD s (at + i) 0) (omega arith) (y .small) in omega arith))
 
-pub plain-past : {s : List ℕ} {at i h : ℕ} → Gathered Plain s at i 127 h → 64 ≤ i → Tells Plain s at (ltb h 128)
+pub plain-past : {s : List ℕ} {n at i h : ℕ} → GatheredOf n Plain s at i 127 h → n ≤ i → TellsOf n Plain s at (ltb h 128)
 plain-past {h = h} g l = past-flags g l (ltb h 128) (λ e. omega (arith, ltb-true h 128 e)) (λ e. omega (arith, ltb-false h 128 e))
 
 pub ruleset laws = (one-same, one-other, start-flags, neither-turn, plain-turn, zero-past, plain-past)

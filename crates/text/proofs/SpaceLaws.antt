@@ -20,10 +20,19 @@ use Rattle.text.specs.declared.utf8.Utf8.{Utf8}
 use Rattle.text.specs.declared.utf8.Utf8.the-variants as U
 use Rattle.text.specs.declared.space.Space.the-variants as S
 use Rattle.text.proofs.Lists.{onward, rest-all}
-use Rattle.text.proofs.Utf8Laws.{inside, under, above, here-2, here-3, here-4}
+use Rattle.text.proofs.Utf8Laws.{inside, under, above}
 use Rattle.text.proofs.CharLaws.{char-next, char-none, told-text, told-broken}
 
 -- ---- the code point, in the code's own words
+
+here-2 : (s : List ℕ) (at : ℕ) → at + 1 < length s → drop (at + 1) s ≡ getD s (at + 1) 0 ∷ drop (at + 2) s
+here-2 s at h = onward s (at + 1) (at + 2) h (omega arith)
+
+here-3 : (s : List ℕ) (at : ℕ) → at + 2 < length s → drop (at + 1) s ≡ getD s (at + 1) 0 ∷ getD s (at + 2) 0 ∷ drop (at + 3) s
+here-3 s at h = here-2 s at (omega arith) ∙ ap (λ (t : List ℕ). getD s (at + 1) 0 ∷ t) (onward s (at + 2) (at + 3) h (omega arith))
+
+here-4 : (s : List ℕ) (at : ℕ) → at + 3 < length s → drop (at + 1) s ≡ getD s (at + 1) 0 ∷ getD s (at + 2) 0 ∷ getD s (at + 3) 0 ∷ drop (at + 4) s
+here-4 s at h = here-3 s at (omega arith) ∙ ap (λ (t : List ℕ). getD s (at + 1) 0 ∷ getD s (at + 2) 0 ∷ t) (onward s (at + 3) (at + 4) h (omega arith))
 
 module _ (s : List ℕ) (at : ℕ) {size a : ℕ} (h : at + size ≤ length s) (e : a ≡ getD s at 0) where
   first : 1 ≤ size → drop at s ≡ getD s at 0 ∷ drop (at + 1) s

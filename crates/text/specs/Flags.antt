@@ -1,4 +1,4 @@
--- What 64 bytes have, told by one flag. Assumes nothing.
+-- What a block of bytes has, told by one flag. Assumes nothing.
 use Prim.Native.Nat.{ℕ, _+_, _<_, _≤_}
 use mathlib.Core.Path.{_≡_}
 use mathlib.Core.Bool.{Bool, true, false}
@@ -23,7 +23,11 @@ pub record Plain (s : List ℕ) (k : ℕ) : Type 0 where
 abbrev pub Each : (List ℕ → ℕ → Type 0) → List ℕ → ℕ → ℕ → Type 0
 Each P s from end = (k : ℕ) → from ≤ k → k < end → P s k
 
--- the flag tells whether that is so of 64 bytes
-pub record Tells (P : List ℕ → ℕ → Type 0) (s : List ℕ) (at : ℕ) (r : Bool) : Type 0 where
-  pub yes : r ≡ true → Each P s at (at + 64)
-  pub no : r ≡ false → Each P s at (at + 64) → ⊥
+-- the flag tells whether that is so of n bytes
+pub record TellsOf (n : ℕ) (P : List ℕ → ℕ → Type 0) (s : List ℕ) (at : ℕ) (r : Bool) : Type 0 where
+  pub yes : r ≡ true → Each P s at (at + n)
+  pub no : r ≡ false → Each P s at (at + n) → ⊥
+
+-- of 64 bytes
+abbrev pub Tells : (List ℕ → ℕ → Type 0) → List ℕ → ℕ → Bool → Type 0
+Tells P s at r = TellsOf 64 P s at r

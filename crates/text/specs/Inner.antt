@@ -1,17 +1,18 @@
 -- What the private functions of this crate promise each other. Assumes nothing.
-use Prim.Native.Nat.{ℕ, zero, suc, _+_, _≤_}
+use Prim.Native.Nat.{ℕ, _+_, _≤_}
 use mathlib.Core.Path.{_≡_}
-use mathlib.Core.Bool.{Bool, true, false, _&&_}
-use mathlib.Core.List.{List, [], _∷_}
+use mathlib.Core.Bool.{Bool}
+use mathlib.Core.List.{List}
 use lib.ListN.{length, drop}
-use lib.Dec.{ltb}
+use Rattle.text.specs.Pick.{within}
 use Rattle.text.specs.Utf8.{lead, leadOf, charSize, isUtf8}
-use Rattle.text.specs.declared.utf8.First.{First}
 
--- r is what the first byte a asks for
-pub record Asks (a : ℕ) (r : First) : Type 0 where
-  pub same : lead (r .size) (r .low) (r .high) ≡ leadOf a
-  pub small : r .size ≤ 4
+-- the first byte a asks for n bytes in all, and r tells whether b is within the bounds of the second
+pub record Second (n a b : ℕ) (r : Bool) : Type 0 where
+  pub low : ℕ
+  pub high : ℕ
+  pub asks : leadOf a ≡ lead n low high
+  pub tells : r ≡ within low high b
 
 -- r is the size of the character at a place, which ends within the text
 pub record CharAt (s : List ℕ) (at r : ℕ) : Type 0 where
@@ -19,14 +20,7 @@ pub record CharAt (s : List ℕ) (at r : ℕ) : Type 0 where
   pub fits : at + r ≤ length s
   pub small : r ≤ 4
 
--- the first n bytes are there, and below 80 hex
-unfoldable pub ascii : ℕ → List ℕ → Bool
-ascii zero s = true
-ascii (suc n) [] = false
-ascii (suc n) (b ∷ s) = ltb b 128 && ascii n s
-
--- past r bytes from a place what is left is UTF-8 exactly when what is left from the place on is, and r is 0 only where that is not
-pub record RunAt (s : List ℕ) (at r : ℕ) : Type 0 where
-  pub fits : at + r ≤ length s
-  pub same : isUtf8 (drop (at + r) s) ≡ isUtf8 (drop at s)
-  pub none : r ≡ 0 → isUtf8 (drop at s) ≡ false
+-- what is left from one place on is UTF-8 exactly when what is left from another on is
+pub record Passes (s : List ℕ) (from to : ℕ) : Type 0 where
+  pub reached : to ≤ length s
+  pub same : isUtf8 (drop to s) ≡ isUtf8 (drop from s)

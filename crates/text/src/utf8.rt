@@ -1,12 +1,13 @@
 // Whether bytes are UTF-8.
 ghost use mathlib.Core.Path.{_≡_};
-ghost use mathlib.Core.Bool.{_&&_};
+ghost use mathlib.Core.List.{[], _∷_};
 ghost use Prim.Native.Nat.{_+_, _<_, _≤_};
-ghost use lib.ListN.{length, drop};
-ghost use lib.Dec.{ltb};
+ghost use lib.ListN.{length, getD};
 ghost use Rattle.text.specs.Pick.{within};
+ghost use Rattle.text.specs.Flags.{Plain, TellsOf};
+ghost use Rattle.text.specs.Utf8.{charSize};
 ghost use Rattle.text.specs.Promises.{ChecksUtf8};
-ghost use Rattle.text.specs.Inner.{Asks, CharAt, RunAt, ascii};
+ghost use Rattle.text.specs.Inner.{Second, CharAt, Passes};
 
 // What a check of UTF-8 finds.
 pub enum Utf8 {
@@ -16,45 +17,87 @@ pub enum Utf8 {
     Broken,
 }
 
-// What a first byte asks for: how many bytes in all, and the bounds of the second.
-struct First {
-    size: usize,
-    low: u8,
-    high: u8,
-}
-
-// A size of 0 where no character begins with the byte.
-fn first_of(a: u8) -> First
-    ensures { λ r. ⌜ Asks a r ⌝ }
+fn is_within(low: u8, high: u8, b: u8) -> bool
+    ensures { λ r. ⌜ r ≡ within low high b ⌝ }
 {
-    match a {
-        0x00..=0x7f => asks(1, 0x00, 0x00),
-        0xc2..=0xdf => asks(2, 0x80, 0xbf),
-        0xe0 => asks(3, 0xa0, 0xbf),
-        0xe1..=0xec => asks(3, 0x80, 0xbf),
-        0xed => asks(3, 0x80, 0x9f),
-        0xee..=0xef => asks(3, 0x80, 0xbf),
-        0xf0 => asks(4, 0x90, 0xbf),
-        0xf1..=0xf3 => asks(4, 0x80, 0xbf),
-        0xf4 => asks(4, 0x80, 0x8f),
-        _ => asks(0, 0x00, 0x00),
+    if b < low {
+        return false;
     }
-}
-
-fn asks(size: usize, low: u8, high: u8) -> First
-    ensures { λ r. ⌜ (r .size ≡ size) × (r .low ≡ low) × (r .high ≡ high) ⌝ }
-{
-    First { size, low, high }
+    b <= high
 }
 
 // Whether a byte may stand third or fourth in a character.
 fn is_further(b: u8) -> bool
     ensures { λ r. ⌜ r ≡ within 0x80 0xbf b ⌝ }
 {
-    match b {
-        0x80..=0xbf => true,
-        _ => false,
+    is_within(0x80, 0xbf, b)
+}
+
+// Whether b may stand second in a character of three bytes, behind a.
+fn is_second_of_three(a: u8, b: u8) -> bool
+    requires { ⌜ (0xe0 ≤ a) × (a < 0xf0) ⌝ }
+    ensures { λ r. ⌜ Second 3 a b r ⌝ }
+{
+    if a == 0xe0 {
+        return is_within(0xa0, 0xbf, b);
     }
+    if a == 0xed {
+        return is_within(0x80, 0x9f, b);
+    }
+    is_further(b)
+}
+
+// Whether b may stand second in a character of four bytes, behind a.
+fn is_second_of_four(a: u8, b: u8) -> bool
+    requires { ⌜ (0xf0 ≤ a) × (a < 0xf5) ⌝ }
+    ensures { λ r. ⌜ Second 4 a b r ⌝ }
+{
+    if a == 0xf0 {
+        return is_within(0x90, 0xbf, b);
+    }
+    if a == 0xf4 {
+        return is_within(0x80, 0x8f, b);
+    }
+    is_further(b)
+}
+
+// The size of the character that four bytes begin with, or 0 where they begin with none. What few bytes tell is asked first.
+fn size_by(a: u8, b: u8, c: u8, d: u8) -> usize
+    ensures { λ r. ⌜ r ≡ charSize (a ∷ b ∷ c ∷ d ∷ []) ⌝ }
+{
+    if a < 0x80 {
+        return 1;
+    }
+    if a < 0xe0 {
+        if a < 0xc2 {
+            return 0;
+        }
+        return if is_further(b) { 2 } else { 0 };
+    }
+    if a < 0xf0 {
+        if !is_second_of_three(a, b) {
+            return 0;
+        }
+        return if is_further(c) { 3 } else { 0 };
+    }
+    if a > 0xf4 {
+        return 0;
+    }
+    if !is_second_of_four(a, b) {
+        return 0;
+    }
+    if !is_further(c) {
+        return 0;
+    }
+    if is_further(d) { 4 } else { 0 }
+}
+
+// The byte k places on, or 0 where the text ends before it: no byte of a character behind its first is 0.
+fn byte_at(s: &[u8], at: usize, k: usize) -> u8
+    requires { ⌜ at < length (now s) ⌝ }
+    ensures { λ r. ⌜ r ≡ getD (now (s .entry)) (at + k) 0 ⌝ }
+{
+    if s.len() - at > k { s[at + k] } else { 0 }
 }
 
 // The size of the character that starts at `at`, or 0 where none does.
@@ -62,65 +105,43 @@ pub(crate) fn char_size(s: &[u8], at: usize) -> usize
     requires { ⌜ at < length (now s) ⌝ }
     ensures { λ r. ⌜ CharAt (now (s .entry)) at r ⌝ }
 {
-    let first = first_of(s[at]);
-    let size = first.size;
-    if size < 2 {
-        return size;
+    let a = s[at];
+    if a < 0x80 {
+        return 1;
     }
-    if s.len() - at < size {
-        return 0;
-    }
-    let b = s[at + 1];
-    if b < first.low {
-        return 0;
-    }
-    if b > first.high {
-        return 0;
-    }
-    if size == 2 {
-        return 2;
-    }
-    if !is_further(s[at + 2]) {
-        return 0;
-    }
-    if size == 3 {
-        return 3;
-    }
-    if !is_further(s[at + 3]) {
-        return 0;
-    }
-    4
+    size_by(a, byte_at(s, at, 1), byte_at(s, at, 2), byte_at(s, at, 3))
 }
 
-// Whether a byte is ASCII, and those before it were.
-fn still_ascii(ok: bool, b: u8) -> bool
-    ensures { λ r. ⌜ r ≡ (ok && ltb b 128) ⌝ }
+// The same where four bytes are left.
+fn size_within(s: &[u8], at: usize) -> usize
+    requires { ⌜ at + 4 ≤ length (now s) ⌝ }
+    ensures { λ r. ⌜ CharAt (now (s .entry)) at r ⌝ }
 {
-    if b < 128 { ok } else { false }
+    size_by(s[at], s[at + 1], s[at + 2], s[at + 3])
 }
 
-// Whether the 32 bytes from `at` on are ASCII. With no way out before the last byte the loop becomes vector code.
-fn is_ascii(s: &[u8], at: usize) -> bool
-    requires { ⌜ at + 32 ≤ length (now s) ⌝ }
-    ensures { λ r. ⌜ r ≡ ascii 32 (drop at (now (s .entry))) ⌝ }
+// Whether the n bytes from `at` on are ASCII. With no way out before the last byte the loop becomes vector code.
+fn is_ascii(s: &[u8], at: usize, n: usize) -> bool
+    requires { ⌜ at + n ≤ length (now s) ⌝ }
+    ensures { λ r. ⌜ TellsOf n Plain (now (s .entry)) at r ⌝ }
 {
-    let mut ok = true;
+    let mut h: u8 = 0;
     let mut i = 0;
-    while i < 32 {
-        ok = still_ascii(ok, s[at + i]);
+    while i < n {
+        h = h | s[at + i];
         i += 1;
     }
-    ok
+    h < 128
 }
 
-// The size of the characters from `at` on, up to the first that ends 32 bytes on or further, or to where none starts.
+// The size of the characters from `at` on, up to the first that ends 64 bytes on or further, or to where none starts.
 fn chars_size(s: &[u8], at: usize) -> usize
-    requires { ⌜ at < length (now s) ⌝ }
-    ensures { λ r. ⌜ RunAt (now (s .entry)) at r ⌝ }
+    requires { ⌜ at + 68 ≤ length (now s) ⌝ }
+    ensures { λ r. ⌜ Passes (now (s .entry)) at (at + r) ⌝ }
 {
     let mut n = 0;
-    while n < 32 && n < s.len() - at {
-        let size = char_size(s, at + n);
+    while n < 64 {
+        let size = size_within(s, at + n);
         if size == 0 {
             return n;
         }
@@ -129,27 +150,55 @@ fn chars_size(s: &[u8], at: usize) -> usize
     n
 }
 
-// The size of some characters from `at` on, or 0 where none starts there.
-fn run_size(s: &[u8], at: usize) -> usize
-    requires { ⌜ at < length (now s) ⌝ }
-    ensures { λ r. ⌜ RunAt (now (s .entry)) at r ⌝ }
+// The size of some characters from `at` on: 64 of a byte each, or as many as `chars_size` finds.
+fn block_size(s: &[u8], at: usize) -> usize
+    requires { ⌜ at + 68 ≤ length (now s) ⌝ }
+    ensures { λ r. ⌜ Passes (now (s .entry)) at (at + r) ⌝ }
 {
-    if s.len() - at < 32 {
-        return chars_size(s, at);
-    }
-    if is_ascii(s, at) {
-        return 32;
+    if is_ascii(s, at, 64) {
+        return 64;
     }
     chars_size(s, at)
 }
 
-// Judges whether bytes are UTF-8, run by run.
+// A place behind whole characters, with few bytes left or where no character starts.
+fn past_blocks(s: &[u8]) -> usize
+    ensures { λ r. ⌜ Passes (now (s .entry)) 0 r ⌝ }
+{
+    let mut i = 0;
+    while s.len() - i >= 68 {
+        let n = block_size(s, i);
+        if n == 0 {
+            return i;
+        }
+        i += n;
+    }
+    i
+}
+
+// The place past the ASCII from `at` on, by eight bytes at a time.
+fn past_ascii(s: &[u8], at: usize) -> usize
+    requires { ⌜ at ≤ length (now s) ⌝ }
+    ensures { λ r. ⌜ Passes (now (s .entry)) at r ⌝ }
+{
+    let mut i = at;
+    while s.len() - i >= 8 {
+        if is_ascii(s, i, 8) {
+            i += 8;
+        } else {
+            return i;
+        }
+    }
+    i
+}
+
+// Judges whether bytes are UTF-8: by blocks, and the last ones, or those from where a block found no character on, one by one.
 pub fn check_utf8(s: &[u8]) -> Utf8
     ensures { λ r. ⌜ ChecksUtf8 (now (s .entry)) r ⌝ }
 {
-    let mut i = 0;
+    let mut i = past_ascii(s, past_blocks(s));
     while i < s.len() {
-        let n = run_size(s, i);
+        let n = char_size(s, i);
         if n == 0 {
             return Utf8::Broken;
         }

@@ -1,27 +1,25 @@
--- `text::utf8::is_ascii` meets its contract: the bytes passed and those left are below 80 hex exactly when all 32 are. Assumes nothing.
+-- `text::utf8::is_ascii` meets its contract: the flags gathered are below 80 hex exactly where each byte passed is. Assumes nothing.
 use Prim.Native.Nat.{_-_}
 use borrow.Author.Needs.{needs}
-use Rattle.text.proofs.RunLaws.{Looking, laws}
+use Rattle.text.specs.Flags.{Plain}
+use Rattle.text.proofs.FlagLaws.{GatheredOf, laws}
 use Rattle.text.proofs.utf8.is_ascii.Statement.{statement}
 use Rattle.text.proofs.utf8.is_ascii.Tie as tie
 
 abbrev Inv-loop : tie.InvT-loop
-Inv-loop s at ok₀ i₀ ok i = Looking s at ok i
+Inv-loop s at n h₀ i₀ h i = GatheredOf n Plain s at i 127 h
 
 abbrev μ-loop : tie.MeasureT-loop
-μ-loop s at ok₀ i₀ ok i = 32 - i
+μ-loop s at n h₀ i₀ h i = n - i
 
 loop-holds : tie.Need-loop-holds Inv-loop μ-loop
 loop-holds c = search (needs, laws)
 
-add-still-ascii : tie.Need-add-still-ascii Inv-loop μ-loop
-add-still-ascii c = search (needs, laws)
+add-h : tie.Need-add-h Inv-loop μ-loop
+add-h c = search (needs, laws)
 
-shared-slice-read-still-ascii : tie.Need-shared-slice-read-still-ascii Inv-loop μ-loop
-shared-slice-read-still-ascii c = search (needs, laws)
-
-still-ascii-requires : tie.Need-still-ascii-requires Inv-loop μ-loop
-still-ascii-requires c κs = search (needs, laws)
+shared-slice-read-h : tie.Need-shared-slice-read-h Inv-loop μ-loop
+shared-slice-read-h c = search (needs, laws)
 
 add-i : tie.Need-add-i Inv-loop μ-loop
 add-i c = search (needs, laws)
@@ -42,9 +40,8 @@ is-ascii-spec =
     Inv-loop
     μ-loop
     loop-holds
-    add-still-ascii
-    shared-slice-read-still-ascii
-    still-ascii-requires
+    add-h
+    shared-slice-read-h
     add-i
     loop-less
     loop-again

@@ -1,0 +1,53 @@
+-- `text::utf8::past_ascii` meets its contract: what is left from i on is UTF-8 exactly when what is left from `at` on is. Assumes nothing.
+use Prim.Native.Nat.{_-_}
+use lib.ListN.{length}
+use borrow.Author.Needs.{needs}
+use Rattle.text.specs.Inner.{Passes}
+use Rattle.text.proofs.RunLaws.{laws}
+use Rattle.text.proofs.utf8.past_ascii.Statement.{statement}
+use Rattle.text.proofs.utf8.past_ascii.Tie as tie
+
+abbrev Inv-loop : tie.InvT-loop
+Inv-loop s at i₀ i = Passes s at i
+
+abbrev μ-loop : tie.MeasureT-loop
+μ-loop s at i₀ i = length s - i
+
+loop-holds : tie.Need-loop-holds Inv-loop μ-loop
+loop-holds c = search (needs, laws)
+
+sub-loop : tie.Need-sub-loop Inv-loop μ-loop
+sub-loop c = search (needs, laws)
+
+is-ascii-requires : tie.Need-is-ascii-requires Inv-loop μ-loop
+is-ascii-requires c κs = search (needs, laws)
+
+add-i : tie.Need-add-i Inv-loop μ-loop
+add-i c = search (needs, laws)
+
+loop-less : tie.Need-loop-less Inv-loop μ-loop
+loop-less c = search (needs, laws)
+
+loop-again : tie.Need-loop-again Inv-loop μ-loop
+loop-again c = search (needs, laws)
+
+returns : tie.Need-returns Inv-loop μ-loop
+returns c = search (needs, laws)
+
+returns-2 : tie.Need-returns-2 Inv-loop μ-loop
+returns-2 c = search (needs, laws)
+
+pub past-ascii-spec : {M : Type 1} → statement M
+past-ascii-spec =
+    tie.close
+    (tie.spec
+    Inv-loop
+    μ-loop
+    loop-holds
+    sub-loop
+    is-ascii-requires
+    add-i
+    loop-less
+    loop-again
+    returns
+    returns-2)
