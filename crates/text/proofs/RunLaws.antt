@@ -1,11 +1,11 @@
 -- Characters passed: one by one, or many bytes below 80 hex at once; and the check's loop over them. Assumes nothing.
 use Prim.Native.Nat.{ℕ, zero, suc, _+_, _-_, _≤_, _<_}
 use mathlib.Core.Path.{_≡_, refl, sym, ap, _∙_}
-use mathlib.Core.Bool.{Bool, true, false}
-use mathlib.Core.List.{List, [], _∷_}
+use mathlib.Core.Bool.{Bool, true}
+use mathlib.Core.List.{List}
 use native.Mathlib.Omega.{arith}
 use native.Mathlib.Nat.{add-zero}
-use lib.ListN.{length, getD, take, drop, drop-of-length-le}
+use lib.ListN.{length, take, drop, drop-of-length-le}
 use Rattle.text.specs.Flags.{Plain, Each, TellsOf}
 use Rattle.text.specs.Utf8.{charsFrom, charsOf, there, isUtf8, utf8Answer}
 use Rattle.text.specs.Inner.{CharAt, Passes}
