@@ -161,7 +161,7 @@ fn block_size(s: &[u8], at: usize) -> usize
     chars_size(s, at)
 }
 
-// A place behind whole characters, with few bytes left or where no character starts.
+// A place behind whole characters: fewer than 68 bytes are left there, or no character starts.
 fn past_blocks(s: &[u8]) -> usize
     ensures { λ r. ⌜ Passes (now (s .entry)) 0 r ⌝ }
 {
