@@ -80,7 +80,7 @@ module _ {a b : ℕ} {r : Bool} where
   unfolding table
   three-surrogate p e = asking (past (omega arith) (past (omega arith) (past (omega arith) (past (omega arith) (into (omega arith) (omega arith)))))) e
 
-  pub three-other : (0xe0 ≤ a) × (a < 0xf0) → (a ≡ 0xe0 → ⊥) → (a ≡ 0xed → ⊥) → r ≡ within 0x80 0xbf b → Second 3 a b r
+  pub three-other : (0xe0 ≤ a) × (a ≤ 0xef) → (a ≡ 0xe0 → ⊥) → (a ≡ 0xed → ⊥) → r ≡ within 0x80 0xbf b → Second 3 a b r
   unfolding table
   three-other p m n e = by (decLe 0xed a)
     where
@@ -97,7 +97,7 @@ module _ {a b : ℕ} {r : Bool} where
   four-last p e =
       asking (past (omega arith) (past (omega arith) (past (omega arith) (past (omega arith) (past (omega arith) (past (omega arith) (past (omega arith) (past (omega arith) (into (omega arith) (omega arith)))))))))) e
 
-  pub four-other : (0xf0 ≤ a) × (a < 0xf5) → (a ≡ 0xf0 → ⊥) → (a ≡ 0xf4 → ⊥) → r ≡ within 0x80 0xbf b → Second 4 a b r
+  pub four-other : (0xf0 ≤ a) × (a ≤ 0xf4) → (a ≡ 0xf0 → ⊥) → (a ≡ 0xf4 → ⊥) → r ≡ within 0x80 0xbf b → Second 4 a b r
   unfolding table
   four-other p m n e =
       asking (past (omega arith) (past (omega arith) (past (omega arith) (past (omega arith) (past (omega arith) (past (omega arith) (past (omega arith) (into (omega arith) (omega arith))))))))) e

@@ -35,61 +35,53 @@ fn is_further(b: u8) -> bool
 
 // Whether b may stand second in a character of three bytes, behind a.
 fn is_second_of_three(a: u8, b: u8) -> bool
-    requires { ⌜ (0xe0 ≤ a) × (a < 0xf0) ⌝ }
+    requires { ⌜ (0xe0 ≤ a) × (a ≤ 0xef) ⌝ }
     ensures { λ r. ⌜ Second 3 a b r ⌝ }
 {
-    if a == 0xe0 {
-        return is_within(0xa0, 0xbf, b);
+    match a {
+        0xe0 => is_within(0xa0, 0xbf, b),
+        0xed => is_within(0x80, 0x9f, b),
+        _ => is_further(b),
     }
-    if a == 0xed {
-        return is_within(0x80, 0x9f, b);
-    }
-    is_further(b)
 }
 
 // Whether b may stand second in a character of four bytes, behind a.
 fn is_second_of_four(a: u8, b: u8) -> bool
-    requires { ⌜ (0xf0 ≤ a) × (a < 0xf5) ⌝ }
+    requires { ⌜ (0xf0 ≤ a) × (a ≤ 0xf4) ⌝ }
     ensures { λ r. ⌜ Second 4 a b r ⌝ }
 {
-    if a == 0xf0 {
-        return is_within(0x90, 0xbf, b);
+    match a {
+        0xf0 => is_within(0x90, 0xbf, b),
+        0xf4 => is_within(0x80, 0x8f, b),
+        _ => is_further(b),
     }
-    if a == 0xf4 {
-        return is_within(0x80, 0x8f, b);
-    }
-    is_further(b)
 }
 
-// The size of the character that four bytes begin with, or 0 where they begin with none. What few bytes tell is asked first.
+// The size of the character that four bytes begin with, or 0 where they begin with none. The first byte chooses the length and the
+// bounds of the second; what few bytes tell is asked first.
 fn size_by(a: u8, b: u8, c: u8, d: u8) -> usize
     ensures { λ r. ⌜ r ≡ charSize (a ∷ b ∷ c ∷ d ∷ []) ⌝ }
 {
-    if a < 0x80 {
-        return 1;
-    }
-    if a < 0xe0 {
-        if a < 0xc2 {
-            return 0;
+    match a {
+        0x00..=0x7f => 1,
+        0xc2..=0xdf => { if is_further(b) { 2 } else { 0 } }
+        0xe0..=0xef => {
+            if !is_second_of_three(a, b) {
+                return 0;
+            }
+            if is_further(c) { 3 } else { 0 }
         }
-        return if is_further(b) { 2 } else { 0 };
-    }
-    if a < 0xf0 {
-        if !is_second_of_three(a, b) {
-            return 0;
+        0xf0..=0xf4 => {
+            if !is_second_of_four(a, b) {
+                return 0;
+            }
+            if !is_further(c) {
+                return 0;
+            }
+            if is_further(d) { 4 } else { 0 }
         }
-        return if is_further(c) { 3 } else { 0 };
+        _ => 0,
     }
-    if a > 0xf4 {
-        return 0;
-    }
-    if !is_second_of_four(a, b) {
-        return 0;
-    }
-    if !is_further(c) {
-        return 0;
-    }
-    if is_further(d) { 4 } else { 0 }
 }
 
 // The byte k places on, or 0 where the text ends before it: no byte of a character behind its first is 0.

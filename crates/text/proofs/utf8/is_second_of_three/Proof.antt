@@ -1,24 +1,34 @@
 -- `text::utf8::is_second_of_three` meets its contract: one law for each row of three bytes. Assumes nothing.
-use borrow.Author.Needs.{needs}
 use Rattle.text.proofs.Utf8Laws.{laws}
+use borrow.Author.Needs.{needs}
 use Rattle.text.proofs.utf8.is_second_of_three.Statement.{statement}
 use Rattle.text.proofs.utf8.is_second_of_three.Tie as tie
+use Rattle.text.proofs.utf8.is_second_of_three.Reads as reads
+use Rattle.text.proofs.utf8.is_second_of_three.Lts as lts
+use Rattle.text.proofs.utf8.is_further.Reads as is-further-reads
+use Rattle.text.proofs.utf8.is_within.Reads as is-within-reads
 
+-- src/utf8.rt:42:17
 is-within-requires : tie.Need-is-within-requires
 is-within-requires c κs = search (needs, laws)
 
-returns : tie.Need-returns
-returns c = search (needs, laws)
-
+-- src/utf8.rt:43:17
 is-within-requires-2 : tie.Need-is-within-requires-2
 is-within-requires-2 c κs = search (needs, laws)
 
-returns-2 : tie.Need-returns-2
-returns-2 c = search (needs, laws)
-
+-- src/utf8.rt:44:14
 is-further-requires : tie.Need-is-further-requires
 is-further-requires c κs = search (needs, laws)
 
+-- src/utf8.rt:37:1
+returns : tie.Need-returns
+returns c = search (needs, laws)
+
+-- src/utf8.rt:37:1
+returns-2 : tie.Need-returns-2
+returns-2 c = search (needs, laws)
+
+-- src/utf8.rt:37:1
 returns-3 : tie.Need-returns-3
 returns-3 c = search (needs, laws)
 
@@ -27,8 +37,8 @@ is-second-of-three-spec =
     tie.close
     (tie.spec
     is-within-requires
-    returns
     is-within-requires-2
-    returns-2
     is-further-requires
+    returns
+    returns-2
     returns-3)
