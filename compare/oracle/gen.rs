@@ -1,5 +1,5 @@
-//! gen DIR MEGABYTES: writes five VCF files of that size, the same at each run: s0 (eight columns), s1, s10 and s1000
-//! (so many samples of GT:DP:GQ), and mix (lines of all four by turns, with equal shares of the bytes).
+//! gen DIR MEGABYTES [NAME ..]: writes five VCF files of that size, or those named, the same at each run: s0 (eight columns), s1,
+//! s10 and s1000 (so many samples of GT:DP:GQ), and mix (lines of all four by turns, with equal shares of the bytes).
 use std::fs::File;
 use std::io::{self, BufWriter, Write};
 
@@ -124,12 +124,16 @@ fn file(path: String, mut dice: Dice, bytes: u64, kinds: &[usize], one_chrom: bo
 
 fn main() -> io::Result<()> {
     let arguments: Vec<String> = std::env::args().collect();
-    let [_, dir, megabytes] = &arguments[..] else { panic!("usage: gen DIR MEGABYTES") };
+    let [_, dir, megabytes, names @ ..] = &arguments[..] else { panic!("usage: gen DIR MEGABYTES [NAME ..]") };
     let bytes = megabytes.parse::<u64>().expect("MEGABYTES is a number") * 1_000_000;
+    let wanted = |name: &str| names.is_empty() || names.iter().any(|wanted| wanted == name);
     let kinds = [0, 1, 10, 1000];
-    for (i, &samples) in kinds.iter().enumerate() {
+    for (i, &samples) in kinds.iter().enumerate().filter(|(_, samples)| wanted(&format!("s{samples}"))) {
         let dice = Dice(0x9E3779B97F4A7C15 + i as u64);
         file(format!("{dir}/s{samples}.vcf"), dice, bytes, &[samples], false)?;
     }
-    file(format!("{dir}/mix.vcf"), Dice(0xD1B54A32D192ED03), bytes, &kinds, true)
+    if wanted("mix") {
+        file(format!("{dir}/mix.vcf"), Dice(0xD1B54A32D192ED03), bytes, &kinds, true)?;
+    }
+    Ok(())
 }

@@ -9,7 +9,7 @@ use crate::{Header, Record, io::reader, io::writer::record as writer, probe};
 
 /// A line from the front of `src`, which moves past it: its length, 0 at the end.
 #[inline]
-pub fn read_record(src: &mut &[u8], record: &mut Record) -> io::Result<usize> {
+pub fn read_record(src: &mut impl io::BufRead, record: &mut Record) -> io::Result<usize> {
     reader::record::read_record(src, record)
 }
 
