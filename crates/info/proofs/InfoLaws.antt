@@ -1,130 +1,176 @@
--- A step of the INFO scan: an entry is cut at its first `=`, and each way through a step is a law of the pieces between `;`. Assumes nothing.
-use Prim.Native.Nat.{ℕ, _+_, _-_, _^_, _<_, _≤_}
+-- A step of the INFO scan: the entry is read up to its first `;`, cut at its first `=`, and each answer is a law of the pieces between `;`. Assumes nothing.
+use Prim.Native.Nat.{ℕ, suc, _+_, _-_, _^_, _<_, _≤_}
 use mathlib.Core.Path.{_≡_, refl, sym, ap, _∙_}
-use mathlib.Core.List.{List, [], _∷_}
-use types.Run.{OneOf, miss}
-use denote.Enum.Declared.{tagOf}
+use mathlib.Core.Bool.{Bool, true, false}
+use mathlib.Core.List.{List, [], _∷_, _++_}
 use native.Mathlib.Omega.{arith}
+use native.Mathlib.Decide.{ℕ-discrete}
 use mir.Syntax.{w64}
 use mir.Val.{Fits}
-use lib.ListN.{length, take, drop, length-drop}
+use lib.ListN.{length, getD, take, drop, length-take, length-drop}
+use lib.Seq.{getD-take, getD-drop, drop-drop, take-add, length-take-le}
+use lib.Dec.{eqb}
 use borrow.Author.Tests.{eq-eqb, ne-eqb}
-use Rattle.text.specs.Range.{cut}
+use Rattle.text.specs.Pick.{pick}
+use Rattle.text.specs.Answer.{says}
+use Rattle.text.specs.Range.{rangeAt, cut}
 use Rattle.text.specs.declared.range.Range.{Range}
-use Rattle.text.proofs.Lists.{cut-length}
-use Rattle.text.proofs.PartLaws.{lent-cut}
+use Rattle.text.proofs.Lists.{here, cut-is}
 use Rattle.text.proofs.ByteLaws.{empty-is}
-use Rattle.pieces.specs.Pieces.{stepAnswer as pieceAnswer}
-use Rattle.pieces.specs.Paper.{stepPaper as piecePaper}
-use Rattle.pieces.specs.declared.step.Step.{Step as Piece}
+use Rattle.pieces.specs.Demands.{Free}
+use Rattle.pieces.specs.Inner.{Quiet, quietLength}
 use Rattle.pieces.specs.declared.step.Step.the-variants as P
-use Rattle.pieces.proofs.step.Step.{the-type}
-use Rattle.pieces.proofs.PaperLaws.{step-paper-injective}
-use Rattle.pieces.proofs.PieceLaws.{free-nil, split-whole}
-use Rattle.pieces.proofs.StepLaws.{StepTells, step-tells, finds-beyond}
-use Rattle.info.specs.Info.{Pair, alone, paired, keyOf, pairOf, placesOf, entryAnswer, danglingAnswer, endedAnswer, firstAnswer, stepAnswer}
+use Rattle.pieces.proofs.BlockLaws.{quiet-most, quiet-to}
+use Rattle.pieces.proofs.EitherLaws.{seek-first, seek-turn, seek-past, seek-rest}
+use Rattle.pieces.proofs.PieceLaws.{split-whole, split-append}
+use Rattle.pieces.proofs.StepLaws.{step-tells, finds-last, finds-more}
+use Rattle.info.specs.Info.{Pair, alone, paired, keyOf, pairOf, placesOf, entryAnswer, danglingAnswer, endedAnswer, stepAnswer}
 use Rattle.info.specs.Paper.{valuePlaces, entryPlaces, stepPaper}
-use Rattle.info.specs.Inner.{keyed, keptAnswer, droppedBy, droppedAnswer}
+use Rattle.info.specs.Inner.{Reading, KeyRead, bareAt, entryText, endBy, endOf, ReadsEntry, Drops, Passes}
 use Rattle.info.specs.declared.step.Value.{Value}
 use Rattle.info.specs.declared.step.Value.the-variants as W
 use Rattle.info.specs.declared.step.Entry.{Entry}
-use Rattle.info.specs.declared.step.Step.{Step}
 use Rattle.info.specs.declared.step.Step.the-variants as S
 use Rattle.info.proofs.EntryLaws.{pair-alone, pair-paired, step-beyond, step-end, step-inside, first-last, first-ended, ended-none, ended-some}
 
--- ---- the entry in a range
+-- ---- the key is read
 
-module _ (t : List ℕ) (range : Range) (h : range .start + range .len ≤ length t) (x : Piece)
-    (e : piecePaper x ≡ pieceAnswer 61 (take (range .start + range .len - range .start) (drop (range .start) t)) 0) where
-  lent-tells : (y : Piece) → x ≡ y → StepTells 61 (cut range t) 0 y
-  lent-tells y q = step-tells 61 (cut range t) 0 y (rw (q, lent-cut range t) at e)
+pub read-first : (t : List ℕ) (at : ℕ) → at ≤ length t → Reading t at at
+read-first t at h = record { after = omega arith; within = h; equals = refl; semicolon = refl }
 
-  pub value-within : {key : Range} {next : ℕ} → x ≡ P.More key next → next ≤ range .len
-  value-within {key} {next} q =
-      let f = lent-tells (P.More key next) q in
-      let l = cut-length range t h in
-      omega arith
+module _ {t : List ℕ} {at i : ℕ} (g : Reading t at i) where
+  pub read-turn : i < length t → (getD t i 0 ≡ 61 → ⊥) → (getD t i 0 ≡ 59 → ⊥) → Reading t at (i + 1)
+  read-turn h n m =
+      let a = g .after in
+      record {
+        after = omega arith;
+        within = omega arith;
+        equals = seek-turn {a = 61} {b = 61} (record { same = g .equals }) h n n .same;
+        semicolon = seek-turn {a = 59} {b = 59} (record { same = g .semicolon }) h m m .same;
+      }
 
-  pub value-fits : {key : Range} {next : ℕ} → x ≡ P.More key next → length t < 2 ^ 64 → Fits w64 (range .start + next)
-  value-fits q m = let w = value-within q in omega arith
+  pub key-read : i < length t → getD t i 0 ≡ 61 → KeyRead t at i
+  key-read h e = record { read = g; within = h; is = e }
 
-  pub entry-paired : {key : Range} {next : ℕ} → x ≡ P.More key next
-      → entryPlaces (record { key = record { start = range .start; len = key .len }; value = W.At (record { start = range .start + next; len = range .len - next }) })
-      ≡ placesOf (range .start) (pairOf (cut range t))
-  unfolding entryPlaces valuePlaces placesOf
-  entry-paired {key} {next} q =
-      let f = lent-tells (P.More key next) q in
-      let l = cut-length range t h in
-      let k : length (cut key (cut range t)) ≡ key .len = cut-length key (cut range t) (omega arith) in
-      let v : length (drop next (cut range t)) ≡ range .len - next = length-drop next (cut range t) ∙ ap (λ (n : ℕ). n - next) l in
-      let p : range .start + next ≡ range .start + key .len + 1 = omega arith in
-      rw (pair-paired (cut range t) (drop next (cut range t)) (f .pieces), k, v, p)
+  -- it holds no `=`
+  key-free : Free 61 (take (i - at) (drop at t))
+  key-free =
+      let a = g .after in
+      let w = g .within in
+      let q : Quiet 61 61 t at i = quiet-to (omega arith) a (omega (arith, g .equals)) in
+      record {
+        free = λ k l e.
+            (let m : k < i - at = (let z = length-take (i - at) (drop at t) in omega arith) in
+            q .no-first (at + k) (omega arith) (omega arith) (sym (getD-take (i - at) (drop at t) k 0 m ∙ getD-drop at t k 0) ∙ e));
+      }
 
-  entry-by : (y : Piece) → x ≡ y → OneOf (1 ∷ 2 ∷ 3 ∷ []) (tagOf the-type y) → pairOf (cut range t) ≡ alone (cut range t)
-  entry-by (P.More key next) q o = absurd (miss (1 ∷ 2 ∷ 3 ∷ []) 0 tt o)
-  entry-by (P.Last r) q o = pair-alone (cut range t) (lent-tells (P.Last r) q .pieces)
-  entry-by P.Nothing q o = let z = lent-tells P.Nothing q in empty (cut range t) z
+  key-length : length (take (i - at) (drop at t)) ≡ i - at
+  key-length = let a = g .after in let w = g .within in let l = length-drop at t in length-take-le (i - at) (drop at t) (omega arith)
+
+  -- ---- a key alone
+
+  bare-reads : i ≡ at + quietLength 59 59 (drop at t) → ReadsEntry t at (bareAt at i)
+  unfolding endOf endBy entryPlaces valuePlaces placesOf entryText
+  bare-reads e =
+      let a = g .after in
+      let n : quietLength 59 59 (drop at t) ≡ i - at = omega arith in
+      record {
+        end = omega arith;
+        places = rw (n, pair-alone (take (i - at) (drop at t)) (split-whole _ key-free), key-length);
+      }
+
+  pub bare-mark : {r : Entry} → i < length t → getD t i 0 ≡ 59 → r ≡ bareAt at i → ReadsEntry t at r
+  bare-mark h e q = rw q (bare-reads (seek-first {a = 59} {b = 59} (record { same = g .semicolon }) h e))
+
+  pub bare-end : {r : Entry} → length t ≤ i → r ≡ bareAt at i → ReadsEntry t at r
+  bare-end h q = rw q (bare-reads (seek-past {a = 59} {b = 59} (record { same = g .semicolon }) h))
+
+-- ---- a key and a value
+
+module _ {t : List ℕ} {at equals : ℕ} (g : KeyRead t at equals) where
+  pub value-reads : {end : ℕ} → end ≡ equals + 1 + quietLength 59 59 (drop (equals + 1) t)
+      → ReadsEntry t at (record { key = record { start = at; len = equals - at }; value = W.At (record { start = equals + 1; len = end - (equals + 1) }) })
+  unfolding endOf endBy entryPlaces valuePlaces placesOf entryText
+  value-reads {end} e =
+      let a = g .read .after in
+      let w = g .within in
+      let n : getD t equals 0 ≡ 59 → ⊥ = (λ z. (let y = g .is in omega arith)) in
+      let s : end ≡ at + quietLength 59 59 (drop at t) = seek-rest {a = 59} {b = 59} (seek-turn (record { same = g .read .semicolon }) w n n) e in
+      let m : quietLength 59 59 (drop at t) ≡ (equals - at) + suc (end - (equals + 1)) = omega arith in
+      let d : at + (equals - at) ≡ equals = omega arith in
+      let k = take (equals - at) (drop at t) in
+      let v = take (end - (equals + 1)) (drop (equals + 1) t) in
+      let c : take (quietLength 59 59 (drop at t)) (drop at t) ≡ k ++ 61 ∷ v = rw (m, take-add, drop-drop, d, here t equals w, g .is) in
+      let l = key-length (g .read) in
+      let f : length v ≡ end - (equals + 1) = (let y = quiet-most 59 59 (drop (equals + 1) t) in let x = length-drop (equals + 1) t in length-take-le (end - (equals + 1)) (drop (equals + 1) t) (omega arith)) in
+      let p : at + (equals - at) + 1 ≡ equals + 1 = omega arith in
+      record {
+        end = omega arith;
+        places = rw (c, pair-paired (k ++ 61 ∷ v) v (split-append k v (key-free (g .read))), l, f, p);
+      }
+
+-- ---- where it ends
+
+module _ (e : Entry) (v : e .value ≡ W.Absent) where
+  pub end-bare : e .key .start + e .key .len ≡ endOf e
+  unfolding endOf endBy
+  end-bare = rw v
+
+  pub bare-fits : endOf e < 2 ^ 64 → Fits w64 (e .key .start + e .key .len)
+  bare-fits h = omega (arith, end-bare)
+
+module _ (e : Entry) {r : Range} (v : e .value ≡ W.At r) where
+  pub end-valued : r .start + r .len ≡ endOf e
+  unfolding endOf endBy
+  end-valued = rw v
+
+  pub valued-fits : endOf e < 2 ^ 64 → Fits w64 (r .start + r .len)
+  valued-fits h = omega (arith, end-valued)
+
+pub passes-none : {end left : ℕ} → left ≡ 0 → Passes end left end
+passes-none z = record { none = λ y. refl; some = λ n. absurd (n z) }
+
+pub passes-some : {end left : ℕ} → (left ≡ 0 → ⊥) → Passes end left (end + 1)
+passes-some n = record { none = λ z. absurd (n z); some = λ y. refl }
+
+-- ---- whether it is a key alone before one byte
+
+pub drops-bare : {e : Entry} {left : ℕ} → left ≡ 1 → e .value ≡ W.Absent → Drops e left true
+drops-bare h v = record { yes = λ z. (h, v); no = λ z. absurd (let y : _≡_ {A = ℕ} 0 1 = cc in omega arith) }
+
+pub drops-valued : {e : Entry} {left : ℕ} {r : Range} → e .value ≡ W.At r → Drops e left false
+drops-valued v = record { yes = λ z. absurd (let y : _≡_ {A = ℕ} 0 1 = cc in omega arith); no = λ z h w. (let y : _≡_ {A = ℕ} 0 1 = cc in omega arith) }
+
+pub drops-far : {e : Entry} {left : ℕ} → (left ≡ 1 → ⊥) → Drops e left false
+drops-far n = record { yes = λ z. absurd (let y : _≡_ {A = ℕ} 0 1 = cc in omega arith); no = λ z h w. n h }
+
+-- ---- an entry with the places of a pair
+
+module _ (e : Entry) (at : ℕ) where
+  key-size : (p : Pair) → entryPlaces e ≡ placesOf at p → e .key .len ≡ length (keyOf p)
+  unfolding entryPlaces placesOf
+  key-size (alone k) q = cc
+  key-size (paired k v) q = cc
+
+  bare-dangles : (p : Pair) (end : ℕ) → entryPlaces e ≡ placesOf at p → e .value ≡ W.Absent → danglingAnswer at p end ≡ says 7 (end ∷ [])
+  unfolding entryPlaces valuePlaces placesOf danglingAnswer
+  bare-dangles (alone k) end q v = refl
+  bare-dangles (paired k w) end q v = absurd (let g = rw v at q in let z : _≡_ {A = ℕ} 0 1 = cc in omega arith)
+
+  value-dangles : (p : Pair) (end : ℕ) → entryPlaces e ≡ placesOf at p → (e .value ≡ W.Absent → ⊥)
+      → danglingAnswer at p end ≡ pick (eqb (e .key .len) 0) (says 8 ((at + 1) ∷ [])) (says 9 (end ∷ []))
+  unfolding entryPlaces valuePlaces placesOf danglingAnswer
+  value-dangles (alone k) end q n = absurd (by (e .value) refl)
     where
-      empty : (s : List ℕ) → length s ≡ 0 → pairOf s ≡ alone s
-      empty [] z = pair-alone [] (split-whole [] free-nil)
-      empty (b ∷ s) z = absurd (omega arith)
-  entry-by P.Beyond q o = let z = lent-tells P.Beyond q in absurd (omega arith)
+      by : (v : Value) → e .value ≡ v → ⊥
+      by W.Absent f = n f
+      by (W.At r) f = let g = rw f at q in let z : _≡_ {A = ℕ} 0 1 = cc in omega arith
+  value-dangles (paired k v) end q n = rw (key-size (paired k v) q, empty-is k)
 
-  -- no `=`: each answer but `More`
-  pub entry-alone : OneOf (1 ∷ 2 ∷ 3 ∷ []) (tagOf the-type x) → entryPlaces (record { key = range; value = W.Absent }) ≡ placesOf (range .start) (pairOf (cut range t))
-  unfolding entryPlaces valuePlaces placesOf
-  entry-alone o = rw (entry-by x refl o, cut-length range t h)
-
--- ---- an entry judged
-
-pub keeps-empty : (e : Entry) (next : ℕ) → e .key .len ≡ 0 → stepPaper (S.NoKey (e .key .start + 1)) ≡ keptAnswer e next
-unfolding stepPaper keptAnswer keyed
-keeps-empty e next h = rw (eq-eqb _ 0 h)
-
-pub keeps : (e : Entry) (next : ℕ) → (e .key .len ≡ 0 → ⊥) → stepPaper (S.Found e next) ≡ keptAnswer e next
-unfolding stepPaper keptAnswer keyed
-keeps e next h = rw (ne-eqb _ 0 h)
-
-pub drops-absent : (e : Entry) (end : ℕ) → e .value ≡ W.Absent → stepPaper (S.AfterKey end) ≡ droppedAnswer e end
-unfolding stepPaper droppedAnswer droppedBy
-drops-absent e end v = rw v
-
-module _ (e : Entry) (end : ℕ) {r : Range} (v : e .value ≡ W.At r) where
-  pub drops-empty : e .key .len ≡ 0 → stepPaper (S.NoKey (e .key .start + 1)) ≡ droppedAnswer e end
-  unfolding stepPaper droppedAnswer droppedBy keyed
-  drops-empty h = rw (v, eq-eqb _ 0 h)
-
-  pub drops-value : (e .key .len ≡ 0 → ⊥) → stepPaper (S.AfterValue end) ≡ droppedAnswer e end
-  unfolding stepPaper droppedAnswer droppedBy keyed
-  drops-value h = rw (v, ne-eqb _ 0 h)
-
--- what an entry with the places of a pair tells
-pub record Spells (e : Entry) (at : ℕ) (p : Pair) : Type 0 where
-  pub start : e .key .start ≡ at
-  pub size : e .key .len ≡ length (keyOf p)
-  pub places : entryPlaces e ≡ placesOf at p
-
-pub spells : (e : Entry) (at : ℕ) (p : Pair) → entryPlaces e ≡ placesOf at p → Spells e at p
-unfolding entryPlaces placesOf
-spells e at (alone k) q = record { start = cc; size = cc; places = q }
-spells e at (paired k v) q = record { start = cc; size = cc; places = q }
-
-pub kept-is : (e : Entry) (at : ℕ) (p : Pair) (next : ℕ) → entryPlaces e ≡ placesOf at p → keptAnswer e next ≡ entryAnswer at p next
-unfolding keptAnswer keyed entryAnswer
-kept-is e at p next q = let s = spells e at p q in rw (q, s .start, s .size, empty-is (keyOf p))
-
-pub dropped-is : (e : Entry) (at : ℕ) (p : Pair) (end : ℕ) → entryPlaces e ≡ placesOf at p → droppedAnswer e end ≡ danglingAnswer at p end
-unfolding droppedAnswer droppedBy keyed danglingAnswer entryPlaces valuePlaces placesOf
-dropped-is e at (alone k) end q = by (e .value) refl
-  where
-    by : (v : Value) → e .value ≡ v → droppedBy v e end ≡ danglingAnswer at (alone k) end
-    by W.Absent f = refl
-    by (W.At r) f = absurd (let g = rw f at q in let z : _≡_ {A = ℕ} 0 1 = cc in omega arith)
-dropped-is e at (paired k v) end q = by (e .value) refl
-  where
-    by : (w : Value) → e .value ≡ w → droppedBy w e end ≡ danglingAnswer at (paired k v) end
-    by W.Absent f = absurd (let g = rw f at q in let z : _≡_ {A = ℕ} 0 1 = cc in omega arith)
-    by (W.At r) f = let s = spells e at (paired k v) q in rw (s .start, s .size, empty-is k)
+  entry-judged : (p : Pair) (next : ℕ) → entryPlaces e ≡ placesOf at p
+      → entryAnswer at p next ≡ pick (eqb (e .key .len) 0) (says 8 ((at + 1) ∷ [])) (says 0 (next ∷ entryPlaces e))
+  unfolding entryAnswer
+  entry-judged p next q = rw (q, key-size p q, empty-is (keyOf p))
 
 -- ---- each way through a step
 
@@ -132,65 +178,85 @@ pub finds-end : (t : List ℕ) (at : ℕ) → at ≡ length t → stepPaper (S.N
 unfolding stepPaper
 finds-end t at h = sym (step-end t at h)
 
-module _ (t : List ℕ) (at : ℕ) (x : Piece) (e : piecePaper x ≡ pieceAnswer 59 t at) where
-  tells : (y : Piece) → x ≡ y → StepTells 59 t at y
-  tells y q = step-tells 59 t at y (rw q at e)
+pub finds-beyond : (t : List ℕ) (at : ℕ) → length t ≤ at → (at ≡ length t → ⊥) → stepPaper (S.Beyond at) ≡ stepAnswer t at
+unfolding stepPaper
+finds-beyond t at h n = sym (step-beyond t at (omega arith))
 
-  module _ {r : Range} {next : ℕ} (q : x ≡ P.More r next) where
-    pub more-within : r .start + r .len ≤ length t
-    more-within = let f = tells (P.More r next) q in omega arith
+abbrev pairAt : List ℕ → ℕ → Pair
+pairAt t at = pairOf (entryText t at)
 
-    more-answer : stepAnswer t at ≡ endedAnswer (r .start) (pairOf (cut r t)) next (drop next t)
-    more-answer =
-        let f = tells (P.More r next) q in
-        let l = cut-length r t more-within in
-        let n : at + length (cut r t) + 1 ≡ next = omega arith in
-        step-inside t at (omega arith)
-        ∙ ap (firstAnswer at) (f .pieces)
-        ∙ first-ended at (cut r t) (drop next t)
-        ∙ ap (λ (k : ℕ). endedAnswer at (pairOf (cut r t)) k (drop next t)) n
-        ∙ ap (λ (k : ℕ). endedAnswer k (pairOf (cut r t)) next (drop next t)) (sym (f .start))
+module _ {t : List ℕ} {at : ℕ} {e : Entry} (h : at < length t) (g : ReadsEntry t at e) where
+  pub end-within : {end : ℕ} → end ≡ endOf e → end ≤ length t
+  end-within q = let m = quiet-most 59 59 (drop at t) in let l = length-drop at t in omega (arith, g .end)
 
-    module _ (en : Entry) (p : entryPlaces en ≡ placesOf (r .start) (pairOf (cut r t))) where
-      pub more-past : en .key .start + 1 ≤ next
-      more-past = let f = tells (P.More r next) q in let s = spells en (r .start) (pairOf (cut r t)) p in omega arith
+  pub end-fits : length t < 2 ^ 64 → endOf e < 2 ^ 64
+  end-fits m = let w = end-within refl in omega arith
 
-      pub more-dropped : (y : Step) → next ≡ length t → stepPaper y ≡ droppedAnswer en next → stepPaper y ≡ stepAnswer t at
-      more-dropped y h d = d ∙ dropped-is en (r .start) (pairOf (cut r t)) next p ∙ sym (more-answer ∙ ended-none (r .start) (pairOf (cut r t)) next (drop next t) (simp length-drop (omega arith)))
+  text-is : (n : ℕ) → n ≡ quietLength 59 59 (drop at t) → cut (rangeAt at n) t ≡ entryText t at
+  unfolding entryText
+  text-is n q = cut-is at n t ∙ rw q
 
-      pub more-kept : (y : Step) → (next ≡ length t → ⊥) → stepPaper y ≡ keptAnswer en next → stepPaper y ≡ stepAnswer t at
-      more-kept y h d =
-          let f = tells (P.More r next) q in
-          d ∙ kept-is en (r .start) (pairOf (cut r t)) next p ∙ sym (more-answer ∙ ended-some (r .start) (pairOf (cut r t)) next (drop next t) (simp length-drop (omega arith)))
+  text-length : length (entryText t at) ≡ endOf e - at
+  unfolding entryText
+  text-length = let q = g .end in length-take-le (quietLength 59 59 (drop at t)) (drop at t) (quiet-most 59 59 (drop at t)) ∙ omega arith
 
-  module _ {r : Range} (q : x ≡ P.Last r) where
-    pub last-within : r .start + r .len ≤ length t
-    last-within = let f = tells (P.Last r) q in omega arith
+  -- the column's end ends it
+  answer-last : endOf e ≡ length t → stepAnswer t at ≡ entryAnswer at (pairAt t at) (endOf e)
+  answer-last z =
+      let q = g .end in
+      let l = text-length in
+      let f = step-tells 59 t at (P.Last (rangeAt at (endOf e - at))) (finds-last 59 t at (omega arith) (λ y. omega arith) (g .end) z) in
+      let x : at + length (entryText t at) ≡ endOf e = omega arith in
+      step-inside t at h ∙ rw (f .pieces, text-is (endOf e - at) (omega arith), first-last, x)
 
-    module _ (n : at ≡ length t → ⊥) (en : Entry) (p : entryPlaces en ≡ placesOf (r .start) (pairOf (cut r t))) where
-      pub last-past : en .key .start + 1 ≤ length t
-      last-past = let f = tells (P.Last r) q in let s = spells en (r .start) (pairOf (cut r t)) p in omega arith
+  -- a `;` ends it
+  answer-more : (endOf e ≡ length t → ⊥) → stepAnswer t at ≡ endedAnswer at (pairAt t at) (endOf e + 1) (drop (endOf e + 1) t)
+  answer-more z =
+      let q = g .end in
+      let l = text-length in
+      let f = step-tells 59 t at (P.More (rangeAt at (endOf e - at)) (endOf e + 1)) (finds-more 59 t at (omega arith) (λ y. omega arith) (g .end) z) in
+      let x : at + length (entryText t at) + 1 ≡ endOf e + 1 = omega arith in
+      step-inside t at h ∙ rw (f .pieces, text-is (endOf e - at) (omega arith), first-ended, x)
 
-      pub last-kept : (y : Step) → stepPaper y ≡ keptAnswer en (length t) → stepPaper y ≡ stepAnswer t at
-      last-kept y d =
-          let f = tells (P.Last r) q in
-          let l = cut-length r t last-within in
-          let m : at + length (cut r t) ≡ length t = omega arith in
-          d
-          ∙ kept-is en (r .start) (pairOf (cut r t)) (length t) p
-          ∙ ap (λ (k : ℕ). entryAnswer k (pairOf (cut r t)) (length t)) (f .start)
-          ∙ ap (entryAnswer at (pairOf (cut r t))) (sym m)
-          ∙ sym (step-inside t at (omega arith) ∙ ap (firstAnswer at) (f .pieces) ∙ first-last at (cut r t))
+  module _ {end : ℕ} (q : end ≡ endOf e) where
+    -- one byte is left
+    answer-dropped : length t - end ≡ 1 → stepAnswer t at ≡ danglingAnswer at (pairAt t at) (length t)
+    answer-dropped o =
+        let x : endOf e + 1 ≡ length t = omega arith in
+        answer-more (λ z. omega arith) ∙ rw x (ended-none at (pairAt t at) (length t) (drop (length t) t) (simp length-drop (omega arith)))
 
-  pub past-beyond : x ≡ P.Beyond → stepPaper (S.Beyond at) ≡ stepAnswer t at
-  unfolding stepPaper
-  past-beyond q = sym (step-beyond t at (tells P.Beyond q))
+    answer-kept : {next : ℕ} → (length t - end ≡ 1 → ⊥) → Passes end (length t - end) next → stepAnswer t at ≡ entryAnswer at (pairAt t at) next
+    answer-kept {next} n p = by (ℕ-discrete (endOf e) (length t))
+      where
+        by : Dec (endOf e ≡ length t) → stepAnswer t at ≡ entryAnswer at (pairAt t at) next
+        by (yes z) = answer-last z ∙ ap (entryAnswer at (pairAt t at)) (let y = p .none (omega arith) in omega arith)
+        by (no z) =
+            let w = end-within refl in
+            let y = p .some (λ d. omega arith) in
+            answer-more z ∙ ended-some at (pairAt t at) (endOf e + 1) (drop (endOf e + 1) t) (simp length-drop (omega arith)) ∙ ap (entryAnswer at (pairAt t at)) (omega arith)
 
-  -- a text without a piece is empty, and has no other place
-  pub past-nothing : (at ≡ length t → ⊥) → x ≡ P.Nothing → stepPaper (S.Nothing at) ≡ stepAnswer t at
-  past-nothing n q =
-      let z = tells P.Nothing q in
-      let w : P.Nothing ≡ P.Beyond = step-paper-injective P.Nothing P.Beyond (rw q at e ∙ sym (finds-beyond 59 t at (omega arith))) in
-      cc
+    pub says-seven : {r : Bool} → Drops e (length t - end) r → r ≡ true → stepPaper (S.AfterKey (length t)) ≡ stepAnswer t at
+    unfolding stepPaper
+    says-seven d y = sym (answer-dropped (d .yes y .0) ∙ bare-dangles e at (pairAt t at) (length t) (g .places) (d .yes y .1))
 
-pub ruleset laws = (value-within, value-fits, entry-paired, entry-alone, keeps-empty, keeps, drops-absent, drops-empty, drops-value, finds-end, more-within, more-past, more-dropped, more-kept, last-within, last-past, last-kept, past-beyond, past-nothing)
+    pub says-eight : {r : Bool} → Drops e (length t - end) r → r ≡ false → e .key .len ≡ 0 → stepPaper (S.NoKey (at + 1)) ≡ stepAnswer t at
+    unfolding stepPaper
+    says-eight d y z = by (ℕ-discrete (length t - end) 1)
+      where
+        kept : (length t - end ≡ 1 → ⊥) → {next : ℕ} → Passes end (length t - end) next → says 8 ((at + 1) ∷ []) ≡ stepAnswer t at
+        kept n {next} p = sym (answer-kept n p ∙ entry-judged e at (pairAt t at) next (g .places) ∙ rw (eq-eqb _ _ z))
+
+        by : Dec (length t - end ≡ 1) → says 8 ((at + 1) ∷ []) ≡ stepAnswer t at
+        by (yes o) = sym (answer-dropped o ∙ value-dangles e at (pairAt t at) (length t) (g .places) (d .no y o) ∙ rw (eq-eqb _ _ z))
+        by (no n) = elim (ℕ-discrete (length t - end) 0) [ yes o ↦ kept n (passes-none o) | no m ↦ kept n (passes-some m) ]
+
+    module _ (k : e .key .len ≡ 0 → ⊥) where
+      pub says-nine : {r : Bool} → Drops e (length t - end) r → r ≡ false → length t - end ≡ 1 → stepPaper (S.AfterValue (length t)) ≡ stepAnswer t at
+      unfolding stepPaper
+      says-nine d y o = sym (answer-dropped o ∙ value-dangles e at (pairAt t at) (length t) (g .places) (d .no y o) ∙ rw (ne-eqb _ _ k))
+
+      pub says-entry : {next : ℕ} → (length t - end ≡ 1 → ⊥) → Passes end (length t - end) next → stepPaper (S.Found e next) ≡ stepAnswer t at
+      unfolding stepPaper
+      says-entry {next} n p = sym (answer-kept n p ∙ entry-judged e at (pairAt t at) next (g .places) ∙ rw (ne-eqb _ _ k))
+
+pub ruleset laws = (read-first, read-turn, key-read, bare-mark, bare-end, value-reads, end-bare, bare-fits, end-valued, valued-fits, passes-none, passes-some, drops-bare, drops-valued, drops-far, finds-end, finds-beyond, end-within, end-fits, says-seven, says-eight, says-nine, says-entry)

@@ -1,16 +1,13 @@
 // The entry that stands at a place of an INFO column.
-use pieces::step;
-use pieces::step::piece_at;
+use pieces::either::find_either;
 use text::range::Range;
 ghost use mathlib.Core.Path.{_≡_};
-ghost use Prim.Native.Nat.{_≤_, _+_};
+ghost use Prim.Native.Nat.{_+_, _≤_, _<_, _^_};
 ghost use lib.ListN.{length};
-ghost use Rattle.text.specs.Range.{cut};
-ghost use Rattle.info.specs.Info.{placesOf, pairOf};
-ghost use Rattle.info.specs.Paper.{entryPlaces, stepPaper};
+ghost use Rattle.info.specs.Paper.{stepPaper};
 ghost use Rattle.info.specs.Told.{Tells};
 ghost use Rattle.info.specs.Promises.{TakesStep};
-ghost use Rattle.info.specs.Inner.{keptAnswer, droppedAnswer};
+ghost use Rattle.info.specs.Inner.{endOf, bareAt, KeyRead, ReadsEntry, Drops, Passes};
 
 // An entry's value, which stands after its first `=`.
 pub enum Value {
@@ -58,79 +55,121 @@ pub fn tell(step: Step) -> Told
     }
 }
 
-// The entry whose text the range cuts out of the column.
-fn entry_in(column: &[u8], range: Range) -> Entry
-    requires { ⌜ range .start + range .len ≤ length (now column) ⌝ }
-    ensures { λ r. ⌜ entryPlaces r ≡ placesOf (range .start) (pairOf (cut range (now (column .entry)))) ⌝ }
+// A key alone.
+fn bare(at: usize, end: usize) -> Entry
+    requires { ⌜ at ≤ end ⌝ }
+    ensures { λ r. ⌜ r ≡ bareAt at end ⌝ }
 {
-    let start = range.start;
-    let end = start + range.len;
-    match piece_at(&column[start..end], b'=', 0) {
-        step::Step::More(key, next) => Entry {
-            key: Range {
-                start,
-                len: key.len,
-            },
-            value: Value::At(Range {
-                start: start + next,
-                len: range.len - next,
-            }),
+    Entry {
+        key: Range {
+            start: at,
+            len: end - at,
         },
-        // No `=`: the whole is the key.
-        _ => Entry {
-            key: range,
-            value: Value::Absent,
-        },
+        value: Value::Absent,
     }
 }
 
-// An entry that another follows, or that the column's end ends.
-fn kept(entry: Entry, next: usize) -> Step
-    requires { ⌜ entry .key .start + 1 ≤ next ⌝ }
-    ensures { λ r. ⌜ stepPaper r ≡ keptAnswer entry next ⌝ }
+// A key that ends before the `=` at the place `equals`, and its value, which ends at the first `;`, or at the column's end.
+fn valued(column: &[u8], at: usize, equals: usize) -> Entry
+    requires { ⌜ KeyRead (now column) at equals ⌝ }
+    ensures { λ r. ⌜ ReadsEntry (now (column .entry)) at r ⌝ }
 {
-    if entry.key.len == 0 {
-        return Step::NoKey(entry.key.start + 1);
+    let start = equals + 1;
+    let end = find_either(column, b';', b';', start);
+    Entry {
+        key: Range {
+            start: at,
+            len: equals - at,
+        },
+        value: Value::At(Range {
+            start,
+            len: end - start,
+        }),
     }
-    Step::Found(entry, next)
 }
 
-// An entry whose `;` is the last byte. 7 is judged before 8.
-fn dropped(entry: Entry, end: usize) -> Step
-    requires { ⌜ entry .key .start + 1 ≤ end ⌝ }
-    ensures { λ r. ⌜ stepPaper r ≡ droppedAnswer entry end ⌝ }
+// The entry that starts at the place `at`. Its key ends at the first `=` or `;`, or at the column's end.
+fn entry_from(column: &[u8], at: usize) -> Entry
+    requires { ⌜ at ≤ length (now column) ⌝ }
+    ensures { λ r. ⌜ ReadsEntry (now (column .entry)) at r ⌝ }
+{
+    let mut i = at;
+    while i < column.len() {
+        let b = column[i];
+        if b == b'=' {
+            return valued(column, at, i);
+        }
+        if b == b';' {
+            return bare(at, i);
+        }
+        i += 1;
+    }
+    bare(at, i)
+}
+
+// Where an entry ends.
+fn end_of(entry: Entry) -> usize
+    requires { ⌜ endOf entry < 2 ^ 64 ⌝ }
+    ensures { λ r. ⌜ r ≡ endOf entry ⌝ }
 {
     let value = entry.value;
-    if let Value::Absent = value {
-        return Step::AfterKey(end);
+    match value {
+        Value::Absent => entry.key.start + entry.key.len,
+        Value::At(range) => range.start + range.len,
     }
-    if entry.key.len == 0 {
-        return Step::NoKey(entry.key.start + 1);
+}
+
+// Whether it is a key alone, with one byte left behind it.
+fn is_dropped(entry: Entry, left: usize) -> bool
+    ensures { λ r. ⌜ Drops entry left r ⌝ }
+{
+    if left == 1 {
+        let value = entry.value;
+        match value {
+            Value::Absent => true,
+            Value::At(_) => false,
+        }
+    } else {
+        false
     }
-    Step::AfterValue(end)
+}
+
+// The place past the `;` at the place `end`; where nothing is left, that place.
+fn past(end: usize, left: usize) -> usize
+    requires { ⌜ end + left < 2 ^ 64 ⌝ }
+    ensures { λ r. ⌜ Passes end left r ⌝ }
+{
+    if left == 0 { end } else { end + 1 }
+}
+
+// What is answered for an entry that starts at the place `at`. 7 is judged before 8.
+fn judged(column: &[u8], at: usize, entry: Entry) -> Step
+    requires { ⌜ at < length (now column) ⌝ }
+    requires { ⌜ ReadsEntry (now column) at entry ⌝ }
+    ensures { λ r. ⌜ TakesStep (now (column .entry)) at r ⌝ }
+{
+    let end = end_of(entry);
+    let left = column.len() - end;
+    if is_dropped(entry, left) {
+        Step::AfterKey(column.len())
+    } else if entry.key.len == 0 {
+        Step::NoKey(at + 1)
+    } else if left == 1 {
+        Step::AfterValue(column.len())
+    } else {
+        Step::Found(entry, past(end, left))
+    }
 }
 
 // The entry that starts at the place `at`.
 pub fn step_at(column: &[u8], at: usize) -> Step
     ensures { λ r. ⌜ TakesStep (now (column .entry)) at r ⌝ }
 {
-    if at == column.len() {
-        return Step::Nothing(at);
-    }
-    match piece_at(column, b';', at) {
-        step::Step::More(range, next) => {
-            let entry = entry_in(column, range);
-            if next == column.len() {
-                return dropped(entry, next);
-            }
-            kept(entry, next)
-        }
-        step::Step::Last(range) => {
-            let entry = entry_in(column, range);
-            kept(entry, column.len())
-        }
-        step::Step::Beyond => Step::Beyond(at),
-        // Not reached: a column that has another place is not empty.
-        step::Step::Nothing => Step::Nothing(at),
+    if at < column.len() {
+        judged(column, at, entry_from(column, at))
+    } else if at == column.len() {
+        Step::Nothing(at)
+    } else {
+        Step::Beyond(at)
     }
 }
