@@ -29,14 +29,14 @@ use Rattle.join.specs.Demands.{IsLine, Bad, no-column, lost, Fault, bad,
 -- ---- one column
 
 module _ (c : List ℕ) where
-  bad-column : isBad c ≡ false → Column c
+  pub bad-column : isBad c ≡ false → Column c
   unfolding isBad
   bad-column h =
       let p = or-none (isEmpty c) _ h in
       let q = or-none (not (lacks 9 c)) _ (p .1) in
       record { some = empty-some c (p .0); no-tab = lacks-free c (not-false _ (q .0)); no-feed = lacks-free c (not-false _ (q .1)) }
 
-  column-bad : Column c → isBad c ≡ false
+  pub column-bad : Column c → isBad c ≡ false
   unfolding isBad
   column-bad g = rw (some-empty c (g .some), free-lacks c (g .no-tab), free-lacks c (g .no-feed))
 

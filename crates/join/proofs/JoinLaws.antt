@@ -4,7 +4,7 @@ use mathlib.Core.Path.{_≡_, refl, sym, _∙_}
 use mathlib.Core.Bool.{Bool, true, false, _&&_, _||_, not, false≢true}
 use mathlib.Core.List.{List, [], _∷_}
 use native.Mathlib.Omega.{arith}
-use native.Mathlib.Decide.{decLe}
+use native.Mathlib.Decide.{decLe, decLt}
 use types.Run.{OneOf, miss}
 use denote.Enum.Declared.{tagOf}
 use mir.Syntax.{w64}
@@ -22,7 +22,7 @@ use Rattle.text.specs.Utf8.{isUtf8, utf8Answer}
 use Rattle.text.specs.Paper.{utf8Paper}
 use Rattle.text.specs.declared.utf8.Utf8.{Utf8}
 use Rattle.text.specs.declared.utf8.Utf8.the-variants as U
-use Rattle.text.proofs.ByteLaws.{none-empty, some-empty, ends-none, ends-at}
+use Rattle.text.proofs.ByteLaws.{none-empty, ends-none, ends-at}
 use Rattle.text.proofs.CharLaws.{told-text, told-broken}
 use Rattle.text.proofs.CopyLaws.{room-sized, writes-fits}
 use Rattle.text.proofs.Lists.{rest-all, length-rest, rest-put, over-nil, overAt-append, length-overAt}
@@ -33,46 +33,52 @@ use Rattle.line.specs.Paper.{endingOf}
 use Rattle.line.specs.declared.ending.Ending.{Ending as DeclaredEnding}
 use Rattle.line.specs.declared.ending.Ending.the-variants as E
 use Rattle.line.proofs.ColumnLaws.{required-count, count-required, nothing-bytes, feed-bytes, return-feed-bytes}
-use Rattle.pieces.specs.Pieces.{countOf, lacks, joined}
+use Rattle.pieces.specs.Pieces.{joined}
 use Rattle.pieces.specs.Entries.{rising, entryList}
-use Rattle.pieces.specs.Inner.{endsAnswer, startOf, JoinsList}
+use Rattle.pieces.specs.Inner.{endsAnswer, startOf, quietLength, Quiet}
 use Rattle.pieces.specs.Paper.{endsPaper}
 use Rattle.pieces.specs.declared.entries.Ends.{Ends}
 use Rattle.pieces.specs.declared.entries.Ends.the-variants as N
-use Rattle.pieces.specs.declared.joined.Joined.{Joined as Put}
-use Rattle.pieces.proofs.CountLaws.{lacks-yes, lacks-no}
+use Rattle.pieces.proofs.EitherLaws.{either-quiet, either-second}
 use Rattle.pieces.proofs.EntryLaws.{start-later, entries-length, entry-here, entry-past, ends-tell}
-use Rattle.pieces.proofs.JoinedLaws.{list-length, joined-fits}
+use Rattle.pieces.proofs.JoinedLaws.{list-length}
 use Rattle.join.specs.Join.{isBad, losesReturn, columnJudged, columnsJudged, lineText, columnsAnswer, listAnswer, joinAnswer, JoinsAt}
+use Rattle.join.specs.Inner.{Fine}
 use Rattle.join.specs.Paper.{joinedPaper}
 use Rattle.join.specs.declared.columns.Joined.{Joined}
 use Rattle.join.specs.declared.columns.Joined.the-variants as J
 use Rattle.join.proofs.columns.Joined.{the-type}
-use Rattle.join.proofs.FaultLaws.{isLast, judged-cons, Done, columns-done}
+use Rattle.join.proofs.FaultLaws.{bad-column, column-bad, isLast, judged-cons, Done, columns-done}
 
 -- ---- one column
-
--- a byte stands in a text where it is counted at least once
-pub count-held : (b : ℕ) (s : List ℕ) {n : ℕ} → n ≡ countOf b s → ltb 0 n ≡ not (lacks b s)
-count-held b s {n} e = by (decLe n 0)
-  where
-    by : Dec (n ≤ 0) → ltb 0 n ≡ not (lacks b s)
-    by (yes h) = rw (lacks-yes b s e h) (le-ltb 0 n h)
-    by (no h) = rw (lacks-no b s e (omega arith)) (lt-ltb 0 n (omega arith))
 
 module _ (c : List ℕ) where
   pub bad-empty : length c ≡ 0 → true ≡ isBad c
   unfolding isBad
   bad-empty h = rw (none-empty c h)
 
-  module _ {t : Bool} (h : length c ≡ 0 → ⊥) (e : t ≡ not (lacks 9 c)) where
-    pub bad-tab : t ≡ true → true ≡ isBad c
-    unfolding isBad
-    bad-tab y = rw (some-empty c (omega arith), ← e, y)
+  -- a column that is not empty is bad where the search for a tab or an LF ends before its end
+  pub bad-found : {r : ℕ} → (length c ≡ 0 → ⊥) → r ≡ 0 + quietLength 9 10 (drop 0 c) → ltb r (length c) ≡ isBad c
+  bad-found {r} h e = by (decLt r (length c))
+    where
+      quiet : Quiet 9 10 c 0 r
+      quiet = either-quiet 9 10 c 0 (omega arith) e
 
-    pub bad-feed : {u : Bool} → t ≡ false → u ≡ not (lacks 10 c) → u ≡ isBad c
-    unfolding isBad
-    bad-feed n f = rw (some-empty c (omega arith), ← e, n) f
+      struck : r < length c → (b : Bool) → isBad c ≡ b → b ≡ true
+      struck l true q = refl
+      struck l false q =
+          let g = bad-column c q in
+          absurd (g .no-feed .free r l (either-second 9 10 c 0 (omega arith) e l (g .no-tab .free r l)))
+
+      by : Dec (r < length c) → ltb r (length c) ≡ isBad c
+      by (yes l) = lt-ltb r (length c) l ∙ sym (struck l (isBad c) refl)
+      by (no l) =
+          le-ltb r (length c) (omega arith)
+          ∙ sym (column-bad c (record {
+            some = omega arith;
+            no-tab = record { free = λ k m. quiet .no-first k (omega arith) (omega arith) };
+            no-feed = record { free = λ k m. quiet .no-second k (omega arith) (omega arith) };
+          }))
 
   pub return-not : length c ≡ 0 → false ≡ endsIn 13 c
   return-not h = sym (ends-none 13 c h)
@@ -221,6 +227,11 @@ line-length t ends e r s =
 
 -- ---- the answer after the columns
 
+module _ (t ends : List ℕ) (e : Ending) (l : List ℕ) (r : rising 0 ends (length t) ≡ true) (s : 0 < length ends) (f : columnsJudged 0 (entryList t ends) e ≡ fine) where
+  all-room : (x : Joined) {end : ℕ} → end ≡ startOf ends (length ends) → joinedPaper x ≡ roomFor (end + (length ends - 1) + length (endingBytes e)) (length l)
+      → joinedPaper x ≡ judgedAnswer t ends e l
+  all-room x {end} q g = let n = line-length t ends e r s in g ∙ rw f (room-sized (lineText (entryList t ends) e) l (omega arith))
+
 module _ {t ends : List ℕ} {e : Ending} {i : ℕ} (l : List ℕ) (g : Judging t ends e i) (r : rising 0 ends (length t) ≡ true) (s : 0 < length ends) (h : length ends ≤ i) where
   all-fine : columnsJudged 0 (entryList t ends) e ≡ fine
   unfolding columnsJudged
@@ -232,11 +243,22 @@ module _ {t ends : List ℕ} {e : Ending} {i : ℕ} (l : List ℕ) (g : Judging 
   pub judge-room : (x : Joined) {end : ℕ} → end ≡ startOf ends (length ends) → joinedPaper x ≡ roomFor (end + (i - 1) + length (endingBytes e)) (length l)
       → joinedPaper x ≡ judgedAnswer t ends e l
   judge-room x {end} q f =
-      let n = line-length t ends e r s in
       let w = g .within in
-      f ∙ rw all-fine (room-sized (lineText (entryList t ends) e) l (omega arith))
+      let z : i ≡ length ends = omega arith in
+      all-room t ends e l r s all-fine x q (rw z at f)
 
 -- ---- the answer for a list
+
+module _ (t ends : List ℕ) {u : Bool} (n : u ≡ not (required (length ends))) where
+  module _ (r : rising 0 ends (length t) ≡ true) where
+    list-told : (e : Ending) (l : List ℕ) (x : Joined) → u ≡ true → joinedPaper x ≡ judgedAnswer t ends e l → joinedPaper x ≡ listAnswer t ends e l
+    unfolding listAnswer columnsAnswer
+    list-told e l x y f = rw (r, entries-length, not-true (required (length ends)) (sym n ∙ y)) f
+
+  -- where no column is refused, as is seen at once
+  pub list-fine : {e : Ending} {b : Bool} (l : List ℕ) (x : Joined) {end : ℕ} → u ≡ true → (b ≡ true → Fine t ends e) → b ≡ true → end ≡ startOf ends (length ends)
+      → joinedPaper x ≡ roomFor (end + (length ends - 1) + length (endingBytes e)) (length l) → joinedPaper x ≡ listAnswer t ends e l
+  list-fine {e} l x y f z q g = let k = f z in list-told (k .rises) e l x y (all-room t ends e l (k .rises) (count-some (length ends) n y) (k .judged) x q g)
 
 module _ (t ends : List ℕ) {x : Ends} (p : endsPaper x ≡ endsAnswer t ends) where
   pub list-wrong : (e : Ending) (l : List ℕ) → x ≡ N.Wrong → joinedPaper J.Wrong ≡ listAnswer t ends e l
@@ -253,8 +275,7 @@ module _ (t ends : List ℕ) {x : Ends} (p : endsPaper x ≡ endsAnswer t ends) 
       list-few e l y = rw (list-rising, entries-length, not-false (required (length ends)) (sym n ∙ y))
 
       pub list-columns : (e : Ending) (l : List ℕ) (r : Joined) → u ≡ true → joinedPaper r ≡ judgedAnswer t ends e l → joinedPaper r ≡ listAnswer t ends e l
-      unfolding listAnswer columnsAnswer
-      list-columns e l r y f = rw (list-rising, entries-length, not-true (required (length ends)) (sym n ∙ y)) f
+      list-columns = list-told t ends n list-rising
 
 -- ---- the ending
 
@@ -331,6 +352,16 @@ module _ (t ends : List ℕ) (e : Ending) (at : ℕ) (out : List ℕ) where
       join-room : at + n ≤ length out
       join-room = let g = join-ready .line .room in let c = join-count in let k = length-rest out at in omega arith
 
+      -- what is asked for writing the columns
+      pub join-rises : rising 0 ends (length t) ≡ true
+      join-rises = join-ready .rises
+
+      pub join-columns : 0 < length ends
+      join-columns = let c = entries-length t ends in ⊎-elim (λ z. omega arith) (λ z. omega arith) (join-ready .line .line .shaped .count)
+
+      pub join-fit : length (joined 9 (entryList t ends)) ≤ length (take (length out - at) (drop at out))
+      join-fit = let k = join-length in let m = join-room in let s = length-rest out at in omega arith
+
       pub join-sum : length out < 2 ^ 64 → Fits w64 (at + n)
       join-sum z = let k = join-room in record { fits = omega arith }
 
@@ -341,14 +372,10 @@ module _ (t ends : List ℕ) (e : Ending) (at : ℕ) (out : List ℕ) where
         end-is : at + n - size ≡ at + length (joined 9 (entryList t ends))
         end-is = let k = join-length in omega arith
 
-        module _ {x : Put} {ys : List ℕ} (w : JoinsList 9 t ends (take (length out - at) (drop at out)) x ys) where
+        module _ {ys : List ℕ} (w : ys ≡ over (joined 9 (entryList t ends)) (take (length out - at) (drop at out))) where
           -- what the columns leave
           columns-put : putMid at (length out - at) out ys ≡ overAt at (joined 9 (entryList t ends)) out
-          columns-put =
-              let k = join-length in
-              let m = join-room in
-              let s = length-rest out at in
-              rest-put at (joined 9 (entryList t ends)) out ys (joined-fits w (join-ready .rises) (omega arith))
+          columns-put = rest-put at (joined 9 (entryList t ends)) out ys w
 
           columns-length : length (putMid at (length out - at) out ys) ≡ length out
           columns-length =
@@ -382,6 +409,6 @@ module _ (t ends : List ℕ) (e : Ending) (at : ℕ) (out : List ℕ) where
                     ∙ rw (end-is, columns-put, join-answer, eq-eqb _ _ done) (sym (overAt-append at (joined 9 (entryList t ends)) (endingBytes e) out (omega arith)));
               }
 
-pub ruleset join-laws = (join-beyond, join-refused, join-some, join-sum, join-end, join-fits, join-done)
+pub ruleset join-laws = (join-beyond, join-refused, join-rises, join-columns, join-fit, join-some, join-sum, join-end, join-fits, join-done)
 
-pub ruleset laws = (count-held, bad-empty, bad-tab, bad-feed, return-not, return-byte, loses-nothing, loses-feed, loses-return-feed, refused-bad, refused-return, refused-not, utf8-yes, utf8-no, count-eight, count-ten, count-some, last-is, judge-first, judge-bad, judge-broken, judge-turn, fit-no-end, fit-no-tabs, fit-no-ending, fit-tabs, fit-all, fit-done, judge-some, judge-room, list-wrong, list-rising, list-few, list-columns, put-nothing, put-feed, put-return-feed)
+pub ruleset laws = (bad-empty, bad-found, return-not, return-byte, loses-nothing, loses-feed, loses-return-feed, refused-bad, refused-return, refused-not, utf8-yes, utf8-no, count-eight, count-ten, count-some, last-is, judge-first, judge-bad, judge-broken, judge-turn, fit-no-end, fit-no-tabs, fit-no-ending, fit-tabs, fit-all, fit-done, judge-some, judge-room, list-fine, list-wrong, list-rising, list-few, list-columns, put-nothing, put-feed, put-return-feed)

@@ -1,4 +1,6 @@
 pub mod FaultLaws
+pub mod SimpleLaws
+pub mod PutLaws
 pub mod JoinLaws
 pub mod Determined
 pub mod CaseLaws

@@ -1,11 +1,14 @@
 // The columns of a line, given as an entry list, judged and then written with an ending.
+use crate::put::put_columns;
+use crate::simple::are_apart;
+use crate::simple::is_simple;
+use crate::simple::last_end;
 use line::ending::Ending;
 use line::ending::ending_size;
-use pieces::count::count_byte;
+use pieces::either::find_either;
 use pieces::entries::Ends;
 use pieces::entries::entry_text;
 use pieces::entries::judge_ends;
-use pieces::joined::put_joined;
 use text::copy::copy;
 use text::utf8::Utf8;
 use text::utf8::check_utf8;
@@ -19,10 +22,9 @@ ghost use Rattle.text.specs.Verdict.{fitted};
 ghost use Rattle.text.specs.Over.{over, roomFor};
 ghost use Rattle.line.specs.Line.{endingBytes, required};
 ghost use Rattle.line.specs.Paper.{endingOf};
-ghost use Rattle.pieces.specs.Pieces.{lacks};
 ghost use Rattle.pieces.specs.Entries.{rising, entryList};
-ghost use Rattle.pieces.specs.Inner.{startOf};
 ghost use Rattle.join.specs.Join.{JoinsAt, isBad, losesReturn, columnsJudged, lineText, listAnswer};
+ghost use Rattle.join.specs.Inner.{AllSimple, Fine};
 ghost use Rattle.join.specs.Paper.{joinedPaper};
 
 // The answer of the joiner.
@@ -43,24 +45,18 @@ pub enum Joined {
     Few,
 }
 
-// Whether the byte `b` stands in a column.
-fn has_byte(c: &[u8], b: u8) -> bool
-    ensures { λ r. ⌜ r ≡ not (lacks b (now (c .entry))) ⌝ }
-{
-    count_byte(c, b) > 0
-}
-
-// Whether a column is empty, or holds a tab or an LF.
-fn is_bad(c: &[u8]) -> bool
+// Whether a column is empty, or holds a tab or an LF. One of simple bytes needs no search.
+fn is_bad(c: &[u8], simple: bool) -> bool
+    requires { ⌜ (simple ≡ true → AllSimple (now c) (length (now c))) ⌝ }
     ensures { λ r. ⌜ r ≡ isBad (now (c .entry)) ⌝ }
 {
     if c.len() == 0 {
         return true;
     }
-    if has_byte(c, 9) {
-        return true;
+    if simple {
+        return false;
     }
-    has_byte(c, 10)
+    find_either(c, b'\t', b'\n', 0) < c.len()
 }
 
 // Whether a column ends in CR.
@@ -85,10 +81,11 @@ fn loses_return(c: &[u8], ending: Ending) -> bool
 }
 
 // Whether a column is refused by 18.
-fn is_refused(c: &[u8], last: bool, ending: Ending) -> bool
+fn is_refused(c: &[u8], simple: bool, last: bool, ending: Ending) -> bool
+    requires { ⌜ (simple ≡ true → AllSimple (now c) (length (now c))) ⌝ }
     ensures { λ r. ⌜ r ≡ (isBad (now (c .entry)) || (last && losesReturn (endingOf ending) (now (c .entry)))) ⌝ }
 {
-    if is_bad(c) {
+    if is_bad(c, simple) {
         return true;
     }
     if last {
@@ -98,9 +95,13 @@ fn is_refused(c: &[u8], last: bool, ending: Ending) -> bool
 }
 
 // Whether a column is UTF-8.
-fn is_utf8(c: &[u8]) -> bool
+fn is_utf8(c: &[u8], simple: bool) -> bool
+    requires { ⌜ (simple ≡ true → AllSimple (now c) (length (now c))) ⌝ }
     ensures { λ r. ⌜ r ≡ isUtf8 (now (c .entry)) ⌝ }
 {
+    if simple {
+        return true;
+    }
     match check_utf8(c) {
         Utf8::Text => true,
         Utf8::Broken => false,
@@ -115,14 +116,6 @@ fn is_count(n: usize) -> bool
         return true;
     }
     n >= 10
-}
-
-// Where the last column ends, of at least one.
-fn last_end(ends: &[usize]) -> usize
-    requires { ⌜ 0 < length (now ends) ⌝ }
-    ensures { λ r. ⌜ r ≡ startOf (now (ends .entry)) (length (now (ends .entry))) ⌝ }
-{
-    ends[ends.len() - 1]
 }
 
 // Whether so many bytes of columns, so many tabs and an ending fit in the room, each taken from what the others leave of it: no
@@ -152,10 +145,11 @@ fn judge_columns(text: &[u8], ends: &[usize], ending: Ending, rest: &[u8]) -> Jo
     let mut i = 0;
     while i < ends.len() {
         let c = entry_text(text, ends, i);
-        if is_refused(c, i + 1 == ends.len(), ending) {
+        let simple = is_simple(c);
+        if is_refused(c, simple, i + 1 == ends.len(), ending) {
             return Joined::Bad(i);
         }
-        if !is_utf8(c) {
+        if !is_utf8(c, simple) {
             return Joined::NotUtf8(i);
         }
         i += 1;
@@ -163,8 +157,8 @@ fn judge_columns(text: &[u8], ends: &[usize], ending: Ending, rest: &[u8]) -> Jo
     fit(last_end(ends), i - 1, ending, rest.len())
 }
 
-// What is answered of a list of columns and the rest of the output.
-fn judge(text: &[u8], ends: &[usize], ending: Ending, rest: &[u8]) -> Joined
+// What is answered of a list of columns and the rest of the output, the columns judged one by one.
+fn judge_each(text: &[u8], ends: &[usize], ending: Ending, rest: &[u8]) -> Joined
     ensures { λ r. ⌜ joinedPaper r ≡ listAnswer (now (text .entry)) (now (ends .entry)) (endingOf ending) (now (rest .entry)) ⌝ }
 {
     match judge_ends(text, ends) {
@@ -177,6 +171,36 @@ fn judge(text: &[u8], ends: &[usize], ending: Ending, rest: &[u8]) -> Joined
             }
         }
     }
+}
+
+// Whether it is seen at once that no column is refused: they are apart, and hold nothing but simple bytes.
+fn are_fine(text: &[u8], ends: &[usize], ending: Ending) -> bool
+    requires { ⌜ 0 < length (now ends) ⌝ }
+    ensures { λ r. ⌜ (r ≡ true → Fine (now (text .entry)) (now (ends .entry)) (endingOf ending)) ⌝ }
+{
+    if are_apart(ends) {
+        let end = last_end(ends);
+        if end > text.len() {
+            return false;
+        }
+        if loses_return(&text[..end], ending) {
+            return false;
+        }
+        return is_simple(&text[..end]);
+    }
+    false
+}
+
+// What is answered of a list of columns and the rest of the output.
+fn judge(text: &[u8], ends: &[usize], ending: Ending, rest: &[u8]) -> Joined
+    ensures { λ r. ⌜ joinedPaper r ≡ listAnswer (now (text .entry)) (now (ends .entry)) (endingOf ending) (now (rest .entry)) ⌝ }
+{
+    if is_count(ends.len()) {
+        if are_fine(text, ends, ending) {
+            return fit(last_end(ends), ends.len() - 1, ending, rest.len());
+        }
+    }
+    judge_each(text, ends, ending, rest)
 }
 
 // Puts an ending, which fits, at the start of an output.
@@ -206,7 +230,7 @@ pub fn join(text: &[u8], ends: &[usize], ending: Ending, out: &mut [u8], at: usi
     let Joined::Done(n) = r else {
         return r;
     };
-    put_joined(text, ends, b'\t', &mut out[at..]);
+    put_columns(text, ends, &mut out[at..]);
     let end = at + n - ending_size(ending);
     put_ending(ending, &mut out[end..]);
     r

@@ -128,9 +128,31 @@ rising-last start (e ∷ es) n r =
     let l = rising-last e es n (f .rest) in
     omega arith
 
+-- none is above the last
+rising-to-last : (start : ℕ) (ends : List ℕ) (n : ℕ) → rising start ends n ≡ true → rising start ends (getD (start ∷ ends) (length ends) 0) ≡ true
+unfolding rising
+rising-to-last start [] n r = refl
+rising-to-last start (e ∷ es) n r =
+    let f : Rises start e es n = rises r in
+    rw (le-leb _ _ (f .fits .up), le-leb _ _ (rising-last e es n (f .rest))) (rising-to-last e es n (f .rest))
+
 -- each entry has a place in the text
 pub rising-fits : (ends : List ℕ) (n i : ℕ) → rising 0 ends n ≡ true → i < length ends → Fits (startOf ends i) (getD ends i 0) n
 rising-fits ends n i r h = rw start-at (rising-at 0 ends n i r h)
+
+pub rising-below : (ends : List ℕ) (n i : ℕ) → rising 0 ends n ≡ true → i < length ends → getD ends i 0 ≤ startOf ends (length ends)
+rising-below ends n i r h = rw start-at (rising-at 0 ends _ i (rising-to-last 0 ends n r) h .within)
+
+-- and where each has one, the ends rise
+pub fits-rising : (ends : List ℕ) (n : ℕ) → ((i : ℕ) → i < length ends → Fits (startOf ends i) (getD ends i 0) n) → rising 0 ends n ≡ true
+unfolding rising
+fits-rising ends n f = by 0 ends (λ i h. rw (← start-at ends i) (f i h))
+  where
+    by : (start : ℕ) (es : List ℕ) → ((i : ℕ) → i < length es → Fits (getD (start ∷ es) i 0) (getD es i 0) n) → rising start es n ≡ true
+    by start [] f = refl
+    by start (e ∷ es) f =
+        let g : Fits start e n = f 0 (omega arith) in
+        rw (le-leb _ _ (g .up), le-leb _ _ (g .within)) (by e es (λ i h. f (suc i) (omega arith)))
 
 -- so the answer for each is that place
 pub entry-rising : (t ends : List ℕ) (i : ℕ) → rising 0 ends (length t) ≡ true → i < length ends → entryAnswer t ends i ≡ says 0 (startOf ends i ∷ (getD ends i 0 - startOf ends i) ∷ [])

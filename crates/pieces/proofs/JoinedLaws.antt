@@ -1,9 +1,10 @@
--- Entries joined: the first, and behind it each with a separator before it; those still to write stand for all of them. Assumes nothing.
+-- Entries joined: each with a separator behind it, and the last; those still to write stand for all of them. Assumes nothing.
 use Prim.Native.Nat.{ℕ, _+_, _-_, _<_, _≤_}
 use mathlib.Core.Path.{_≡_, refl, sym, ap, _∙_}
 use mathlib.Core.Bool.{Bool, true, false}
-use mathlib.Core.List.{List, [], _∷_, _++_, flatten, append-nil}
+use mathlib.Core.List.{List, [], _∷_, _++_, flatten, append-assoc, append-nil}
 use native.Mathlib.Omega.{arith}
+use native.Mathlib.Nat.{zero-add}
 use native.Mathlib.Decide.{decLe}
 use lib.ListN.{length, getD, take, drop, set, length-append}
 use lib.Dec.{leb}
@@ -14,7 +15,7 @@ use Rattle.text.specs.Over.{over, overAt, roomAnswer, Writes, laid}
 use Rattle.text.specs.declared.copy.Written.{Written}
 use Rattle.text.proofs.CopyLaws.{room-fits, room-lacks, writes-fits}
 use Rattle.text.proofs.WrittenLaws.{Wrote, Lacked}
-use Rattle.text.proofs.Lists.{length-rest, rest-put, over-nil, over-append, overAt-nil, overAt-append, overAt-before, length-over, length-overAt}
+use Rattle.text.proofs.Lists.{length-rest, rest-put, over-nil, over-append, overAt-append, overAt-one, length-over, length-overAt}
 use Rattle.pieces.specs.Pieces.{joined}
 use Rattle.pieces.specs.Entries.{rising, entryList}
 use Rattle.pieces.specs.Inner.{endsAnswer, startOf, joinedAnswer, JoinsList}
@@ -24,31 +25,17 @@ use Rattle.pieces.specs.declared.entries.Ends.the-variants as N
 use Rattle.pieces.specs.declared.joined.Joined.{Joined}
 use Rattle.pieces.specs.declared.joined.Joined.the-variants as J
 use Rattle.pieces.proofs.PaperLaws.{joined-paper-injective}
+use Rattle.pieces.proofs.PieceLaws.{joined-one, joined-more}
 use Rattle.pieces.proofs.EntryLaws.{start-later, rising-fits, entries-length, entries-text, entry-here, entry-past, ends-tell}
 
 -- ---- what is joined
 
--- each with a separator before it
-pub behind : ℕ → List (List ℕ) → List ℕ
-behind b [] = []
-behind b (p ∷ ps) = (b ∷ p) ++ behind b ps
-
-joined-behind : (b : ℕ) (p : List ℕ) (ps : List (List ℕ)) → joined b (p ∷ ps) ≡ p ++ behind b ps
-unfolding joined behind
-joined-behind b p [] = sym (append-nil p)
-joined-behind b p (q ∷ ps) = ap (λ (z : List ℕ). p ++ b ∷ z) (joined-behind b q ps)
-
-behind-length : (b : ℕ) (ps : List (List ℕ)) → length (behind b ps) ≡ length (flatten ps) + length ps
-unfolding behind flatten
-behind-length b [] = refl
-behind-length b (p ∷ ps) = let n = behind-length b ps in simp length-append (omega arith)
-
 joined-length : (b : ℕ) (ps : List (List ℕ)) → 0 < length ps → length (joined b ps) + 1 ≡ length (flatten ps) + length ps
 unfolding flatten
 joined-length b [] h = absurd (omega arith)
-joined-length b (p ∷ ps) h =
-    let n = behind-length b ps in
-    rw (joined-behind b p ps) (simp length-append (omega arith))
+joined-length b (p ∷ []) h = rw (joined-one, append-nil)
+joined-length b (p ∷ q ∷ ps) h =
+    rw joined-more (simp length-append (omega (arith, simp length-append at (joined-length b (q ∷ ps) (omega arith)))))
 
 module _ (b : ℕ) (t ends : List ℕ) (r : rising 0 ends (length t) ≡ true) (h : length ends ≡ 0 → ⊥) where
   -- as long as the text up to the last end, and a byte between each two
@@ -97,90 +84,84 @@ module _ (b : ℕ) (t ends : List ℕ) (h : length ends ≡ 0) where
   pub none-bytes : (l : List ℕ) → l ≡ over (joined b (entryList t ends)) l
   none-bytes l = rw list-none (sym (over-nil l))
 
--- ---- an entry behind a separator
+-- ---- an entry, and a separator behind it
 
 module _ (b : ℕ) (p l : List ℕ) (at : ℕ) {ys : List ℕ} {r : Written} (h : at + length p < length l)
-    (w : Writes p (take (length l - (at + 1)) (drop (at + 1) l)) r ys) where
-  put-copied : putMid (at + 1) (length l - (at + 1)) l ys ≡ overAt (at + 1) p l
-  put-copied = let n = length-rest l (at + 1) in rest-put (at + 1) p l ys (writes-fits w (omega arith))
+    (w : Writes p (take (length l - at) (drop at l)) r ys) where
+  put-copied : putMid at (length l - at) l ys ≡ overAt at p l
+  put-copied = let n = length-rest l at in rest-put at p l ys (writes-fits w (omega arith))
 
-  pub put-length : length (putMid (at + 1) (length l - (at + 1)) l ys) ≡ length l
-  put-length = rw put-copied (length-overAt (at + 1) p l (omega arith))
+  pub put-length : length (putMid at (length l - at) l ys) ≡ length l
+  put-length = rw put-copied (length-overAt at p l (omega arith))
 
-  pub put-bytes : set (putMid (at + 1) (length l - (at + 1)) l ys) at b ≡ overAt at (b ∷ p) l
-  put-bytes = rw put-copied (overAt-before l at p b (omega arith))
+  pub put-bytes : set (putMid at (length l - at) l ys) (at + length p) b ≡ overAt at (p ++ b ∷ []) l
+  put-bytes =
+      let n = length-overAt at p l (omega arith) in
+      rw (put-copied, overAt-append at p (b ∷ []) l (omega arith), overAt-one (overAt at p l) (at + length p) b (omega arith))
 
 -- ---- writing
 
--- the entries from i on, laid from `at` on with a separator before each, leave in l what those behind the first leave in l₀
-pub record Laying (b : ℕ) (t ends l₀ : List ℕ) (at₀ : ℕ) (l : List ℕ) (i at : ℕ) : Type 0 where
+-- the entries from i on, joined and laid from `at` on, leave in l what all leave at the start of l₀; the last is still to write
+pub record Laying (b : ℕ) (t ends l₀ l : List ℕ) (i at : ℕ) : Type 0 where
   pub rises : rising 0 ends (length t) ≡ true
-  pub within : i ≤ length ends
+  pub within : i < length ends
   pub len : length l ≡ length l₀
   pub room : length (joined b (entryList t ends)) ≤ length l₀
-  pub count : at + length (behind b (drop i (entryList t ends))) ≡ length (joined b (entryList t ends))
-  pub same : overAt at (behind b (drop i (entryList t ends))) l ≡ overAt at₀ (behind b (drop 1 (entryList t ends))) l₀
+  pub count : at + length (joined b (drop i (entryList t ends))) ≡ length (joined b (entryList t ends))
+  pub same : overAt at (joined b (drop i (entryList t ends))) l ≡ over (joined b (entryList t ends)) l₀
 
--- the first, copied to the start
-module _ (b : ℕ) (t ends : List ℕ) {p l l′ : List ℕ} {r : Written} (w : Writes p l r l′) (h : length ends ≡ 0 → ⊥) (e : p ≡ getD (entryList t ends) 0 [])
-    (m : length (joined b (entryList t ends)) ≤ length l) where
-  first-joined : joined b (entryList t ends) ≡ p ++ behind b (drop 1 (entryList t ends))
-  first-joined = ap (joined b) (entry-here t ends 0 (omega arith)) ∙ rw (← e) (joined-behind b p _)
+pub lay-first : {b : ℕ} {t ends l : List ℕ} → rising 0 ends (length t) ≡ true → (length ends ≡ 0 → ⊥) → length (joined b (entryList t ends)) ≤ length l → Laying b t ends l l 0 0
+lay-first {b} {t} {ends} {l} r h m =
+    record { rises = r; within = omega arith; len = refl; room = m; count = zero-add _; same = rw over-nil at (sym (over-append [] (joined b (entryList t ends)) l (omega arith))) }
 
-  first-room : length p ≤ length l
-  first-room = omega (arith, simp length-append at (ap length first-joined))
+module _ {b : ℕ} {t ends l₀ l : List ℕ} {i at : ℕ} (g : Laying b t ends l₀ l i at) {p : List ℕ} (e : p ≡ getD (entryList t ends) i []) where
+  -- an entry before others
+  module _ (h : i < length ends - 1) where
+    lay-here : joined b (drop i (entryList t ends)) ≡ p ++ b ∷ joined b (drop (i + 1) (entryList t ends))
+    lay-here = rw (entry-here t ends i (g .within), ← e, entry-here t ends (i + 1) (omega arith)) (joined-more b p _ _)
 
-  first-length : length l′ ≡ length l
-  first-length = rw (writes-fits w first-room) (length-over p l first-room)
-
-  pub lay-first : rising 0 ends (length t) ≡ true → Laying b t ends l′ (length p) l′ 1 (length p)
-  lay-first u =
-      let n = first-length in
-      record { rises = u; within = omega arith; len = refl; room = omega arith; count = rw first-joined (sym (length-append p _)); same = refl }
-
-  module _ {l″ : List ℕ} {i at : ℕ} (g : Laying b t ends l′ (length p) l″ i at) where
-    pub past-length : length l″ ≡ length l
-    past-length = g .len ∙ first-length
-
-    pub past-bytes : length ends ≤ i → l″ ≡ over (joined b (entryList t ends)) l
-    unfolding behind
-    past-bytes k =
-        sym (overAt-nil at l″)
-        ∙ (rw (entry-past t ends i k) at (g .same))
-        ∙ rw (first-joined, writes-fits w first-room) (sym (over-append p (behind b (drop 1 (entryList t ends))) l first-room))
-
-module _ {b : ℕ} {t ends l₀ : List ℕ} {at₀ : ℕ} {l : List ℕ} {i at : ℕ} (g : Laying b t ends l₀ at₀ l i at) where
-  module _ {p : List ℕ} (h : i < length ends) (e : p ≡ getD (entryList t ends) i []) where
-    lay-here : behind b (drop i (entryList t ends)) ≡ (b ∷ p) ++ behind b (drop (i + 1) (entryList t ends))
-    unfolding behind
-    lay-here = rw (entry-here t ends i h, e)
-
-    lay-count : at + (1 + (length p + length (behind b (drop (i + 1) (entryList t ends))))) ≡ length (joined b (entryList t ends))
+    -- what is still to write behind it
+    pub lay-count : at + (length p + (1 + length (joined b (drop (i + 1) (entryList t ends))))) ≡ length (joined b (entryList t ends))
     lay-count = omega (arith, g .count, simp length-append at (ap length lay-here))
 
     pub lay-room : at + length p < length l
     lay-room = let n = lay-count in omega (arith, g .room, g .len)
 
-    pub lay-turn : {l′ : List ℕ} {at′ : ℕ} → at′ ≡ at + 1 + length p → l′ ≡ overAt at (b ∷ p) l → Laying b t ends l₀ at₀ l′ (i + 1) at′
-    lay-turn {l′} {at′} y u =
-        let n = lay-count in
-        let m = lay-room in
-        let v : at + length (b ∷ p) ≡ at′ = omega arith in
-        let k : at + length (b ∷ p) ≤ length l = omega arith in
-        record {
-          rises = g .rises;
-          within = omega arith;
-          len = ap length u ∙ length-overAt at (b ∷ p) l k ∙ g .len;
-          room = g .room;
-          count = omega arith;
-          same =
-              rw (u, ← v)
-              (sym (overAt-append at (b ∷ p) (behind b (drop (i + 1) (entryList t ends))) l k) ∙ (rw lay-here at (g .same)));
-        }
+    -- it and a separator lie where they should as soon as what is laid behind them does
+    pub lay-on : {l′ : List ℕ} {at′ : ℕ} → at′ ≡ at + length p + 1 → length l′ ≡ length l
+        → overAt at′ (joined b (drop (i + 1) (entryList t ends))) l′ ≡ overAt at (p ++ b ∷ joined b (drop (i + 1) (entryList t ends))) l → Laying b t ends l₀ l′ (i + 1) at′
+    lay-on y n u =
+        let m = lay-count in
+        record { rises = g .rises; within = omega arith; len = n ∙ g .len; room = g .room; count = omega arith; same = u ∙ (rw lay-here at (g .same)) }
 
-  pub past-count : length ends ≤ i → at ≡ length (joined b (entryList t ends))
-  unfolding behind
-  past-count h = omega (arith, rw (entry-past t ends i h) at (g .count))
+    pub lay-turn : {l′ : List ℕ} {at′ : ℕ} → at′ ≡ at + length p + 1 → l′ ≡ overAt at (p ++ b ∷ []) l → Laying b t ends l₀ l′ (i + 1) at′
+    lay-turn {l′} {at′} y u =
+        let m = lay-room in
+        let n : length (p ++ b ∷ []) ≡ length p + 1 = length-append p _ in
+        let k : at + length (p ++ b ∷ []) ≤ length l = omega arith in
+        let v : at + length (p ++ b ∷ []) ≡ at′ = omega arith in
+        lay-on y (ap length u ∙ length-overAt at (p ++ b ∷ []) l k)
+        (rw (u, ← v, ← overAt-append at (p ++ b ∷ []) (joined b (drop (i + 1) (entryList t ends))) l k, append-assoc))
+
+  -- the last
+  module _ (h : length ends - 1 ≤ i) where
+    last-here : joined b (drop i (entryList t ends)) ≡ p
+    last-here = rw (entry-here t ends i (g .within), ← e, entry-past t ends (i + 1) (omega arith)) (joined-one b p)
+
+    pub last-count : at + length p ≡ length (joined b (entryList t ends))
+    last-count = omega (arith, g .count, ap length last-here)
+
+    module _ {r : Written} {ys : List ℕ} (w : Writes p (take (length l - at) (drop at l)) r ys) where
+      pub last-bytes : putMid at (length l - at) l ys ≡ over (joined b (entryList t ends)) l₀
+      last-bytes =
+          let n = length-rest l at in
+          let m = last-count in
+          let k = g .room in
+          let c = g .len in
+          rest-put at p l ys (writes-fits w (omega arith)) ∙ (rw last-here at (g .same))
+
+      pub last-length : length (putMid at (length l - at) l ys) ≡ length l₀
+      last-length = rw last-bytes (length-over (joined b (entryList t ends)) l₀ (g .room))
 
 -- ---- the answer
 
@@ -239,12 +220,6 @@ joined-tells {b} {t} {ends} {l} {l′} x g r = by (decLe (length vs) (length l))
         let m : length l < length vs = omega arith in
         rw (joined-paper-injective x J.Short (answer ∙ room-lacks vs l m)) (record { room = m; bytes = bytes ∙ rw (room-lacks vs l m) })
 
--- what is left where the entries fit
-pub joined-fits : {b : ℕ} {t ends l l′ : List ℕ} {x : Joined} → JoinsList b t ends l x l′ → rising 0 ends (length t) ≡ true → length (joined b (entryList t ends)) ≤ length l
-    → l′ ≡ over (joined b (entryList t ends)) l
-unfolding joinedAnswer
-joined-fits {b} {t} {ends} {l} g r h = g .bytes ∙ rw (r, room-fits (joined b (entryList t ends)) l h)
-
-pub ruleset lay-laws = (none-count, none-bytes, lay-first, lay-room, lay-turn, past-count, past-length, past-bytes)
+pub ruleset lay-laws = (none-count, none-bytes, lay-first, lay-room, lay-turn, last-count, last-bytes, last-length)
 
 pub ruleset laws = (fits-none, fits-no-end, fits-rest, put-length, put-bytes, joins-wrong, joins-rising, joins-room, joins-done, joins-short)

@@ -5,7 +5,7 @@ use crate::entries::judge_ends;
 use text::copy::copy;
 ghost use mathlib.Core.Path.{_≡_};
 ghost use mathlib.Core.Bool.{true};
-ghost use mathlib.Core.List.{_∷_};
+ghost use mathlib.Core.List.{[], _∷_, _++_};
 ghost use Prim.Native.Nat.{_+_, _≤_, _<_};
 ghost use lib.ListN.{length};
 ghost use lib.Dec.{leb};
@@ -40,19 +40,19 @@ fn fits(text: &[u8], ends: &[usize], separator: u8, room: usize) -> bool
     n - 1 <= room - end
 }
 
-// Writes a separator and an entry behind it from the place `at` on, and returns the place past them.
-fn put_behind(e: &[u8], separator: u8, out: &mut [u8], at: usize) -> usize
+// Writes an entry and a separator behind it from the place `at` on, and returns the place past both.
+fn put_entry(e: &[u8], separator: u8, out: &mut [u8], at: usize) -> usize
     requires { ⌜ at + length (now e) < length (now out) ⌝ }
-    ensures { λ r. ⌜ r ≡ at + 1 + length (now (e .entry)) ⌝ }
-    ensures { λ r. ⌜ now (out .exit) ≡ overAt at (separator ∷ now (e .entry)) (now (out .entry)) ⌝ }
+    ensures { λ r. ⌜ r ≡ at + length (now (e .entry)) + 1 ⌝ }
+    ensures { λ r. ⌜ now (out .exit) ≡ overAt at (now (e .entry) ++ separator ∷ []) (now (out .entry)) ⌝ }
 {
-    let behind = at + 1;
-    copy(e, &mut out[behind..]);
-    out[at] = separator;
-    behind + e.len()
+    copy(e, &mut out[at..]);
+    let behind = at + e.len();
+    out[behind] = separator;
+    behind + 1
 }
 
-// Writes the entries at the start of the output, and returns how many bytes they took.
+// Writes the entries at the start of the output, the last with no separator behind it, and returns how many bytes they took.
 fn put_entries(text: &[u8], ends: &[usize], separator: u8, out: &mut [u8]) -> usize
     requires { ⌜ rising 0 (now ends) (length (now text)) ≡ true ⌝ }
     requires { ⌜ length (joined separator (entryList (now text) (now ends))) ≤ length (now out) ⌝ }
@@ -62,16 +62,16 @@ fn put_entries(text: &[u8], ends: &[usize], separator: u8, out: &mut [u8]) -> us
     if ends.len() == 0 {
         return 0;
     }
-    let first = entry_text(text, ends, 0);
-    copy(first, out);
-    let mut at = first.len();
-    let mut i = 1;
-    while i < ends.len() {
+    let mut at = 0;
+    let mut i = 0;
+    while i < ends.len() - 1 {
         let e = entry_text(text, ends, i);
-        at = put_behind(e, separator, out, at);
+        at = put_entry(e, separator, out, at);
         i += 1;
     }
-    at
+    let last = entry_text(text, ends, i);
+    copy(last, &mut out[at..]);
+    at + last.len()
 }
 
 // Writes the entries of a list at the start of the output, with a separator between each two.

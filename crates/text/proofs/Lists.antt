@@ -141,6 +141,23 @@ overAt-before l a vs b h = rw add-one (go l a h)
     go (x ∷ l) zero h = refl
     go (x ∷ l) (suc a) h = ap (λ (z : List ℕ). x ∷ z) (go l a (le-of-suc-le-suc h))
 
+-- one element laid over a list is a store
+pub overAt-one : (l : List ℕ) (a b : ℕ) → a < length l → overAt a (b ∷ []) l ≡ set l a b
+overAt-one l a b h = sym (overAt-before l a [] b h) ∙ rw overAt-nil
+
+-- what was laid over a list before is gone where as much or more is laid over it
+over-again : (us vs l : List ℕ) → length us ≤ length vs → over vs (over us l) ≡ over vs l
+unfolding over
+over-again us vs l h =
+    let n : length us + (length vs - length us) ≡ length vs = omega arith in
+    rw (← n, drop-append-add us (drop (length us) l) (length vs - length us), drop-drop)
+
+pub overAt-again : (a : ℕ) (us vs l : List ℕ) → length us ≤ length vs → a ≤ length l → overAt a vs (overAt a us l) ≡ overAt a vs l
+unfolding overAt
+overAt-again a us vs l h k =
+    let n = length-take-le a l k in
+    rw (take-at (take a l) (over us (drop a l)) a n, drop-at (take a l) (over us (drop a l)) a n, over-again us vs (drop a l) h)
+
 -- a part that came back as it was lent
 pub rest-back : (a : ℕ) (l ys : List ℕ) → ys ≡ take (length l - a) (drop a l) → putMid a (length l - a) l ys ≡ l
 rest-back a l ys e = rest-put a [] l ys (e ∙ sym (over-nil _)) ∙ overAt-nil a l

@@ -28,17 +28,17 @@ same-length c = search (needs, join-laws)
 returns-2 : tie.Need-returns-2
 returns-2 c = search (needs, join-laws)
 
-sub-put-joined : tie.Need-sub-put-joined
-sub-put-joined c = search (needs, join-laws)
+sub-put-columns : tie.Need-sub-put-columns
+sub-put-columns c = search (needs, join-laws)
 
-part-put-joined-start : tie.Need-part-put-joined-start
-part-put-joined-start c = search (needs, join-laws)
+part-put-columns-start : tie.Need-part-put-columns-start
+part-put-columns-start c = search (needs, join-laws)
 
-part-put-joined-end : tie.Need-part-put-joined-end
-part-put-joined-end c = search (needs, join-laws)
+part-put-columns-end : tie.Need-part-put-columns-end
+part-put-columns-end c = search (needs, join-laws)
 
-put-joined-requires : tie.Need-put-joined-requires
-put-joined-requires c κs = search (needs, join-laws)
+put-columns-requires : tie.Need-put-columns-requires
+put-columns-requires c κs = (search (needs, join-laws), (search (needs, join-laws), search (needs, join-laws)))
 
 add-end : tie.Need-add-end
 add-end c = search (needs, join-laws)
@@ -64,7 +64,7 @@ put-ending-requires c κs =
     let d = z .before .before .before in
     let k = d .before .before .before in
     let j = k .before .before in
-    join-fits _ _ _ _ _ _ (j .before .before .before .if1 .left) (j .judge .ensures) (k .r .given .1) (z .ending-size .ensures) (d .put-joined .ensures)
+    join-fits _ _ _ _ _ _ (j .before .before .before .if1 .left) (j .judge .ensures) (k .r .given .1) (z .ending-size .ensures) (d .put-columns .ensures)
 
 same-length-2 : tie.Need-same-length-2
 same-length-2 c = search (needs, join-laws)
@@ -84,10 +84,10 @@ join-spec =
     enum-known-r
     same-length
     returns-2
-    sub-put-joined
-    part-put-joined-start
-    part-put-joined-end
-    put-joined-requires
+    sub-put-columns
+    part-put-columns-start
+    part-put-columns-end
+    put-columns-requires
     add-end
     ending-size-requires
     sub-end

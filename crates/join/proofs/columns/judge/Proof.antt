@@ -1,42 +1,42 @@
--- `join::columns::judge` meets its contract: each way is a clause of `listAnswer`. Assumes nothing.
-use borrow.Author.Needs.{needs}
+-- `join::columns::judge` meets its contract: columns that are fine leave the room alone to ask for; else they are judged one by one. Assumes nothing.
 use Rattle.join.proofs.JoinLaws.{laws}
+use borrow.Author.Needs.{needs}
 use Rattle.join.proofs.columns.judge.Statement.{statement}
 use Rattle.join.proofs.columns.judge.Tie as tie
-
-judge-ends-requires : tie.Need-judge-ends-requires
-judge-ends-requires c κs = search (needs, laws)
-
-enum-told : tie.Need-enum-told
-enum-told c = search (needs, laws)
-
-enum-told-2 : tie.Need-enum-told-2
-enum-told-2 c = search (needs, laws)
 
 is-count-requires : tie.Need-is-count-requires
 is-count-requires c κs = search (needs, laws)
 
-judge-columns-requires : tie.Need-judge-columns-requires
-judge-columns-requires c κs = search (needs, laws)
+are-fine-requires : tie.Need-are-fine-requires
+are-fine-requires c κs = search (needs, laws)
+
+last-end-requires : tie.Need-last-end-requires
+last-end-requires c κs = search (needs, laws)
+
+sub-fit : tie.Need-sub-fit
+sub-fit c = search (needs, laws)
+
+fit-requires : tie.Need-fit-requires
+fit-requires c κs = search (needs, laws)
 
 returns : tie.Need-returns
 returns c = search (needs, laws)
 
+judge-each-requires : tie.Need-judge-each-requires
+judge-each-requires c κs = search (needs, laws)
+
 returns-2 : tie.Need-returns-2
 returns-2 c = search (needs, laws)
-
-returns-3 : tie.Need-returns-3
-returns-3 c = search (needs, laws)
 
 pub judge-spec : {M : Type 1} → statement M
 judge-spec =
     tie.close
     (tie.spec
-    judge-ends-requires
-    enum-told
-    enum-told-2
     is-count-requires
-    judge-columns-requires
+    are-fine-requires
+    last-end-requires
+    sub-fit
+    fit-requires
     returns
-    returns-2
-    returns-3)
+    judge-each-requires
+    returns-2)

@@ -20,6 +20,9 @@ loop-holds c = search (needs, laws)
 entry-text-requires : tie.Need-entry-text-requires Inv-loop μ-loop
 entry-text-requires c κs = search (needs, laws)
 
+is-simple-requires : tie.Need-is-simple-requires Inv-loop μ-loop
+is-simple-requires c κs = search (needs, laws)
+
 add-is-refused : tie.Need-add-is-refused Inv-loop μ-loop
 add-is-refused c = search (needs, laws)
 
@@ -27,13 +30,13 @@ is-refused-requires : tie.Need-is-refused-requires Inv-loop μ-loop
 is-refused-requires c κs = search (needs, laws)
 
 returns : tie.Need-returns Inv-loop μ-loop
-returns c = search (needs, laws, entry-shown _ _ _ (c .before .before .entry-text .ensures))
+returns c = search (needs, laws, entry-shown _ _ _ (c .before .before .before .entry-text .ensures))
 
 is-utf8-requires : tie.Need-is-utf8-requires Inv-loop μ-loop
 is-utf8-requires c κs = search (needs, laws)
 
 returns-2 : tie.Need-returns-2 Inv-loop μ-loop
-returns-2 c = search (needs, laws, entry-shown _ _ _ (c .before .before .before .before .entry-text .ensures))
+returns-2 c = search (needs, laws, entry-shown _ _ _ (c .before .before .before .before .before .entry-text .ensures))
 
 add-i : tie.Need-add-i Inv-loop μ-loop
 add-i c = search (needs, laws)
@@ -42,7 +45,7 @@ loop-less : tie.Need-loop-less Inv-loop μ-loop
 loop-less c = search (needs, laws)
 
 loop-again : tie.Need-loop-again Inv-loop μ-loop
-loop-again c = search (needs, laws, entry-shown _ _ _ (c .before .before .before .before .entry-text .ensures))
+loop-again c = search (needs, laws, entry-shown _ _ _ (c .before .before .before .before .before .entry-text .ensures))
 
 last-end-requires : tie.Need-last-end-requires Inv-loop μ-loop
 last-end-requires c κs = search (needs, laws)
@@ -64,6 +67,7 @@ judge-columns-spec =
     μ-loop
     loop-holds
     entry-text-requires
+    is-simple-requires
     add-is-refused
     is-refused-requires
     returns

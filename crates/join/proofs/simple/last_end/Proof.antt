@@ -1,8 +1,8 @@
--- `join::columns::last_end` meets its contract: behind the last column the next would start at the last end. Assumes nothing.
+-- `join::simple::last_end` meets its contract: behind the last column the next would start at the last end. Assumes nothing.
 use borrow.Author.Needs.{needs}
 use Rattle.join.proofs.JoinLaws.{laws}
-use Rattle.join.proofs.columns.last_end.Statement.{statement}
-use Rattle.join.proofs.columns.last_end.Tie as tie
+use Rattle.join.proofs.simple.last_end.Statement.{statement}
+use Rattle.join.proofs.simple.last_end.Tie as tie
 
 sub-result : tie.Need-sub-result
 sub-result c = search (needs, laws)

@@ -1,11 +1,8 @@
--- `pieces::joined::put_behind` meets its contract: the entry is copied behind the place of the separator. Assumes nothing.
+-- `pieces::joined::put_entry` meets its contract: the separator is stored behind the entry that was copied. Assumes nothing.
 use Rattle.pieces.proofs.JoinedLaws.{laws}
 use borrow.Author.Needs.{needs}
-use Rattle.pieces.proofs.joined.put_behind.Statement.{statement}
-use Rattle.pieces.proofs.joined.put_behind.Tie as tie
-
-add-behind : tie.Need-add-behind
-add-behind c = search (needs, laws)
+use Rattle.pieces.proofs.joined.put_entry.Statement.{statement}
+use Rattle.pieces.proofs.joined.put_entry.Tie as tie
 
 sub-copy : tie.Need-sub-copy
 sub-copy c = search (needs, laws)
@@ -19,6 +16,9 @@ part-copy-end c = search (needs, laws)
 copy-requires : tie.Need-copy-requires
 copy-requires c κs = search (needs, laws)
 
+add-behind : tie.Need-add-behind
+add-behind c = search (needs, laws)
+
 slice-write-out : tie.Need-slice-write-out
 slice-write-out c = search (needs, laws)
 
@@ -31,15 +31,15 @@ same-length c = search (needs, laws)
 returns : tie.Need-returns
 returns c = search (needs, laws)
 
-pub put-behind-spec : {M : Type 1} → statement M
-put-behind-spec =
+pub put-entry-spec : {M : Type 1} → statement M
+put-entry-spec =
     tie.close
     (tie.spec
-    add-behind
     sub-copy
     part-copy-start
     part-copy-end
     copy-requires
+    add-behind
     slice-write-out
     add-result
     same-length
