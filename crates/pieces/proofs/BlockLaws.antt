@@ -1,30 +1,19 @@
--- Blocks without two bytes: what `beforeEither` says byte by byte, each way through the loops, and what callers need. Assumes nothing.
+-- Blocks without two bytes: what `beforeEither` says byte by byte, each way through the loop over blocks, and what callers need. Assumes nothing.
 use Prim.Native.Nat.{ℕ, zero, suc, _+_, _-_, _<_, _≤_, zero-le}
-use mathlib.Core.Path.{_≡_, refl, sym, _∙_, ap}
+use mathlib.Core.Path.{_≡_, refl, _∙_, ap}
 use mathlib.Core.List.{List, [], _∷_}
-use mathlib.Core.Bool.{Bool, true, false, _&&_, _||_, and-true, and-false}
+use mathlib.Core.Bool.{Bool, true, false, _||_}
 use native.Mathlib.Omega.{arith}
-use native.Mathlib.Decide.{decLe}
-use native.Mathlib.Nat.{add-assoc, add-zero}
+use native.Mathlib.Nat.{add-zero}
 use lib.ListN.{length, getD, drop, length-drop, take}
-use lib.Seq.{drop-drop, getD-drop}
-use lib.Dec.{leb, eqb}
-use borrow.Author.Tests.{le-leb, lt-leb, leb-true, leb-false, eq-eqb, ne-eqb, eqb-false}
+use lib.Seq.{getD-drop}
+use lib.Dec.{eqb}
+use borrow.Author.Tests.{ne-eqb, eqb-false}
 use Rattle.text.specs.Pick.{pick}
+use Rattle.text.specs.Flags.{Neither, Each, Tells}
 use Rattle.text.proofs.Lists.{here}
 use Rattle.pieces.specs.Before.{beforeEither}
-use Rattle.pieces.specs.Inner.{Quiet, quietLength, pastQuiet}
-
--- ---- a byte that is one of the two
-
-pub struck-first : {x a : ℕ} (b hit : ℕ) → x ≡ a → 1 ≡ pick (eqb x a || eqb x b) 1 hit
-struck-first b hit e = rw (eq-eqb _ _ e)
-
-pub struck-second : {x a b : ℕ} (hit : ℕ) → (x ≡ a → ⊥) → x ≡ b → 1 ≡ pick (eqb x a || eqb x b) 1 hit
-struck-second hit n e = rw (ne-eqb _ _ n, eq-eqb _ _ e)
-
-pub struck-none : {x a b : ℕ} (hit : ℕ) → (x ≡ a → ⊥) → (x ≡ b → ⊥) → hit ≡ pick (eqb x a || eqb x b) 1 hit
-struck-none hit n m = rw (ne-eqb _ _ n, ne-eqb _ _ m)
+use Rattle.pieces.specs.Inner.{Quiet, quietLength, Seeking}
 
 -- ---- the bytes before the first of the two
 
@@ -102,78 +91,38 @@ quiet-past a b (x ∷ s) (suc n) h = rw (quiet-cons a b x s) (by (eqb x a || eqb
     by true h f = absurd (omega arith)
     by false h f = f (omega arith) ∙ omega arith
 
--- ---- one block
-
--- fewer than 32 bytes are left
-pub block-short : (a b : ℕ) (s : List ℕ) (at : ℕ) → length s - at < 32 → false ≡ leb 32 (quietLength a b (drop at s))
-block-short a b s at h =
-    let l = length-drop at s in
-    let m = quiet-most a b (drop at s) in
-    sym (lt-leb 32 (quietLength a b (drop at s)) (omega arith))
-
-pub block-beyond : (a b : ℕ) (s : List ℕ) (at : ℕ) → length s < at → false ≡ leb 32 (quietLength a b (drop at s))
-block-beyond a b s at h = block-short a b s at (omega arith)
-
--- a byte fewer on each side
-leb-down : (i q : ℕ) → i < 32 → leb (32 - i) (1 + q) ≡ leb (32 - (i + 1)) q
-leb-down i q h = elim (decLe (32 - (i + 1)) q) [
-  | yes l ↦ le-leb (32 - i) (1 + q) (omega arith) ∙ sym (le-leb _ _ l)
-  | no l ↦ lt-leb (32 - i) (1 + q) (omega arith) ∙ sym (lt-leb (32 - (i + 1)) q (omega arith))
-]
-
--- with no hit in the first i bytes, the others tell
-pub record Gathering (a b : ℕ) (s : List ℕ) (at hit i : ℕ) : Type 0 where
-  pub short : i ≤ 32
-  pub within : at + 32 ≤ length s
-  pub same : (eqb hit 0 && leb (32 - i) (quietLength a b (drop (at + i) s))) ≡ leb 32 (quietLength a b (drop at s))
-
-pub gather-first : {a b : ℕ} {s : List ℕ} {at : ℕ} → at ≤ length s → 32 ≤ length s - at → Gathering a b s at 0 0
-gather-first h l = record { short = omega arith; within = omega arith; same = rw add-zero }
-
-module _ {a b : ℕ} {s : List ℕ} {at hit i : ℕ} (g : Gathering a b s at hit i) where
-  pub gather-turn : {r : ℕ} → i < 32 → r ≡ pick (eqb (getD s (at + i) 0) a || eqb (getD s (at + i) 0) b) 1 hit → Gathering a b s at r (i + 1)
-  gather-turn h e =
-      record { short = omega arith; within = g .within; same = rw e (by (eqb (getD s (at + i) 0) a || eqb (getD s (at + i) 0) b) (rw (here s (at + i) (omega (arith, g .within)), add-assoc, quiet-cons) at (g .same))) }
-    where
-      q : ℕ
-      q = quietLength a b (drop (at + (i + 1)) s)
-
-      by : (t : Bool) → (eqb hit 0 && leb (32 - i) (pick t 0 (1 + q))) ≡ leb 32 (quietLength a b (drop at s))
-          → (eqb (pick t 1 hit) 0 && leb (32 - (i + 1)) q) ≡ leb 32 (quietLength a b (drop at s))
-      by true p = sym (and-false (eqb hit 0)) ∙ rw (lt-leb (32 - i) 0 (omega arith)) at p
-      by false p = rw (leb-down i q h) at p
-
-  pub gather-past : 32 ≤ i → eqb hit 0 ≡ leb 32 (quietLength a b (drop at s))
-  gather-past h = let e : 32 - i ≡ 0 = omega arith in sym (and-true (eqb hit 0)) ∙ rw (e, le-leb 0 _ zero-le) at (g .same)
+-- over bytes that are neither
+pub quiet-over : (a b : ℕ) (s : List ℕ) (i k : ℕ) → i + k ≤ length s → Each (Neither a b) s i (i + k)
+    → quietLength a b (drop i s) ≡ k + quietLength a b (drop (i + k) s)
+quiet-over a b s i zero h f = rw add-zero (omega arith)
+quiet-over a b s i (suc k) h f =
+    let n = f i (omega arith) (omega arith) in
+    let z : i + 1 + k ≡ i + suc k = omega arith in
+    let e = rw z at (quiet-over a b s (i + 1) k (omega arith) (λ j p q. f j (omega arith) (omega arith))) in
+    rw (here s i (omega arith), quiet-cons, ne-eqb _ _ (n .no-first), ne-eqb _ _ (n .no-second)) (omega arith)
 
 -- ---- the blocks
 
--- past the blocks from i on is past those from `at` on
+-- the first of the two from i on is the first from `at` on
 pub record Passing (a b : ℕ) (s : List ℕ) (at i : ℕ) : Type 0 where
-  pub same : pastQuiet a b s i ≡ pastQuiet a b s at
+  pub within : i ≤ length s
+  pub seeks : Seeking a b s at i
 
-pub pass-first : {a b : ℕ} {s : List ℕ} {at : ℕ} → Passing a b s at at
-pass-first = record { same = refl }
+pub seek-start : {a b : ℕ} {s : List ℕ} {at : ℕ} → Seeking a b s at at
+seek-start = record { same = refl }
 
--- a quiet block stands in the text
-pub block-within : (a b : ℕ) (s : List ℕ) (i : ℕ) {r : Bool} → r ≡ leb 32 (quietLength a b (drop i s)) → r ≡ true → i + 32 ≤ length s
-block-within a b s i e t =
-    let l = length-drop i s in
-    let m = quiet-most a b (drop i s) in
-    let n = leb-true 32 (quietLength a b (drop i s)) (sym e ∙ t) in
-    omega arith
+pub pass-first : {a b : ℕ} {s : List ℕ} {at : ℕ} → at ≤ length s → Passing a b s at at
+pass-first h = record { within = h; seeks = seek-start }
 
 module _ {a b : ℕ} {s : List ℕ} {at i : ℕ} (g : Passing a b s at i) where
-  pub pass-turn : {r : Bool} → r ≡ leb 32 (quietLength a b (drop i s)) → r ≡ true → Passing a b s at (i + 32)
-  unfolding pastQuiet
-  pass-turn e t =
-      let n = leb-true 32 (quietLength a b (drop i s)) (sym e ∙ t) in
-      let p = quiet-past a b (drop i s) 32 n in
-      record { same = rw (← drop-drop 32 i s, p) (omega (arith, g .same)) }
+  pub pass-turn : {r : Bool} → 64 ≤ length s - i → Tells (Neither a b) s i r → r ≡ true → Passing a b s at (i + 64)
+  pass-turn h t e =
+      let w = g .within in
+      let q = quiet-over a b s i 64 (omega arith) (t .yes e) in
+      record { within = omega arith; seeks = record { same = omega (arith, g .seeks .same) } }
 
-  pub pass-end : {r : Bool} → r ≡ leb 32 (quietLength a b (drop i s)) → r ≡ false → i ≡ pastQuiet a b s at
-  unfolding pastQuiet
-  pass-end e t = let n = leb-false 32 (quietLength a b (drop i s)) (sym e ∙ t) in omega (arith, g .same)
+  pub pass-end : Seeking a b s at i
+  pass-end = g .seeks
 
 -- ---- for callers
 
@@ -189,4 +138,4 @@ quiet-to {a} {b} {s} {at} {r} h f e =
         let z : at + (k - at) ≡ k = omega arith in
         rw (getD-drop, z) at (quiet-none a b (drop at s) (k - at) (omega arith))
 
-pub ruleset laws = (struck-first, struck-second, struck-none, block-short, block-beyond, gather-first, gather-turn, gather-past, pass-first, pass-turn, pass-end)
+pub ruleset laws = (seek-start, pass-first, pass-turn, pass-end)

@@ -1,17 +1,19 @@
 -- Counting a byte: those passed and those to come are those of the whole; there is one piece more than separators. Assumes nothing.
-use Prim.Native.Nat.{ℕ, _+_, _<_, _≤_, zero-le, suc}
+use Prim.Native.Nat.{ℕ, _+_, _-_, _<_, _≤_, suc}
 use mathlib.Core.Path.{_≡_, refl, sym, _∙_}
 use mathlib.Core.List.{List, [], _∷_}
 use mathlib.Core.Bool.{true, false}
 use native.Mathlib.Omega.{arith}
 use native.Mathlib.Decide.{ℕ-discrete}
-use native.Mathlib.Nat.{zero-add}
+use native.Mathlib.Nat.{zero-add, le-refl}
 use lib.ListN.{length, getD, drop, drop-of-length-le}
 use lib.Dec.{eqb}
 use borrow.Author.Tests.{eq-eqb, ne-eqb, eqb-true}
+use Rattle.text.specs.Flags.{OneIf}
 use Rattle.text.proofs.Lists.{here}
 use Rattle.pieces.specs.Pieces.{countOf, lacks, pieces}
 use Rattle.pieces.specs.Demands.{Free}
+use Rattle.pieces.specs.Inner.{ShortPart, CountsPart}
 use Rattle.pieces.proofs.PieceLaws.{free-nil, free-cons, free-head, free-tail, split-count, pieces-none, pieces-some}
 
 -- the count, byte by byte
@@ -27,17 +29,6 @@ pub count-other : (b : ℕ) (s : List ℕ) {a : ℕ} → (a ≡ b → ⊥) → c
 unfolding countOf
 count-other b s {a} h = rw (ne-eqb a b h) (zero-add _)
 
--- of one byte
-pub one-yes : (a b : ℕ) → a ≡ b → 1 ≡ countOf b (a ∷ [])
-one-yes a b e = rw (count-here b [] e, count-none b)
-
-pub one-no : (a b : ℕ) → (a ≡ b → ⊥) → 0 ≡ countOf b (a ∷ [])
-one-no a b h = rw (count-other b [] h, count-none b)
-
-one-before : (b a : ℕ) (s : List ℕ) → countOf b (a ∷ s) ≡ countOf b (a ∷ []) + countOf b s
-unfolding countOf
-one-before b a s = omega arith
-
 -- no more bytes are counted than there are
 pub count-most : (b : ℕ) (s : List ℕ) → countOf b s ≤ length s
 count-most b [] = omega (arith, count-none b)
@@ -49,9 +40,6 @@ count-most b (a ∷ s) = by (ℕ-discrete a b) (count-most b s)
 
 pub counted-most : (b : ℕ) (s : List ℕ) {n : ℕ} → n ≡ countOf b s → n ≤ length s
 counted-most b s e = rw e (count-most b s)
-
-pub one-small : (a b : ℕ) {k : ℕ} → k ≡ countOf b (a ∷ []) → k ≤ 1
-one-small a b e = omega (arith, count-most b (a ∷ []))
 
 -- it is 0 exactly where the text is free of the byte
 pub free-none : {b : ℕ} (s : List ℕ) → Free b s → countOf b s ≡ 0
@@ -99,27 +87,60 @@ pub free-lacks : {b : ℕ} (s : List ℕ) → Free b s → lacks b s ≡ true
 unfolding lacks
 free-lacks s f = rw (free-none s f)
 
--- ---- the loop
+-- ---- the loops
 
--- n of the first i bytes are b
-pub record Counting (b : ℕ) (s : List ℕ) (n i : ℕ) : Type 0 where
-  pub within : i ≤ length s
-  pub few : n ≤ i
-  pub same : n + countOf b (drop i s) ≡ countOf b s
+-- n bytes are b from the place `from` up to i, which lies no further than `end`
+pub record Counting (b : ℕ) (s : List ℕ) (from end n i : ℕ) : Type 0 where
+  pub begun : from ≤ i
+  pub short : i ≤ end
+  pub part : CountsPart b s from i n
 
-pub count-first : {b : ℕ} {s : List ℕ} → Counting b s 0 0
-count-first = record { within = zero-le; few = zero-le; same = zero-add _ }
+pub count-first : {b : ℕ} {s : List ℕ} {from end : ℕ} → from ≤ end → Counting b s from end 0 from
+count-first h = record { begun = le-refl _; short = h; part = record { few = omega arith; same = zero-add _ } }
 
-module _ {b : ℕ} {s : List ℕ} {n i : ℕ} (g : Counting b s n i) where
-  pub count-turn : {k : ℕ} → i < length s → k ≡ countOf b (getD s i 0 ∷ []) → Counting b s (n + k) (i + 1)
-  count-turn h e =
-      let l = one-small (getD s i 0) b e in
-      let o = one-before b (getD s i 0) (drop (i + 1) s) in
-      record { within = omega arith; few = omega arith; same = omega (arith, rw (here s i h) at (g .same)) }
+module _ {b : ℕ} {s : List ℕ} {from end n i : ℕ} (g : Counting b s from end n i) where
+  -- a part behind the part
+  count-more : {j k : ℕ} → i ≤ j → j ≤ end → CountsPart b s i j k → Counting b s from end (n + k) j
+  count-more h l p =
+      let u = g .begun in
+      let e = g .part .same in
+      let f = g .part .few in
+      let v = p .few in
+      record { begun = omega arith; short = l; part = record { few = omega arith; same = omega (arith, p .same) } }
 
-  pub count-past : length s ≤ i → n ≡ countOf b s
-  unfolding countOf
-  count-past h = omega (arith, rw (drop-of-length-le s h) at (g .same))
+  -- one byte
+  pub count-turn : {k : ℕ} → ShortPart s from end → i < end → OneIf (getD s i 0) b k → Counting b s from end (n + k) (i + 1)
+  count-turn {k} w h o = count-more (omega arith) (omega arith) (one-part i (omega (arith, w .within)) o)
+    where
+      one-part : (i : ℕ) {k : ℕ} → i < length s → OneIf (getD s i 0) b k → CountsPart b s i (i + 1) k
+      one-part i {k} h o = by (ℕ-discrete (getD s i 0) b)
+        where
+          by : Dec (getD s i 0 ≡ b) → CountsPart b s i (i + 1) k
+          by (yes e) = record { few = omega (arith, o .same e); same = rw (here s i h) (omega (arith, o .same e, count-here b (drop (i + 1) s) e)) }
+          by (no e) = record { few = omega (arith, o .other e); same = rw (here s i h) (omega (arith, o .other e, count-other b (drop (i + 1) s) e)) }
+
+  pub count-fits : {k : ℕ} → ShortPart s from end → i < end → OneIf (getD s i 0) b k → n + k < 256
+  count-fits w h o = let t = count-turn w h o in omega (arith, t .part .few, w .short)
+
+  pub count-past : end ≤ i → CountsPart b s from end n
+  count-past h = let u = g .short in let z : i ≡ end = omega arith in rw z at (g .part)
+
+-- the parts of a whole text
+module _ {b : ℕ} {s : List ℕ} {n i : ℕ} (g : Counting b s 0 (length s) n i) where
+  pub part-short : 192 < length s - i → ShortPart s i (i + 192)
+  part-short h = record { after = omega arith; within = omega arith; short = omega arith }
+
+  pub part-turn : {k r : ℕ} → 192 < length s - i → CountsPart b s i (i + 192) k → r ≡ k → Counting b s 0 (length s) (n + r) (i + 192)
+  part-turn h p e = rw e (count-more g (omega arith) (omega arith) p)
+
+  pub rest-short : length s - i ≤ 192 → ShortPart s i (length s)
+  rest-short h = let l = g .short in record { after = l; within = le-refl _; short = omega arith }
+
+  pub rest-last : {k r : ℕ} → CountsPart b s i (length s) k → r ≡ k → n + r ≡ countOf b s
+  rest-last p e =
+      let l = g .short in
+      let c = count-more g l (le-refl _) p in
+      rw e (omega (arith, rw (drop-of-length-le s (le-refl (length s)), count-none) at (c .part .same)))
 
 -- ---- counting pieces
 
@@ -129,4 +150,4 @@ count-empty b s h = rw (pieces-none b s h)
 pub count-some : (b : ℕ) (s : List ℕ) {k : ℕ} → (length s ≡ 0 → ⊥) → k ≡ countOf b s → k + 1 ≡ length (pieces b s)
 count-some b s n e = rw (e, pieces-some b s (omega arith)) (sym (split-count b s))
 
-pub ruleset laws = (one-yes, one-no, count-first, count-turn, count-past, count-empty, count-some)
+pub ruleset laws = (count-first, count-turn, count-fits, count-past, part-short, part-turn, rest-short, rest-last, count-empty, count-some)

@@ -1,5 +1,5 @@
 -- The first of two bytes: each way through the search, and what its place tells a caller. Assumes nothing.
-use Prim.Native.Nat.{ℕ, _+_, _-_, _*_, _/_, _<_, _≤_}
+use Prim.Native.Nat.{ℕ, _+_, _-_, _<_, _≤_}
 use mathlib.Core.Path.{_≡_, refl, _∙_}
 use mathlib.Core.Bool.{Bool, true, false}
 use mathlib.Core.List.{List}
@@ -10,8 +10,8 @@ use lib.Dec.{eqb}
 use native.Mathlib.Decide.{decLt}
 use borrow.Author.Tests.{lt-ltb, le-ltb, eq-eqb, ne-eqb, eqb-true}
 use Rattle.text.proofs.Lists.{here}
-use Rattle.pieces.specs.Inner.{nearEnd, Quiet, quietLength, pastQuiet}
-use Rattle.pieces.proofs.BlockLaws.{quiet-cons, quiet-none-left, quiet-past, quiet-to}
+use Rattle.pieces.specs.Inner.{nearEnd, Quiet, quietLength, Seeking}
+use Rattle.pieces.proofs.BlockLaws.{quiet-cons, quiet-none-left, quiet-past, quiet-to, seek-start}
 
 -- ---- the near end
 
@@ -38,21 +38,6 @@ near-within from n e l =
 pub ruleset near-laws = (near-short, near-beyond, near-long)
 
 -- ---- each way through the search
-
--- the first from i on is the first from `from` on
-pub record Seeking (a b : ℕ) (s : List ℕ) (from i : ℕ) : Type 0 where
-  pub same : i + quietLength a b (drop i s) ≡ from + quietLength a b (drop from s)
-
-pub seek-start : {a b : ℕ} {s : List ℕ} {from : ℕ} → Seeking a b s from from
-seek-start = record { same = refl }
-
--- past blocks that hold neither
-pub seek-far : {a b : ℕ} {s : List ℕ} {from r : ℕ} → r ≡ pastQuiet a b s from → Seeking a b s from r
-unfolding pastQuiet
-seek-far {a} {b} {s} {from} e =
-    let q = quietLength a b (drop from s) in
-    let p = quiet-past a b (drop from s) (32 * (q / 32)) (omega arith) in
-    record { same = rw (e, ← drop-drop (32 * (q / 32)) from s, p) (omega arith) }
 
 module _ {a b : ℕ} {s : List ℕ} {from i : ℕ} (g : Seeking a b s from i) where
   pub seek-first : i < length s → getD s i 0 ≡ a → i ≡ from + quietLength a b (drop from s)
@@ -94,4 +79,4 @@ module _ (a b : ℕ) (s : List ℕ) (from : ℕ) {r : ℕ} (h : from ≤ length 
       by true f = eqb-true _ _ f
       by false f = absurd (omega (arith, rw (here s r l, quiet-cons, ne-eqb _ _ n, f) at none))
 
-pub ruleset laws = (seek-start, seek-far, seek-first, seek-second, seek-turn, seek-past, seek-rest, near-within)
+pub ruleset laws = (seek-start, seek-first, seek-second, seek-turn, seek-past, seek-rest, near-within)

@@ -3,6 +3,8 @@ pub mod PieceLaws
 pub mod CountLaws
 pub mod BlockLaws
 pub mod EitherLaws
+pub mod WordLaws
+pub mod FindLaws
 pub mod StepLaws
 pub mod NthLaws
 pub mod NumberLaws

@@ -1,21 +1,21 @@
 -- What functions promise each other, here and in the crates above. Assumes nothing.
-use Prim.Native.Nat.{ℕ, zero, suc, _+_, _-_, _*_, _/_, _≤_, _<_}
+use Prim.Native.Nat.{ℕ, zero, suc, _+_, _-_, _*_, _≤_, _<_}
 use mathlib.Core.Path.{_≡_}
 use mathlib.Core.List.{List, [], _∷_}
 use lib.ListN.{length, getD, drop}
-use lib.Dec.{ltb}
+use lib.Dec.{ltb, eqb}
 use Rattle.text.specs.Pick.{pick, within}
 use Rattle.text.specs.Answer.{Answer, says, valuesOf}
 use Rattle.text.specs.Range.{rangeAt}
 use Rattle.text.specs.declared.range.Range.{Range}
 use Rattle.text.specs.Over.{roomAnswer, laid}
 use Rattle.pieces.specs.Before.{beforeEither}
-use Rattle.pieces.specs.Pieces.{joined}
+use Rattle.pieces.specs.Pieces.{joined, countOf}
 use Rattle.pieces.specs.Entries.{entryList, ordered}
 use Rattle.pieces.specs.Paper.{joinedPaper}
 use Rattle.pieces.specs.declared.joined.Joined.{Joined}
 
--- ---- bytes that are neither of two, and blocks of 32 of them
+-- ---- bytes that are neither of two
 
 -- 32 bytes on, or at the text's end
 unfoldable pub nearEnd : ℕ → ℕ → ℕ
@@ -32,9 +32,33 @@ pub record Quiet (a b : ℕ) (s : List ℕ) (from end : ℕ) : Type 0 where
 unfoldable pub quietLength : ℕ → ℕ → List ℕ → ℕ
 quietLength a b s = length (beforeEither a b s)
 
--- the place past all whole blocks of 32 such bytes from the place `at` on
-unfoldable pub pastQuiet : ℕ → ℕ → List ℕ → ℕ → ℕ
-pastQuiet a b s at = at + 32 * (quietLength a b (drop at s) / 32)
+-- the first a or b from the place i on, or the text's end, is that from the place `from` on
+pub record Seeking (a b : ℕ) (s : List ℕ) (from i : ℕ) : Type 0 where
+  pub same : i + quietLength a b (drop i s) ≡ from + quietLength a b (drop from s)
+
+-- ---- counting a byte in a part of a text
+
+-- 8 bits hold how many bytes the part has
+pub record ShortPart (s : List ℕ) (from end : ℕ) : Type 0 where
+  pub after : from ≤ end
+  pub within : end ≤ length s
+  pub short : end < from + 256
+
+-- r bytes of the part are b
+pub record CountsPart (b : ℕ) (s : List ℕ) (from end r : ℕ) : Type 0 where
+  pub few : from + r ≤ end
+  pub same : r + countOf b (drop end s) ≡ countOf b (drop from s)
+
+-- ---- bytes as one number, the first the lowest
+
+unfoldable pub wordOf : List ℕ → ℕ
+wordOf [] = 0
+wordOf (x ∷ s) = wordOf s * 256 + x
+
+-- 128 for each byte that is b, and 0 for each other
+unfoldable pub marksOf : ℕ → List ℕ → ℕ
+marksOf b [] = 0
+marksOf b (x ∷ s) = marksOf b s * 256 + pick (eqb x b) 128 0
 
 -- ---- the ends of an entry list, and one entry
 

@@ -1,50 +1,45 @@
-// Passing over bytes by blocks of 32, each gone through to its end, so that it can be compared as a whole.
-ghost use mathlib.Core.Path.{_≡_};
-ghost use mathlib.Core.Bool.{_||_};
-ghost use lib.ListN.{drop};
-ghost use lib.Dec.{leb, eqb};
-ghost use Rattle.text.specs.Pick.{pick};
-ghost use Rattle.pieces.specs.Inner.{quietLength, pastQuiet};
+// Passing over bytes by blocks of 64, each gone through to its end, so that it can be compared as a whole.
+ghost use Prim.Native.Nat.{_+_, _≤_};
+ghost use lib.ListN.{length};
+ghost use Rattle.text.specs.Flags.{OneIf, Neither, Tells};
+ghost use Rattle.pieces.specs.Inner.{Seeking};
 
-// 1 where x is one of the two bytes, else as before.
-fn struck(hit: u8, x: u8, a: u8, b: u8) -> u8
-    ensures { λ r. ⌜ r ≡ pick (eqb x a || eqb x b) 1 hit ⌝ }
+// 1 where the two bytes are equal, else 0.
+pub(crate) fn one_if(a: u8, b: u8) -> u8
+    ensures { λ r. ⌜ OneIf a b r ⌝ }
 {
-    if x == a {
-        return 1;
-    }
-    if x == b {
-        return 1;
-    }
-    hit
+    if a == b { 1 } else { 0 }
 }
 
-// Whether 32 bytes stand from the place `at` on and none of them is a or b.
+// Whether none of the 64 bytes from the place `at` on is a or b.
 fn is_quiet(s: &[u8], a: u8, b: u8, at: usize) -> bool
-    ensures { λ r. ⌜ r ≡ leb 32 (quietLength a b (drop at (now (s .entry)))) ⌝ }
+    requires { ⌜ at + 64 ≤ length (now s) ⌝ }
+    ensures { λ r. ⌜ Tells (Neither a b) (now (s .entry)) at r ⌝ }
 {
-    if at > s.len() {
-        return false;
-    }
-    if s.len() - at < 32 {
-        return false;
-    }
-    let mut hit = 0;
+    let mut hits = 0;
     let mut i = 0;
-    while i < 32 {
-        hit = struck(hit, s[at + i], a, b);
+    while i < 64 {
+        let x = s[at + i];
+        hits = hits | one_if(x, a) | one_if(x, b);
         i += 1;
     }
-    hit == 0
+    hits == 0
 }
 
-// The place past all blocks of 32 bytes from `at` on that hold neither a nor b.
+// The place past the blocks of 64 bytes from `at` on that hold neither a nor b.
 pub(crate) fn past_quiet(s: &[u8], a: u8, b: u8, at: usize) -> usize
-    ensures { λ r. ⌜ r ≡ pastQuiet a b (now (s .entry)) at ⌝ }
+    ensures { λ r. ⌜ Seeking a b (now (s .entry)) at r ⌝ }
 {
+    if at > s.len() {
+        return at;
+    }
     let mut i = at;
-    while is_quiet(s, a, b, i) {
-        i += 32;
+    while s.len() - i >= 64 {
+        if is_quiet(s, a, b, i) {
+            i += 64;
+        } else {
+            return i;
+        }
     }
     i
 }

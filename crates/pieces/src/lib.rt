@@ -6,3 +6,4 @@ pub mod entries;
 pub mod joined;
 pub mod nth;
 pub mod step;
+pub mod word;

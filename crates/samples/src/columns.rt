@@ -4,6 +4,8 @@ use pieces::nth::Nth;
 use pieces::nth::piece_nth;
 use pieces::step::Step;
 use pieces::step::piece_at;
+use pieces::word::find_byte;
+use text::range::Range;
 ghost use Rattle.samples.specs.Promises.{CountsSamples, VisitsSample, GivesSample, GivesSubfield};
 
 // How many samples there are.
@@ -13,11 +15,27 @@ pub fn count(samples: &[u8]) -> usize
     count_pieces(samples, b'\t')
 }
 
-// The sample that starts at the place `at`. From place 0 on, the steps visit every sample once, in one pass.
+// The sample that starts at the place `at`. From place 0 on, the steps visit every sample once, in one pass. It is the step over
+// pieces, by words, in which most samples end.
 pub fn sample_at(samples: &[u8], at: usize) -> Step
     ensures { λ r. ⌜ VisitsSample (now (samples .entry)) at r ⌝ }
 {
-    piece_at(samples, b'\t', at)
+    if at > samples.len() {
+        return Step::Beyond;
+    }
+    if samples.len() == 0 {
+        return Step::Nothing;
+    }
+    let end = find_byte(samples, b'\t', at);
+    let range = Range {
+        start: at,
+        len: end - at,
+    };
+    if end == samples.len() {
+        Step::Last(range)
+    } else {
+        Step::More(range, end + 1)
+    }
 }
 
 // Sample n, counted from 0.
@@ -27,9 +45,23 @@ pub fn sample(samples: &[u8], n: usize) -> Nth
     piece_nth(samples, b'\t', n)
 }
 
+// The first subfield of a sample.
+fn first_subfield(sample: &[u8]) -> Nth
+    ensures { λ r. ⌜ GivesSubfield (now (sample .entry)) 0 r ⌝ }
+{
+    match piece_at(sample, b':', 0) {
+        Step::More(range, _) => Nth::At(range),
+        Step::Last(range) => Nth::At(range),
+        _ => Nth::Nothing,
+    }
+}
+
 // Subfield n of a sample, counted from 0. Trailing ones may be absent.
 pub fn subfield(sample: &[u8], n: usize) -> Nth
     ensures { λ r. ⌜ GivesSubfield (now (sample .entry)) n r ⌝ }
 {
+    if n == 0 {
+        return first_subfield(sample);
+    }
     piece_nth(sample, b':', n)
 }

@@ -1,36 +1,31 @@
--- The invariant says that with no hit so far the bytes to come tell; past 32 only the hit is left. Assumes nothing.
+-- The invariant says that no flag is set exactly where each byte so far is neither of the two. Assumes nothing.
 use Prim.Native.Nat.{_-_}
 use borrow.Author.Needs.{needs}
-use Rattle.pieces.proofs.BlockLaws.{Gathering, laws}
+use Rattle.text.specs.Flags.{Neither}
+use Rattle.text.proofs.FlagLaws.{Gathered, laws}
 use Rattle.pieces.proofs.block.is_quiet.Statement.{statement}
 use Rattle.pieces.proofs.block.is_quiet.Tie as tie
 
 abbrev Inv-loop : tie.InvT-loop
-Inv-loop s a b at hit₀ i₀ hit i = Gathering a b s at hit i
+Inv-loop s a b at hits₀ i₀ hits i = Gathered (Neither a b) s at i 0 hits
 
 abbrev μ-loop : tie.MeasureT-loop
-μ-loop s a b at hit₀ i₀ hit i = 32 - i
-
-returns : tie.Need-returns Inv-loop μ-loop
-returns c = search (needs, laws)
-
-sub-if2 : tie.Need-sub-if2 Inv-loop μ-loop
-sub-if2 c = search (needs, laws)
-
-returns-2 : tie.Need-returns-2 Inv-loop μ-loop
-returns-2 c = search (needs, laws)
+μ-loop s a b at hits₀ i₀ hits i = 64 - i
 
 loop-holds : tie.Need-loop-holds Inv-loop μ-loop
 loop-holds c = search (needs, laws)
 
-add-struck : tie.Need-add-struck Inv-loop μ-loop
-add-struck c = search (needs, laws)
+add-x : tie.Need-add-x Inv-loop μ-loop
+add-x c = search (needs, laws)
 
-shared-slice-read-struck : tie.Need-shared-slice-read-struck Inv-loop μ-loop
-shared-slice-read-struck c = search (needs, laws)
+shared-slice-read-x : tie.Need-shared-slice-read-x Inv-loop μ-loop
+shared-slice-read-x c = search (needs, laws)
 
-struck-requires : tie.Need-struck-requires Inv-loop μ-loop
-struck-requires c κs = search (needs, laws)
+one-if-requires : tie.Need-one-if-requires Inv-loop μ-loop
+one-if-requires c κs = search (needs, laws)
+
+one-if-requires-2 : tie.Need-one-if-requires-2 Inv-loop μ-loop
+one-if-requires-2 c κs = search (needs, laws)
 
 add-i : tie.Need-add-i Inv-loop μ-loop
 add-i c = search (needs, laws)
@@ -41,8 +36,8 @@ loop-less c = search (needs, laws)
 loop-again : tie.Need-loop-again Inv-loop μ-loop
 loop-again c = search (needs, laws)
 
-returns-3 : tie.Need-returns-3 Inv-loop μ-loop
-returns-3 c = search (needs, laws)
+returns : tie.Need-returns Inv-loop μ-loop
+returns c = search (needs, laws)
 
 pub is-quiet-spec : {M : Type 1} → statement M
 is-quiet-spec =
@@ -50,14 +45,12 @@ is-quiet-spec =
     (tie.spec
     Inv-loop
     μ-loop
-    returns
-    sub-if2
-    returns-2
     loop-holds
-    add-struck
-    shared-slice-read-struck
-    struck-requires
+    add-x
+    shared-slice-read-x
+    one-if-requires
+    one-if-requires-2
     add-i
     loop-less
     loop-again
-    returns-3)
+    returns)

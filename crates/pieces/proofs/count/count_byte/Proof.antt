@@ -1,29 +1,34 @@
--- The invariant says that the bytes counted and those to come are those of the whole; a turn adds at most 1. Assumes nothing.
+-- The invariant says that the bytes counted and those to come are those of the whole; each part adds its own. Assumes nothing.
 use Prim.Native.Nat.{_-_}
-use native.Mathlib.Omega.{arith}
 use lib.ListN.{length}
 use borrow.Author.Needs.{needs}
-use Rattle.pieces.proofs.CountLaws.{Counting, one-small, laws}
+use Rattle.pieces.proofs.CountLaws.{Counting, laws}
 use Rattle.pieces.proofs.count.count_byte.Statement.{statement}
 use Rattle.pieces.proofs.count.count_byte.Tie as tie
 
 abbrev Inv-loop : tie.InvT-loop
-Inv-loop s b n₀ i₀ n i = Counting b s n i
+Inv-loop s b count₀ i₀ count i = Counting b s 0 (length s) count i
 
 abbrev μ-loop : tie.MeasureT-loop
-μ-loop s b n₀ i₀ n i = length s - i
+μ-loop s b count₀ i₀ count i = length s - i
 
 loop-holds : tie.Need-loop-holds Inv-loop μ-loop
 loop-holds c = search (needs, laws)
 
-shared-slice-read-one-if : tie.Need-shared-slice-read-one-if Inv-loop μ-loop
-shared-slice-read-one-if c = search (needs, laws)
+sub-loop : tie.Need-sub-loop Inv-loop μ-loop
+sub-loop c = search (needs, laws)
 
-one-if-requires : tie.Need-one-if-requires Inv-loop μ-loop
-one-if-requires c κs = search (needs, laws)
+add-count-part : tie.Need-add-count-part Inv-loop μ-loop
+add-count-part c = search (needs, laws)
 
-add-n : tie.Need-add-n Inv-loop μ-loop
-add-n c = omega (arith, one-small _ _ (c .one-if .ensures))
+count-part-requires : tie.Need-count-part-requires Inv-loop μ-loop
+count-part-requires c κs = search (needs, laws)
+
+wide-requires : tie.Need-wide-requires Inv-loop μ-loop
+wide-requires c κs = search (needs, laws)
+
+add-count : tie.Need-add-count Inv-loop μ-loop
+add-count c = search (needs, laws)
 
 add-i : tie.Need-add-i Inv-loop μ-loop
 add-i c = search (needs, laws)
@@ -33,6 +38,15 @@ loop-less c = search (needs, laws)
 
 loop-again : tie.Need-loop-again Inv-loop μ-loop
 loop-again c = search (needs, laws)
+
+count-part-requires-2 : tie.Need-count-part-requires-2 Inv-loop μ-loop
+count-part-requires-2 c κs = search (needs, laws)
+
+wide-requires-2 : tie.Need-wide-requires-2 Inv-loop μ-loop
+wide-requires-2 c κs = search (needs, laws)
+
+add-result : tie.Need-add-result Inv-loop μ-loop
+add-result c = search (needs, laws)
 
 returns : tie.Need-returns Inv-loop μ-loop
 returns c = search (needs, laws)
@@ -44,10 +58,15 @@ count-byte-spec =
     Inv-loop
     μ-loop
     loop-holds
-    shared-slice-read-one-if
-    one-if-requires
-    add-n
+    sub-loop
+    add-count-part
+    count-part-requires
+    wide-requires
+    add-count
     add-i
     loop-less
     loop-again
+    count-part-requires-2
+    wide-requires-2
+    add-result
     returns)

@@ -2,7 +2,8 @@
 use Prim.Native.Nat.{_-_}
 use lib.ListN.{length}
 use borrow.Author.Needs.{needs}
-use Rattle.pieces.proofs.EitherLaws.{Seeking, laws}
+use Rattle.pieces.specs.Inner.{Seeking}
+use Rattle.pieces.proofs.EitherLaws.{laws}
 use Rattle.pieces.proofs.either.find_either.Statement.{statement}
 use Rattle.pieces.proofs.either.find_either.Tie as tie
 

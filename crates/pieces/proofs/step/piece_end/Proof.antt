@@ -1,7 +1,8 @@
 -- The invariant says that the first separator from i on is the first from `from` on; past 32 bytes that is the far search's. Assumes nothing.
 use Prim.Native.Nat.{_-_}
 use borrow.Author.Needs.{needs}
-use Rattle.pieces.proofs.EitherLaws.{Seeking, seek-first, near-within, laws}
+use Rattle.pieces.specs.Inner.{Seeking}
+use Rattle.pieces.proofs.EitherLaws.{seek-first, near-within, laws}
 use Rattle.pieces.proofs.step.piece_end.Statement.{statement}
 use Rattle.pieces.proofs.step.piece_end.Tie as tie
 
