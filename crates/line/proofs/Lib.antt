@@ -24,3 +24,6 @@ pub mod Determined
 pub mod RecordLaws
 pub mod CaseLaws
 pub mod Size
+pub mod CalmLaws
+pub mod ScanLaws
+pub mod SwiftLaws

@@ -13,10 +13,10 @@ use Rattle.text.proofs.Lists.{drop-take}
 use Rattle.pieces.specs.Pieces.{split}
 use Rattle.pieces.proofs.PieceLaws.{split-whole, split-append}
 use Rattle.line.specs.Line.{lineOf}
-use Rattle.line.specs.Inner.{Clear, Stopped, accepted, judgementOf, judgedPaper, InOrder, Unset, Tab, startOf, Told, Marks}
+use Rattle.line.specs.Inner.{Clear, Stopped, accepted, judgementOf, judgedPaper, InOrder, Unset, Tab, startOf, Told, Marks, Going, Kept, Judging}
 use Rattle.line.specs.declared.read.Judged.{Judged}
 use Rattle.line.specs.declared.read.Judged.the-variants as J
-use Rattle.line.proofs.ReadLaws.{Going, part-free, part-byte, part-no-tab, cut-ends, feed-ends}
+use Rattle.line.proofs.ReadLaws.{part-free, part-byte, part-no-tab, cut-ends, feed-ends}
 use Rattle.line.proofs.AnswerLaws.{order-columns}
 
 -- ---- a tab of the input, in a text that goes beyond it
@@ -47,15 +47,6 @@ tab-take : (s : List ℕ) {from i end : ℕ} → Stopped s from i 9 → i < end 
 tab-take s {end = end} g h w = tab-stopped (take end s) (stopped-take s g h w)
 
 -- ---- the tabs of the columns before column k, which starts at `start`
-
-pub record Kept (s : List ℕ) (at k start : ℕ) (tabs : List ℕ) : Type 0 where
-  pub numbered : 1 ≤ k
-  pub size : length tabs ≡ 9
-  pub each : (j : ℕ) → j + 1 < k → j < 9 → Stopped s (startOf at tabs j) (getD tabs j 0) 9
-  pub before : (j : ℕ) → j + 1 < k → j < 9 → getD tabs j 0 < start
-  pub last : (j : ℕ) → j + 1 ≡ k → j ≤ 9 → startOf at tabs j ≡ start
-  pub unset : (j : ℕ) → k ≤ j + 1 → getD tabs j 0 ≡ 0
-  pub count : (end : ℕ) → start ≤ end → end ≤ length s → length (split 9 (drop at (take end s))) + 1 ≡ k + length (split 9 (drop start (take end s)))
 
 pub keep-first : {s : List ℕ} {at : ℕ} {tabs : List ℕ} → Unset tabs → Kept s at 1 at tabs
 keep-first {s} {at} {tabs} u =
@@ -195,12 +186,6 @@ module _ {s : List ℕ} {at k start : ℕ} {tabs : List ℕ} (a : at ≤ length 
             let w = j .reached in
             marked e (closed h (omega arith) (omega arith) (le-refl (length s))));
       }
-
--- ---- what is left from column k on, and the tabs before it
-
-pub record Judging (s : List ℕ) (at k start : ℕ) (tabs : List ℕ) : Type 0 where
-  pub going : Going s at k start
-  pub kept : Kept s at k start tabs
 
 pub kept-length : {s : List ℕ} {at k start : ℕ} {tabs₀ tabs : List ℕ} → Unset tabs₀ → Judging s at k start tabs → length tabs ≡ length tabs₀
 kept-length u g = g .kept .size ∙ sym (u .size)

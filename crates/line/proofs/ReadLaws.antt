@@ -23,7 +23,7 @@ use Rattle.pieces.proofs.EitherLaws.{either-quiet, either-second}
 use Rattle.pieces.proofs.PieceLaws.{free-nil, free-cons, free-head, free-tail, split-whole, split-append, split-nil}
 use Rattle.line.specs.Line.{Ending, feed, return-feed, endingBytes, Line, line, fed, lineOf, required, lastVerdict, verdict}
 use Rattle.line.specs.Demands.{FirstFeed}
-use Rattle.line.specs.Inner.{Clear, Stopped, StopsAt, TextEnd, input, none, bare, return, accepted, denied, judgement, judgementOf, judgedPaper}
+use Rattle.line.specs.Inner.{Clear, Stopped, StopsAt, TextEnd, input, none, bare, return, accepted, denied, judgement, judgementOf, judgedPaper, Going}
 use Rattle.line.specs.declared.read.Stop.{Stop}
 use Rattle.line.specs.declared.read.Stop.the-variants as S
 use Rattle.line.specs.declared.read.Judged.{Judged}
@@ -64,7 +64,7 @@ none-over : (s : List ℕ) (b : ℕ) {from i r : ℕ} → ((k : ℕ) → from �
     → ((k : ℕ) → i ≤ k → k < r → getD s k 0 ≡ b → ⊥) → (k : ℕ) → from ≤ k → k < r → getD s k 0 ≡ b → ⊥
 none-over s b {from} {i} f g k p q = elim (decLt k i) [ yes l ↦ f k p l | no l ↦ g k (omega arith) q ]
 
-clear-over : {s : List ℕ} {from i r : ℕ} → Clear s from i → Clear s i r → Clear s from r
+pub clear-over : {s : List ℕ} {from i r : ℕ} → Clear s from i → Clear s i r → Clear s from r
 clear-over {s} c d =
     record {
       after = omega (arith, c .after, d .after);
@@ -73,7 +73,7 @@ clear-over {s} c d =
       no-second = none-over s 10 (c .no-second) (d .no-second);
     }
 
-stopped-over : {s : List ℕ} {from i j b : ℕ} → Clear s from i → Stopped s i j b → Stopped s from j b
+pub stopped-over : {s : List ℕ} {from i j b : ℕ} → Clear s from i → Stopped s i j b → Stopped s from j b
 stopped-over g t = record { within = t .within; is = t .is; clear = clear-over g (t .clear) }
 
 pub search-over : {s : List ℕ} {from i : ℕ} (x : Stop) → Clear s from i → StopsAt s i x → StopsAt s from x
@@ -366,12 +366,6 @@ module _ (k from : ℕ) (c : List ℕ) (f : Free 9 c) where
       where
         by : (l : Line) → lineOf s ≡ l → judgementOf k from (lineOf (c ++ 9 ∷ s)) ≡ judgementOf (k + 1) (from + length c + 1) l
         by (line t e rest) q = rw (line-tab c s f h q) (tab-judged t e rest ∙ rw z)
-
--- what is left from column k on is judged as the whole
-pub record Going (s : List ℕ) (at k start : ℕ) : Type 0 where
-  pub reached : start ≤ length s
-  pub few : k ≤ start + 1
-  pub same : judgementOf k start (lineOf (drop start s)) ≡ judgementOf 1 at (lineOf (drop at s))
 
 pub judge-first : {s : List ℕ} {at : ℕ} → at ≤ length s → Going s at 1 at
 judge-first h = record { reached = h; few = omega arith; same = refl }

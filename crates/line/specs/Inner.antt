@@ -97,6 +97,29 @@ pub record Told (t : List ℕ) (at : ℕ) (tabs : List ℕ) : Type 0 where
 pub record Marks (s : List ℕ) (at : ℕ) (r : Judged) (tabs : List ℕ) : Type 0 where
   pub told : (end next : ℕ) → r ≡ J.Fine end next → Told (take end s) at tabs
 
+-- ---- the columns as they are gone through
+
+-- what is left from column k on is judged as the whole
+pub record Going (s : List ℕ) (at k start : ℕ) : Type 0 where
+  pub reached : start ≤ length s
+  pub few : k ≤ start + 1
+  pub same : judgementOf k start (lineOf (drop start s)) ≡ judgementOf 1 at (lineOf (drop at s))
+
+-- the tabs of the columns before column k, which starts at `start`
+pub record Kept (s : List ℕ) (at k start : ℕ) (tabs : List ℕ) : Type 0 where
+  pub numbered : 1 ≤ k
+  pub size : length tabs ≡ 9
+  pub each : (j : ℕ) → j + 1 < k → j < 9 → Stopped s (startOf at tabs j) (getD tabs j 0) 9
+  pub before : (j : ℕ) → j + 1 < k → j < 9 → getD tabs j 0 < start
+  pub last : (j : ℕ) → j + 1 ≡ k → j ≤ 9 → startOf at tabs j ≡ start
+  pub unset : (j : ℕ) → k ≤ j + 1 → getD tabs j 0 ≡ 0
+  pub count : (end : ℕ) → start ≤ end → end ≤ length s → length (split 9 (drop at (take end s))) + 1 ≡ k + length (split 9 (drop start (take end s)))
+
+-- both
+pub record Judging (s : List ℕ) (at k start : ℕ) (tabs : List ℕ) : Type 0 where
+  pub going : Going s at k start
+  pub kept : Kept s at k start tabs
+
 -- ---- the record of a line, by the tabs
 
 -- the tabs end the first seven fields

@@ -4,3 +4,4 @@ pub mod Paper
 pub mod Promises
 pub mod Inner
 pub mod Demands
+pub mod Scan

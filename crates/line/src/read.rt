@@ -2,6 +2,8 @@
 use crate::ending::Ending;
 use crate::ending::ending_by;
 use crate::ending::text_end;
+use crate::scan::scan;
+use crate::scan::whole_end;
 use pieces::either::find_either;
 use pieces::either::near_end;
 use text::utf8::Utf8;
@@ -12,6 +14,7 @@ ghost use lib.ListN.{length, take, drop, set};
 ghost use Rattle.line.specs.Line.{required, lineOf, lineAnswer};
 ghost use Rattle.line.specs.Paper.{readPaper};
 ghost use Rattle.line.specs.Promises.{ReadsLine, KeepsNumbers};
+ghost use Rattle.line.specs.Scan.{PlainIf};
 ghost use Rattle.line.specs.Inner.{StopsAt, Stopped, Clear, judgementOf, judgedPaper, Unset, Marks, Told, recordBy, Fields, InOrder};
 
 // A line's record: how it ended, where its text starts, where each of its first nine fields ends, and where its text ends. Each
@@ -243,7 +246,38 @@ fn finish(s: &[u8], at: usize, end: usize, next: usize, tabs: &[usize]) -> Read
     }
 }
 
-// Reads the line at a place.
+// A line whose columns are in order, where its text may be known to be below 80 hex, and so UTF-8.
+fn finish_by(s: &[u8], at: usize, end: usize, next: usize, plain: bool, tabs: &[usize]) -> Read
+    requires { ⌜ InOrder (now s) at end next ⌝ }
+    requires { ⌜ Told (take end (now s)) at (now tabs) ⌝ }
+    requires { ⌜ PlainIf (now s) at end plain ⌝ }
+    ensures { λ r. ⌜ readPaper r ≡ lineAnswer at (lineOf (drop at (now (s .entry)))) ⌝ }
+    ensures { λ r. ⌜ KeepsNumbers r ⌝ }
+{
+    if plain {
+        let ending = ending_by(next - end);
+        return Read::Line(fields_of(&s[..end], at, tabs, ending), next);
+    }
+    finish(s, at, end, next, tabs)
+}
+
+// Reads the line at a place from the left, column by column.
+fn read_columns(s: &[u8], at: usize) -> Read
+    requires { ⌜ (at ≤ length (now s)) × (at ≡ length (now s) → ⊥) ⌝ }
+    ensures { λ r. ⌜ ReadsLine (now (s .entry)) at r ⌝ }
+    ensures { λ r. ⌜ KeepsNumbers r ⌝ }
+{
+    let mut tabs = [0usize; 9];
+    let judged = judge(s, at, &mut tabs);
+    match judged {
+        Judged::Fine(end, next) => finish(s, at, end, next, &tabs),
+        Judged::Empty(next) => Read::Empty(next),
+        Judged::Fed(next) => Read::Fed(next),
+        Judged::Cut(next) => Read::Cut(next),
+    }
+}
+
+// Reads the line at a place: by blocks, and where they do not tell, column by column.
 pub fn read_line(s: &[u8], at: usize) -> Read
     ensures { λ r. ⌜ ReadsLine (now (s .entry)) at r ⌝ }
     ensures { λ r. ⌜ KeepsNumbers r ⌝ }
@@ -255,11 +289,11 @@ pub fn read_line(s: &[u8], at: usize) -> Read
         return Read::End(at);
     }
     let mut tabs = [0usize; 9];
-    let judged = judge(s, at, &mut tabs);
-    match judged {
-        Judged::Fine(end, next) => finish(s, at, end, next, &tabs),
-        Judged::Empty(next) => Read::Empty(next),
-        Judged::Fed(next) => Read::Fed(next),
-        Judged::Cut(next) => Read::Cut(next),
+    let found = scan(s, at, &mut tabs);
+    let feed = found.feed;
+    let end = whole_end(s, at, found.k, feed);
+    if end == 0 {
+        return read_columns(s, at);
     }
+    finish_by(s, at, end, feed + 1, found.plain, &tabs)
 }

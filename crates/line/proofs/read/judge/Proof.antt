@@ -4,7 +4,8 @@ use lib.ListN.{length}
 use native.Mathlib.Omega.{arith}
 use borrow.Author.Needs.{needs}
 use Rattle.line.proofs.ReadLaws.{stop-tab, stop-feed, laws as judged-laws}
-use Rattle.line.proofs.MarkLaws.{Judging, marks-fed, laws}
+use Rattle.line.specs.Inner.{Judging}
+use Rattle.line.proofs.MarkLaws.{marks-fed, laws}
 use Rattle.line.proofs.read.judge.Statement.{statement}
 use Rattle.line.proofs.read.judge.Tie as tie
 

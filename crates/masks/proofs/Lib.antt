@@ -1,0 +1,4 @@
+pub mod BitLaws
+pub mod MaskLaws
+pub mod WeightLaws
+pub mod Determined
