@@ -18,7 +18,6 @@ use line::place::place_of;
 use line::read::Read;
 use line::read::Record;
 use line::read::read_line;
-use splitter::split::split_line;
 use text::range::Range;
 ghost use mathlib.Core.Path.{_≡_};
 ghost use Rattle.line.specs.Paper.{readPaper};
@@ -92,19 +91,6 @@ pub extern "C" fn bruncadorza_read_line(s: &[u8], at: usize, values: &mut [u64; 
     ensures { λ r. ⌜ ReadsLine (now (s .entry)) at (now (values .entry)) r (now (values .exit)) ⌝ }
 {
     tell_read(read_line(s, at), values)
-}
-
-// Answers as `bruncadorza_read_line` does, whatever it is given, in three plain steps. It is slower, and goes to the end of the line
-// also where an early column is refused.
-#[no_mangle]
-pub extern "C" fn bruncadorza_split_line(
-    s: &[u8],
-    at: usize,
-    values: &mut [u64; LINE_VALUES],
-) -> u64
-    ensures { λ r. ⌜ ReadsLine (now (s .entry)) at (now (values .entry)) r (now (values .exit)) ⌝ }
-{
-    tell_read(split_line(s, at), values)
 }
 
 fn tell_text(text: Text, values: &mut [u64; VALUES]) -> u64
