@@ -33,7 +33,7 @@ pub record Ahead (t : List ℕ) (at k : ℕ) : Type 0 where
 
 module _ (t : List ℕ) (m : ListMeant t) where
   -- the empty text is no list
-  some-text : length t ≡ 0 → ⊥
+  pub some-text : length t ≡ 0 → ⊥
   some-text h =
       let e : empty ≡ list (listOf (readingOf t)) = sym (reading-none t h) ∙ m .is in
       let z : _≡_ {A = ℕ} 0 1 = cc in
@@ -63,13 +63,18 @@ module _ {t : List ℕ} {at k : ℕ} (g : Ahead t at k) {x : Step} (e : stepPape
   pub left-turn : leftOf t at k ≡ a ∷ leftOf t next (k + 1)
   left-turn = left-past g (found t at x e a next q)
 
--- where a step finds no allele, none is left
+-- at the text's end none is left
+pub left-none : (t : List ℕ) (at k : ℕ) → length t ≤ at → leftOf t at k ≡ []
+unfolding gathered listOf
+left-none t at k h = rw (parts-end t at h)
+
+-- where a step finds no allele, neither
 pub left-end : (t : List ℕ) (at k : ℕ) (x : Step) → Ahead t at k → stepPaper x ≡ stepAnswer t at → OneOf (1 ∷ 2 ∷ 3 ∷ 4 ∷ []) (tagOf T.the-type x) → leftOf t at k ≡ []
 unfolding gathered listOf
 left-end t at k (S.Found a next) g e h = absurd (miss (1 ∷ 2 ∷ 3 ∷ 4 ∷ []) 0 tt h)
 left-end t at k S.Beyond g e h = absurd (let f = step-means t at S.Beyond e in omega arith)
-left-end t at k S.Nothing g e h = let f = step-means t at S.Nothing e in rw (parts-end t at (omega arith))
-left-end t at k S.Empty g e h = let f = step-means t at S.Empty e in rw (parts-end t at (omega arith))
+left-end t at k S.Nothing g e h = let f = step-means t at S.Nothing e in left-none t at k (omega arith)
+left-end t at k S.Empty g e h = let f = step-means t at S.Empty e in left-none t at k (omega arith)
 left-end t at k (S.Bad fault) g e h = let f = step-means t at (S.Bad fault) e in rw (f .parts)
 
 -- where one is left, a step finds it

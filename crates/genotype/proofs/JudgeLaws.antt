@@ -22,7 +22,7 @@ use Rattle.genotype.specs.Inner.{wholeAnswer}
 use Rattle.genotype.proofs.step.Step as T
 use Rattle.genotype.proofs.read.Read as D
 use Rattle.genotype.proofs.PieceLaws.{parts-end}
-use Rattle.genotype.proofs.StepLaws.{further-fault, step-means, found, found-less}
+use Rattle.genotype.proofs.StepLaws.{further-fault, step-means, found}
 
 -- ---- the whole text
 
@@ -69,7 +69,7 @@ with-cons a (bad k) e = cc
 with-cons a empty e = cc
 
 -- neither an allele nor a bad piece, at a place of the text: it is the end
-end-tells : (t : List ℕ) (at : ℕ) (x : Step) → at ≤ length t → stepPaper x ≡ stepAnswer t at → OneOf (1 ∷ 2 ∷ 3 ∷ []) (tagOf T.the-type x) → length t ≤ at
+pub end-tells : (t : List ℕ) (at : ℕ) (x : Step) → at ≤ length t → stepPaper x ≡ stepAnswer t at → OneOf (1 ∷ 2 ∷ 3 ∷ []) (tagOf T.the-type x) → length t ≤ at
 end-tells t at (S.Found a next) w e h = absurd (miss (1 ∷ 2 ∷ 3 ∷ []) 0 tt h)
 end-tells t at S.Beyond w e h = let f = step-means t at S.Beyond e in omega arith
 end-tells t at S.Nothing w e h = let f = step-means t at S.Nothing e in omega arith
@@ -117,9 +117,9 @@ module _ (t : List ℕ) (at k : ℕ) (x : Step) (g : Judging t at k) (e : stepPa
       let w : fault ≡ faultAt t k = f .there ∙ g .faults 0 ∙ rw z in
       rw w (rw (f .parts) at (g .same))
 
-  pub judge-past : OneOf (1 ∷ 2 ∷ 3 ∷ []) (tagOf T.the-type x) → readPaper (R.Done k) ≡ wholeAnswer t (readingOf t)
-  unfolding readPaper gathered wholeFrom
-  judge-past h = let z : k + 0 ≡ k = omega arith in rw (parts-end t at (end-tells t at x (g .within) e h), z) at (g .same)
+pub judge-past : {t : List ℕ} {at k : ℕ} → Judging t at k → length t ≤ at → readPaper (R.Done k) ≡ wholeAnswer t (readingOf t)
+unfolding readPaper gathered wholeFrom
+judge-past {t} {at} {k} g h = let z : k + 0 ≡ k = omega arith in rw (parts-end t at h, z) at (g .same)
 
 -- ---- room
 
@@ -167,4 +167,4 @@ module _ (t : List ℕ) (room : ℕ) (x : Read) (e : readPaper x ≡ wholeAnswer
   pub judge-other : OneOf (1 ∷ 2 ∷ 3 ∷ 4 ∷ 5 ∷ []) (tagOf D.the-type x) → readPaper x ≡ textAnswer t room
   judge-other h = e ∙ whole-other t (readingOf t) room (λ z. other-number x h (rw e z))
 
-pub ruleset laws = (judge-empty, judge-first, judge-turn, found-less, judge-bad, judge-past, fit-short, fit-done, judge-fits, judge-other)
+pub ruleset laws = (fit-short, fit-done, judge-fits, judge-other)

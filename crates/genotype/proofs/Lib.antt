@@ -6,9 +6,10 @@ pub mod FaultLaws
 pub mod StepLaws
 pub mod JudgeLaws
 pub mod Ahead
-pub mod FillLaws
+pub mod LayLaws
 pub mod AboveLaws
 pub mod AnswerLaws
+pub mod KeepLaws
 pub mod ReadLaws
 pub mod ColumnLaws
 pub mod RowLaws
@@ -16,6 +17,7 @@ pub mod Determined
 pub mod PhasedLaws
 pub mod BodyLaws
 pub mod MeansLaws
+pub mod PairLaws
 pub mod BrokenLaws
 pub mod Exact
 pub mod Refusals

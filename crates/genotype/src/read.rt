@@ -1,18 +1,20 @@
 // Reading a whole genotype into three slices of one length: each allele's number, whether it is missing, and whether it is
 // phased.
-use crate::step::Step;
-use crate::step::step_at;
-use lists::alternate_bases::alt_count;
+use crate::above::Above;
+use crate::above::find_beyond;
+use crate::lay::Whole;
+use crate::lay::lay;
+use crate::pair::is_known_pair;
+use crate::pair::is_pair;
+use crate::pair::put_pair;
 ghost use mathlib.Core.Path.{_≡_};
 ghost use lib.ListN.{length};
-ghost use Rattle.text.specs.Over.{over, roomFor};
-ghost use Rattle.text.specs.Pick.{oneIf};
+ghost use Rattle.text.specs.Over.{roomFor};
 ghost use Rattle.genotype.specs.Reading.{readingOf, listOf};
-ghost use Rattle.genotype.specs.Row.{numbersOf, missingOf, phasedOf};
-ghost use Rattle.genotype.specs.Answers.{firstAbove, oneLength, Reads, ReadsText, ReadsChecked};
+ghost use Rattle.genotype.specs.Answers.{textAnswer, checkedText, oneLength, Parallel, Reads, ReadsText, ReadsChecked};
 ghost use Rattle.genotype.specs.Promises.{Judges, JudgesChecked};
 ghost use Rattle.genotype.specs.Paper.{readPaper};
-ghost use Rattle.genotype.specs.Inner.{ListMeant, wholeAnswer, Room, Fillable, abovePaper};
+ghost use Rattle.genotype.specs.Inner.{Judged, Room, Copies, Kept, Fillable};
 
 // The answer of a reader.
 pub enum Read {
@@ -30,25 +32,17 @@ pub enum Read {
     Above(usize),
 }
 
-// Judges the whole text: how many alleles it has, 11, or 12 at the first that is none.
-fn judge_whole(text: &[u8]) -> Read
-    ensures { λ r. ⌜ readPaper r ≡ wholeAnswer (now (text .entry)) (readingOf (now (text .entry))) ⌝ }
+// So many alleles are kept while a text is judged. A longer list is read again.
+const FEW: usize = 8;
+
+// A text judged whole. What is laid of its alleles is let go.
+fn judge_whole(text: &[u8]) -> Whole
+    ensures { λ r. ⌜ Judged (now (text .entry)) r ⌝ }
 {
-    if text.len() == 0 {
-        return Read::Empty;
-    }
-    let mut at = 0;
-    let mut k = 0;
-    loop {
-        match step_at(text, at) {
-            Step::Found(_, next) => {
-                at = next;
-                k += 1;
-            }
-            Step::Bad(fault) => return Read::Bad(k, fault),
-            _ => return Read::Done(k),
-        }
-    }
+    let mut numbers = [0u64; 1];
+    let mut missing = [0u8; 1];
+    let mut phased = [0u8; 1];
+    lay(text, &mut numbers, &mut missing, &mut phased)
 }
 
 // So many alleles, where the row holds them: room is judged last.
@@ -66,35 +60,25 @@ pub fn judge(text: &[u8], room: usize) -> Read
     ensures { λ r. ⌜ Judges (now (text .entry)) room r ⌝ }
 {
     let whole = judge_whole(text);
-    let Read::Done(n) = whole else {
-        return whole;
+    let read = whole.read;
+    let Read::Done(n) = read else {
+        return read;
     };
     fitted(n, room)
 }
 
-// The first allele whose number is above a count.
-enum Above {
-    At(usize),
-    Nothing,
-}
-
-fn find_above(text: &[u8], count: u64) -> Above
-    requires { ⌜ ListMeant (now text) ⌝ }
-    ensures { λ r. ⌜ abovePaper r ≡ firstAbove count 0 (listOf (readingOf (now (text .entry)))) ⌝ }
+// The same of a text judged whole, where no allele may be above the count of an ALT column.
+fn check_whole(text: &[u8], whole: Whole, alt: &[u8], room: usize) -> Read
+    requires { ⌜ Judged (now text) whole ⌝ }
+    ensures { λ r. ⌜ JudgesChecked (now (text .entry)) (now (alt .entry)) room r ⌝ }
 {
-    let mut at = 0;
-    let mut k = 0;
-    loop {
-        match step_at(text, at) {
-            Step::Found(allele, next) => {
-                if allele.number > count {
-                    return Above::At(k);
-                }
-                at = next;
-                k += 1;
-            }
-            _ => return Above::Nothing,
-        }
+    let read = whole.read;
+    let Read::Done(n) = read else {
+        return read;
+    };
+    match find_beyond(text, alt, whole.most) {
+        Above::At(k) => Read::Above(k),
+        Above::Nothing => fitted(n, room),
     }
 }
 
@@ -103,43 +87,29 @@ pub fn judge_checked(text: &[u8], alt: &[u8], room: usize) -> Read
     ensures { λ r. ⌜ JudgesChecked (now (text .entry)) (now (alt .entry)) room r ⌝ }
 {
     let whole = judge_whole(text);
-    let Read::Done(n) = whole else {
-        return whole;
-    };
-    let count = alt_count(alt);
-    match find_above(text, count as u64) {
-        Above::At(k) => Read::Above(k),
-        Above::Nothing => fitted(n, room),
-    }
+    check_whole(text, whole, alt, room)
 }
 
-fn as_mark(b: bool) -> u8
-    ensures { λ r. ⌜ r ≡ oneIf b ⌝ }
+// Copies the first n alleles that were kept: their numbers, missing marks and phasings.
+fn copy_row(
+    n: usize,
+    worths: &[u64],
+    dots: &[u8],
+    bars: &[u8],
+    numbers: &mut [u64],
+    missing: &mut [u8],
+    phased: &mut [u8],
+)
+    requires { ⌜ Room n (now worths) (now dots) (now bars) ⌝ }
+    requires { ⌜ Room n (now numbers) (now missing) (now phased) ⌝ }
+    ensures { λ _. ⌜ Copies n (now (worths .entry)) (now (dots .entry)) (now (bars .entry)) (now (numbers .entry)) (now (missing .entry)) (now (phased .entry)) (now (numbers .exit)) (now (missing .exit)) (now (phased .exit)) ⌝ }
 {
-    if b { 1 } else { 0 }
-}
-
-// Lays the alleles of a text over the slices.
-fn fill(text: &[u8], numbers: &mut [u64], missing: &mut [u8], phased: &mut [u8])
-    requires { ⌜ ListMeant (now text) ⌝ }
-    requires { ⌜ Room (length (listOf (readingOf (now text)))) (now numbers) (now missing) (now phased) ⌝ }
-    ensures { λ _. ⌜ now (numbers .exit) ≡ over (numbersOf (listOf (readingOf (now (text .entry))))) (now (numbers .entry)) ⌝ }
-    ensures { λ _. ⌜ now (missing .exit) ≡ over (missingOf (listOf (readingOf (now (text .entry))))) (now (missing .entry)) ⌝ }
-    ensures { λ _. ⌜ now (phased .exit) ≡ over (phasedOf (listOf (readingOf (now (text .entry))))) (now (phased .entry)) ⌝ }
-{
-    let mut at = 0;
-    let mut k = 0;
-    loop {
-        match step_at(text, at) {
-            Step::Found(allele, next) => {
-                numbers[k] = allele.number;
-                missing[k] = as_mark(allele.missing);
-                phased[k] = as_mark(allele.phased);
-                at = next;
-                k += 1;
-            }
-            _ => return,
-        }
+    let mut i = 0;
+    while i < n {
+        numbers[i] = worths[i];
+        missing[i] = dots[i];
+        phased[i] = bars[i];
+        i += 1;
     }
 }
 
@@ -147,17 +117,26 @@ fn fill(text: &[u8], numbers: &mut [u64], missing: &mut [u8], phased: &mut [u8])
 fn fill_judged(
     text: &[u8],
     read: Read,
+    worths: &[u64],
+    dots: &[u8],
+    bars: &[u8],
     numbers: &mut [u64],
     missing: &mut [u8],
     phased: &mut [u8],
 ) -> Read
-    requires { ⌜ Fillable (now text) read (now numbers) (now missing) (now phased) ⌝ }
+    requires { ⌜ Kept (now text) (now worths) (now dots) (now bars) ⌝ }
+    requires { ⌜ Parallel (now numbers) (now missing) (now phased) ⌝ }
+    requires { ⌜ Fillable (now text) read (length (now numbers)) ⌝ }
     ensures { λ r. ⌜ Reads (readPaper read) (listOf (readingOf (now (text .entry)))) (now (numbers .entry)) (now (missing .entry)) (now (phased .entry)) r (now (numbers .exit)) (now (missing .exit)) (now (phased .exit)) ⌝ }
 {
-    let Read::Done(_) = read else {
+    let Read::Done(count) = read else {
         return read;
     };
-    fill(text, numbers, missing, phased);
+    if count > FEW {
+        lay(text, numbers, missing, phased);
+        return read;
+    }
+    copy_row(count, worths, dots, bars, numbers, missing, phased);
     read
 }
 
@@ -171,6 +150,42 @@ fn one_length(numbers: usize, missing: usize, phased: usize) -> bool
     false
 }
 
+// Any text, whose alleles are kept until it is judged.
+fn read_list(text: &[u8], numbers: &mut [u64], missing: &mut [u8], phased: &mut [u8]) -> Read
+    requires { ⌜ Parallel (now numbers) (now missing) (now phased) ⌝ }
+    ensures { λ r. ⌜ Reads (textAnswer (now (text .entry)) (length (now (numbers .entry)))) (listOf (readingOf (now (text .entry)))) (now (numbers .entry)) (now (missing .entry)) (now (phased .entry)) r (now (numbers .exit)) (now (missing .exit)) (now (phased .exit)) ⌝ }
+{
+    let mut worths = [0u64; FEW];
+    let mut dots = [0u8; FEW];
+    let mut bars = [0u8; FEW];
+    let whole = lay(text, &mut worths, &mut dots, &mut bars);
+    let read = whole.read;
+    let Read::Done(n) = read else {
+        return read;
+    };
+    let fit = fitted(n, numbers.len());
+    fill_judged(text, fit, &worths, &dots, &bars, numbers, missing, phased)
+}
+
+// The same, whose alleles an ALT column must have.
+fn read_list_checked(
+    text: &[u8],
+    alt: &[u8],
+    numbers: &mut [u64],
+    missing: &mut [u8],
+    phased: &mut [u8],
+) -> Read
+    requires { ⌜ Parallel (now numbers) (now missing) (now phased) ⌝ }
+    ensures { λ r. ⌜ Reads (checkedText (now (text .entry)) (now (alt .entry)) (length (now (numbers .entry)))) (listOf (readingOf (now (text .entry)))) (now (numbers .entry)) (now (missing .entry)) (now (phased .entry)) r (now (numbers .exit)) (now (missing .exit)) (now (phased .exit)) ⌝ }
+{
+    let mut worths = [0u64; FEW];
+    let mut dots = [0u8; FEW];
+    let mut bars = [0u8; FEW];
+    let whole = lay(text, &mut worths, &mut dots, &mut bars);
+    let read = check_whole(text, whole, alt, numbers.len());
+    fill_judged(text, read, &worths, &dots, &bars, numbers, missing, phased)
+}
+
 // Reads a genotype. Only an answer of 0 changes the slices, and only their first entries, one for each allele.
 pub fn read_genotype(
     text: &[u8],
@@ -181,8 +196,11 @@ pub fn read_genotype(
     ensures { λ r. ⌜ ReadsText (now (text .entry)) (now (numbers .entry)) (now (missing .entry)) (now (phased .entry)) r (now (numbers .exit)) (now (missing .exit)) (now (phased .exit)) ⌝ }
 {
     if one_length(numbers.len(), missing.len(), phased.len()) {
-        let read = judge(text, numbers.len());
-        return fill_judged(text, read, numbers, missing, phased);
+        if is_pair(text, numbers.len()) {
+            put_pair(text, numbers, missing, phased);
+            return Read::Done(2);
+        }
+        return read_list(text, numbers, missing, phased);
     }
     Read::Lengths
 }
@@ -198,8 +216,11 @@ pub fn read_checked(
     ensures { λ r. ⌜ ReadsChecked (now (text .entry)) (now (alt .entry)) (now (numbers .entry)) (now (missing .entry)) (now (phased .entry)) r (now (numbers .exit)) (now (missing .exit)) (now (phased .exit)) ⌝ }
 {
     if one_length(numbers.len(), missing.len(), phased.len()) {
-        let read = judge_checked(text, alt, numbers.len());
-        return fill_judged(text, read, numbers, missing, phased);
+        if is_known_pair(text, alt, numbers.len()) {
+            put_pair(text, numbers, missing, phased);
+            return Read::Done(2);
+        }
+        return read_list_checked(text, alt, numbers, missing, phased);
     }
     Read::Lengths
 }

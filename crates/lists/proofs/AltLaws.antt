@@ -10,7 +10,7 @@ use Rattle.text.specs.Same.{same}
 use Rattle.text.proofs.SameLaws.{same-self, same-not, same-other}
 use Rattle.text.proofs.ByteLaws.{none-empty, some-empty}
 use Rattle.pieces.specs.Pieces.{split, pieces}
-use Rattle.pieces.proofs.PieceLaws.{split-count, pieces-none, pieces-some}
+use Rattle.pieces.proofs.PieceLaws.{split-some, split-count, pieces-none, pieces-some}
 use Rattle.lists.specs.AlternateBases.{altCount}
 
 pub count-dot : altCount (46 ∷ []) ≡ 0
@@ -25,6 +25,10 @@ module _ (t : List ℕ) (n : t ≡ 46 ∷ [] → ⊥) where
   pub count-split : 0 < length t → altCount t ≡ length (split 44 t)
   unfolding altCount
   count-split h = rw (same-not t (46 ∷ []) n, some-empty t h) (sym (split-count 44 t))
+
+  -- so it is not 0
+  pub count-some : 0 < length t → 0 < altCount t
+  count-some h = rw (count-split h) (split-some 44 t)
 
   count-pieces : Dec (length t ≡ 0) → altCount t ≡ length (pieces 44 t)
   count-pieces (yes h) = count-none t h ∙ rw (pieces-none 44 t h)

@@ -1,10 +1,10 @@
--- `genotype::read::find_above` meets its contract: the first above the count from index k on is the first of all. Assumes nothing.
+-- `genotype::above::find_above` meets its contract: the first above the count from index k on is the first of all. Assumes nothing.
 use Prim.Native.Nat.{_-_}
 use lib.ListN.{length}
 use borrow.Author.Needs.{needs}
 use Rattle.genotype.proofs.AboveLaws.{Finding, laws}
-use Rattle.genotype.proofs.read.find_above.Statement.{statement}
-use Rattle.genotype.proofs.read.find_above.Tie as tie
+use Rattle.genotype.proofs.above.find_above.Statement.{statement}
+use Rattle.genotype.proofs.above.find_above.Tie as tie
 
 abbrev Inv-loop : tie.InvT-loop
 Inv-loop text count at₀ k₀ at k = Finding text count at k
