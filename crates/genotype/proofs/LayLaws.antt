@@ -1,6 +1,6 @@
 -- A whole text judged, its greatest number and its alleles kept on the way: where it is a list, what is left to store lies over what
 -- stands, in each of the three slices. Assumes nothing.
-use Prim.Native.Nat.{ℕ, _+_, _≤_, _<_}
+use Prim.Native.Nat.{ℕ, _+_, _≤_}
 use mathlib.Core.Path.{_≡_, refl, sym, ap, _∙_}
 use mathlib.Core.List.{List, [], _∷_, map}
 use native.Mathlib.Omega.{arith}

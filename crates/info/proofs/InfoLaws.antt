@@ -7,8 +7,8 @@ use native.Mathlib.Omega.{arith}
 use native.Mathlib.Decide.{ℕ-discrete}
 use mir.Syntax.{w64}
 use mir.Val.{Fits}
-use lib.ListN.{length, getD, take, drop, length-take, length-drop}
-use lib.Seq.{getD-take, getD-drop, drop-drop, take-add, length-take-le}
+use lib.ListN.{length, getD, take, drop, length-drop}
+use lib.Seq.{drop-drop, take-add, length-take-le}
 use lib.Dec.{eqb}
 use borrow.Author.Tests.{eq-eqb, ne-eqb}
 use Rattle.text.specs.Pick.{pick}
@@ -22,7 +22,7 @@ use Rattle.pieces.specs.Inner.{Quiet, quietLength}
 use Rattle.pieces.specs.declared.step.Step.the-variants as P
 use Rattle.pieces.proofs.BlockLaws.{quiet-most, quiet-to}
 use Rattle.pieces.proofs.EitherLaws.{seek-first, seek-turn, seek-past, seek-rest}
-use Rattle.pieces.proofs.PieceLaws.{split-whole, split-append}
+use Rattle.pieces.proofs.PieceLaws.{part-free, split-whole, split-append}
 use Rattle.pieces.proofs.StepLaws.{step-tells, finds-last, finds-more}
 use Rattle.info.specs.Info.{Pair, alone, paired, keyOf, pairOf, placesOf, entryAnswer, danglingAnswer, endedAnswer, stepAnswer}
 use Rattle.info.specs.Paper.{valuePlaces, entryPlaces, stepPaper}
@@ -58,11 +58,7 @@ module _ {t : List ℕ} {at i : ℕ} (g : Reading t at i) where
       let a = g .after in
       let w = g .within in
       let q : Quiet 61 61 t at i = quiet-to (omega arith) a (omega (arith, g .equals)) in
-      record {
-        free = λ k l e.
-            (let m : k < i - at = (let z = length-take (i - at) (drop at t) in omega arith) in
-            q .no-first (at + k) (omega arith) (omega arith) (sym (getD-take (i - at) (drop at t) k 0 m ∙ getD-drop at t k 0) ∙ e));
-      }
+      part-free t 61 at i a (omega arith) (q .no-first)
 
   key-length : length (take (i - at) (drop at t)) ≡ i - at
   key-length = let a = g .after in let w = g .within in let l = length-drop at t in length-take-le (i - at) (drop at t) (omega arith)

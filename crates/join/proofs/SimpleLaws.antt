@@ -1,8 +1,8 @@
 -- All columns judged at once: what the marks and the ends tell of each column, and that none is refused then. Assumes nothing.
-use Prim.Native.Nat.{ℕ, suc, _+_, _-_, _<_, _≤_}
+use Prim.Native.Nat.{ℕ, _+_, _-_, _<_, _≤_}
 use mathlib.Core.Path.{_≡_, refl, sym, _∙_}
 use mathlib.Core.Bool.{Bool, true, false, false≢true}
-use mathlib.Core.List.{List, [], _∷_}
+use mathlib.Core.List.{List, []}
 use native.Mathlib.Omega.{arith}
 use native.Mathlib.Decide.{ℕ-discrete}
 use lib.ListN.{length, getD, take, drop, length-drop}
@@ -15,7 +15,7 @@ use Rattle.text.specs.Utf8.{isUtf8}
 use Rattle.text.specs.Verdict.{Verdict, fine}
 use Rattle.text.proofs.FlagLaws.{or-left, or-right}
 use Rattle.text.proofs.ByteLaws.{ends-at}
-use Rattle.text.proofs.Demands.{parted, nil-text}
+use Rattle.text.proofs.RunLaws.{plain-utf8}
 use Rattle.pieces.specs.Entries.{rising, entryList}
 use Rattle.pieces.specs.Inner.{startOf}
 use Rattle.pieces.proofs.EntryLaws.{start-first, start-later, fits-rising, entries-length, entry-cut}
@@ -90,10 +90,6 @@ pub climb-no : (ends : List ℕ) → false ≡ true → Apart ends (length ends)
 climb-no ends z = absurd (false≢true z)
 
 -- ---- one column
-
-plain-utf8 : (t : List ℕ) → ((k : ℕ) → k < length t → getD t k 0 < 128) → isUtf8 t ≡ true
-plain-utf8 [] f = nil-text
-plain-utf8 (b ∷ t) f = parted [] t b (f 0 (omega arith)) .1 (nil-text, plain-utf8 t (λ k h. f (suc k) (omega arith)))
 
 module _ (c : List ℕ) {u : Bool} (f : u ≡ true → AllSimple c (length c)) (y : u ≡ true) where
   simple-column : (length c ≡ 0 → ⊥) → Column c

@@ -11,12 +11,12 @@ use lib.ListN.{length, getD, set, take, drop, length-set}
 use lib.Seq.{getD-take, getD-set-same, getD-set-other, length-take-le}
 use Rattle.text.proofs.Lists.{drop-take}
 use Rattle.pieces.specs.Pieces.{split}
-use Rattle.pieces.proofs.PieceLaws.{split-whole, split-append}
+use Rattle.pieces.proofs.PieceLaws.{part-free, split-whole, split-append}
 use Rattle.line.specs.Line.{lineOf}
 use Rattle.line.specs.Inner.{Clear, Stopped, accepted, judgementOf, judgedPaper, InOrder, Unset, Tab, startOf, Told, Marks, Going, Kept, Judging}
 use Rattle.line.specs.declared.read.Judged.{Judged}
 use Rattle.line.specs.declared.read.Judged.the-variants as J
-use Rattle.line.proofs.ReadLaws.{part-free, part-byte, part-no-tab, cut-ends, feed-ends}
+use Rattle.line.proofs.ReadLaws.{part-byte, part-no-tab, cut-ends, feed-ends}
 use Rattle.line.proofs.AnswerLaws.{order-columns}
 
 -- ---- a tab of the input, in a text that goes beyond it

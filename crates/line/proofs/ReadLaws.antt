@@ -7,7 +7,7 @@ use mathlib.Core.List.{List, [], _∷_, _++_, dropLast}
 use native.Mathlib.Omega.{arith}
 use native.Mathlib.Decide.{decLt}
 use native.Mathlib.Nat.{le-refl}
-use lib.ListN.{length, getD, take, drop, length-append, length-drop, length-take, take-append-drop}
+use lib.ListN.{length, getD, take, drop, length-append, length-drop, take-append-drop}
 use lib.Seq.{drop-length, drop-drop, getD-take, getD-drop, length-take-le}
 use lib.Dec.{eqb}
 use borrow.Author.Tests.{le-leb, lt-leb, eq-eqb, ne-eqb}
@@ -20,7 +20,7 @@ use Rattle.pieces.specs.Inner.{quietLength}
 use Rattle.pieces.specs.Pieces.{split}
 use Rattle.pieces.specs.Demands.{Free}
 use Rattle.pieces.proofs.EitherLaws.{either-quiet, either-second}
-use Rattle.pieces.proofs.PieceLaws.{free-nil, free-cons, free-head, free-tail, split-whole, split-append, split-nil}
+use Rattle.pieces.proofs.PieceLaws.{free-nil, free-cons, free-head, free-tail, part-free, split-whole, split-append, split-nil}
 use Rattle.line.specs.Line.{Ending, feed, return-feed, endingBytes, Line, line, fed, lineOf, required, lastVerdict, verdict}
 use Rattle.line.specs.Demands.{FirstFeed}
 use Rattle.line.specs.Inner.{Clear, Stopped, StopsAt, TextEnd, input, none, bare, return, accepted, denied, judgement, judgementOf, judgedPaper, Going}
@@ -125,15 +125,6 @@ input-end s (bare h n) = refl
 input-end s (return h l e) = absurd (omega arith)
 
 -- ---- a part of the input as a text
-
--- no byte b from one place up to another, said of the part
-pub part-free : (s : List ℕ) (b from end : ℕ) → from ≤ end → end ≤ length s → ((k : ℕ) → from ≤ k → k < end → getD s k 0 ≡ b → ⊥) → Free b (take (end - from) (drop from s))
-part-free s b from end h w f =
-    record {
-      free = λ k l e.
-          (let m : k < end - from = (let t = length-take (end - from) (drop from s) in omega arith) in
-          f (from + k) (omega arith) (omega arith) (sym (getD-take (end - from) (drop from s) k 0 m ∙ getD-drop from s k 0) ∙ e));
-    }
 
 -- the input from a place on: what stands before a byte, the byte, and the rest
 byte-at : (s : List ℕ) {from i b : ℕ} → from ≤ i → i < length s → getD s i 0 ≡ b → drop from s ≡ take (i - from) (drop from s) ++ b ∷ drop (i + 1) s

@@ -1,18 +1,18 @@
 -- What a scan found is the line that the columns' judge would accept, and bytes below 80 hex are UTF-8. Assumes nothing.
-use Prim.Native.Nat.{ℕ, suc, _+_, _-_, _≤_, _<_}
+use Prim.Native.Nat.{ℕ, _+_, _-_, _≤_, _<_}
 use mathlib.Core.Path.{_≡_, refl, sym, _∙_}
 use mathlib.Core.Bool.{Bool, true, false}
 use mathlib.Core.Logic.{_⊎_, inl, inr, ⊎-elim}
-use mathlib.Core.List.{List, [], _∷_}
+use mathlib.Core.List.{List}
 use native.Mathlib.Omega.{arith}
 use lib.ListN.{length, getD, take, drop, length-drop}
 use lib.Seq.{getD-take, getD-drop, length-take-le}
 use lib.Dec.{eqb}
 use borrow.Author.Tests.{eqb-true}
-use Rattle.text.specs.Utf8.{isUtf8, there, charsOf, charsFrom, utf8Answer}
+use Rattle.text.specs.Utf8.{utf8Answer}
 use Rattle.text.specs.Paper.{utf8Paper}
 use Rattle.text.specs.declared.utf8.Utf8.the-variants as U
-use Rattle.text.proofs.Demands.{parted}
+use Rattle.text.proofs.RunLaws.{plain-utf8}
 use Rattle.line.specs.Line.{lineOf, lineAnswer}
 use Rattle.line.specs.Paper.{readPaper}
 use Rattle.line.specs.Promises.{NamesEnding}
@@ -28,11 +28,6 @@ use Rattle.line.proofs.MarkLaws.{marks-fed}
 use Rattle.line.proofs.AnswerLaws.{finish-line}
 
 -- ---- bytes below 80 hex are UTF-8
-
-plain-utf8 : (t : List ℕ) → ((k : ℕ) → k < length t → getD t k 0 < 128) → isUtf8 t ≡ true
-unfolding isUtf8 there charsOf charsFrom
-plain-utf8 [] f = refl
-plain-utf8 (b ∷ t) f = parted [] t b (f 0 (omega arith)) .1 (refl, plain-utf8 t (λ k h. f (suc k) (omega arith)))
 
 check-plain : {s : List ℕ} {at end : ℕ} {plain : Bool} → PlainIf s at end plain → plain ≡ true → utf8Paper U.Text ≡ utf8Answer (take (end - at) (drop at s))
 unfolding utf8Paper utf8Answer

@@ -1,11 +1,12 @@
 -- The lowest bit of a number that is odd times a power of two: its place, and the number without it. Assumes nothing.
-use Prim.Native.Nat.{ℕ, zero, suc, _+_, _-_, _*_, _/_, _%_, _^_, _<_}
-use mathlib.Core.Path.{_≡_, ap, _∙_}
+use Prim.Native.Nat.{ℕ, suc, _+_, _-_, _*_, _/_, _%_, _^_, _<_}
+use mathlib.Core.Path.{_≡_, _∙_}
 use native.Mathlib.Omega.{arith}
-use native.Mathlib.Nat.{mul-one, le-of-suc-le-suc, add-zero, mul-comm, one-mul, add-mul}
-use lib.Bits.{bitAnd, and-block, and-step, and-self, shifted-half, shifted-even}
+use native.Mathlib.Nat.{add-zero, mul-comm, one-mul, add-mul}
+use lib.Bits.{bitAnd, and-block, and-step, and-self}
 use lib.Count.{trailingZeros}
 use lib.Pow.{pow-pos, ones-lt}
+use Rattle.text.proofs.BitLaws.{zeros-odd, zeros-more}
 
 odd-half : (q : ℕ) → (1 + 2 * q) / 2 ≡ q
 odd-half q = omega arith
@@ -21,10 +22,10 @@ even-even q = omega arith
 
 -- the place of the lowest bit
 pub lowest : (k q t : ℕ) → t < k → trailingZeros k ((1 + 2 * q) * 2 ^ t) ≡ t
-unfolding trailingZeros
-lowest zero q t h = absurd (omega arith)
-lowest (suc k) q zero h = rw (mul-one (1 + 2 * q), odd-odd)
-lowest (suc k) q (suc t) h = rw (shifted-even (1 + 2 * q) t, shifted-half (1 + 2 * q) t) (ap suc (lowest k q t (le-of-suc-le-suc h)))
+lowest k q t h =
+    let e : k ≡ t + suc (k - suc t) = omega arith in
+    let f : 1 + 2 * q ≡ q * 2 + 1 = omega arith in
+    rw (e, f, zeros-more t (suc (k - suc t)) (q * 2 + 1), zeros-odd (k - suc t) q) (add-zero t)
 
 odd-and : (q : ℕ) → bitAnd (1 + 2 * q) (2 * q) ≡ 2 * q
 odd-and q = and-step (1 + 2 * q) (2 * q) ∙ rw (odd-half, odd-odd, even-half, even-even, and-self) (add-zero _ ∙ mul-comm q 2)

@@ -1,10 +1,11 @@
 -- What `split` gives, shown byte by byte of the text; and that no other list of pieces cuts it, piece by piece. Assumes nothing.
-use Prim.Native.Nat.{ℕ, zero, suc, _+_, _<_, suc-le-suc}
+use Prim.Native.Nat.{ℕ, zero, suc, _+_, _-_, _<_, _≤_, suc-le-suc}
 use mathlib.Core.Path.{_≡_, refl, sym, ap, _∙_}
 use mathlib.Core.List.{List, [], _∷_, _++_}
 use mathlib.Core.Bool.{Bool, true, false}
 use native.Mathlib.Omega.{arith}
-use lib.ListN.{length, getD}
+use lib.ListN.{length, getD, take, drop, length-take}
+use lib.Seq.{getD-take, getD-drop}
 use lib.Dec.{eqb}
 use borrow.Author.Tests.{eqb-true, eqb-false, eq-eqb, ne-eqb}
 use Rattle.text.specs.Pick.{pick, oneIf}
@@ -31,6 +32,15 @@ free-head f = f .free 0 (omega arith)
 
 pub free-tail : {b a : ℕ} {p : List ℕ} → Free b (a ∷ p) → Free b p
 free-tail f = record { free = λ k h. f .free (suc k) (suc-le-suc h) }
+
+-- a part is where no byte of it, from one place of the text up to another, is the separator
+pub part-free : (s : List ℕ) (b from end : ℕ) → from ≤ end → end ≤ length s → ((k : ℕ) → from ≤ k → k < end → getD s k 0 ≡ b → ⊥) → Free b (take (end - from) (drop from s))
+part-free s b from end h w f =
+    record {
+      free = λ k l e.
+          (let m : k < end - from = (let t = length-take (end - from) (drop from s) in omega arith) in
+          f (from + k) (omega arith) (omega arith) (sym (getD-take (end - from) (drop from s) k 0 m ∙ getD-drop from s k 0) ∙ e));
+    }
 
 -- two texts that are free of it are so together
 pub free-append : {b : ℕ} (p : List ℕ) {q : List ℕ} → Free b p → Free b q → Free b (p ++ q)

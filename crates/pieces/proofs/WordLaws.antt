@@ -1,21 +1,21 @@
 -- Eight bytes as one number: no step on it carries from one byte to the next, so each byte is marked by itself, and the lowest mark tells how
 -- many bytes stand before it. Assumes nothing.
-use Prim.Native.Nat.{ℕ, zero, suc, _+_, _-_, _*_, _/_, _%_, _^_, _<_, _≤_}
-use mathlib.Core.Path.{_≡_, refl, sym, _∙_}
+use Prim.Native.Nat.{ℕ, zero, suc, _+_, _-_, _*_, _/_, _^_, _<_, _≤_}
+use mathlib.Core.Path.{_≡_, refl, _∙_}
 use mathlib.Core.List.{List, [], _∷_}
 use native.Mathlib.Omega.{arith}
 use native.Mathlib.Decide.{ℕ-discrete}
-use native.Mathlib.Nat.{zero-add, mul-one}
 use lib.ListN.{length, getD, take, drop, length-drop}
 use lib.Seq.{length-take-le, getD-drop}
 use lib.Dec.{eqb}
-use lib.Bits.{bitAnd, bitOr, bitXor, xor-block, and-block, or-block, xor-lt, or-lt, and-le-r, and-mask, and-comm, and-shifted, shifted-half, shifted-even, xor-self, xor-add-and, and-le-l}
+use lib.Bits.{bitAnd, bitOr, bitXor, xor-block, and-block, or-block, xor-lt, or-lt, and-le-r, and-mask, and-comm, and-shifted, xor-self, xor-add-and, and-le-l}
 use lib.Count.{trailingZeros, trailing-le}
 use lib.Pow.{pow-add, pow-mono}
 use borrow.Author.Tests.{eq-eqb, ne-eqb}
 use Rattle.text.specs.Pick.{pick}
 use Rattle.text.proofs.Lists.{onward}
 use Rattle.text.proofs.FlagLaws.{or-left, or-right}
+use Rattle.text.proofs.BitLaws.{zeros-odd, zeros-more}
 use Rattle.pieces.specs.Inner.{quietLength, wordOf, marksOf}
 use Rattle.pieces.proofs.BlockLaws.{quiet-cons, quiet-none-left}
 
@@ -175,17 +175,6 @@ marks-made s at b h f l e u =
     rw (u, z, e) (m .is)
 
 -- ---- the lowest mark
-
-zeros-odd : (k m : ℕ) → trailingZeros (suc k) (m * 2 + 1) ≡ 0
-unfolding trailingZeros
-zeros-odd k m = let a : (m * 2 + 1) % 2 ≡ 1 = omega arith in rw a
-
-zeros-more : (n k m : ℕ) → trailingZeros (n + k) (m * 2 ^ n) ≡ n + trailingZeros k m
-unfolding trailingZeros
-zeros-more zero k m = rw (zero-add k, mul-one m) (sym (zero-add _))
-zeros-more (suc n) k m =
-    let e : suc n + k ≡ suc (n + k) = omega arith in
-    rw (e, shifted-even m n, shifted-half m n) (omega (arith, zeros-more n k m))
 
 -- in a byte that is b it is the eighth bit, and else it stands past the byte
 pub zeros-byte : (b : ℕ) (l : List ℕ) → trailingZeros (8 * length l) (marksOf b l) / 8 ≡ quietLength b b l

@@ -17,3 +17,4 @@ pub mod Demands
 pub mod Determined
 pub mod CaseLaws
 pub mod FlagLaws
+pub mod BitLaws

@@ -5,8 +5,8 @@ use mathlib.Core.List.{List, [], _∷_, _++_, append-assoc, append-nil}
 use native.Mathlib.Omega.{arith}
 use native.Mathlib.Nat.{zero-add, le-refl, le-of-suc-le-suc}
 use native.Mathlib.Numerals.{add-one}
-use lib.ListN.{length, getD, take, drop, set, length-append, length-drop, length-set, take-append-drop, drop-of-length-le}
-use lib.Seq.{sets, sets-eq, drop-cons, drop-set-lt, getD-set-same, take-all, drop-drop, length-take-le, take-add, take-at, drop-at, take-append-add, drop-append-add}
+use lib.ListN.{length, getD, take, drop, set, length-append, length-drop, take-append-drop, drop-of-length-le}
+use lib.Seq.{sets, sets-eq, drop-cons, take-all, drop-drop, length-take-le, take-add, take-at, drop-at, take-append-add, drop-append-add}
 use borrow.Rule.Slice.PartMut.{putMid}
 use Rattle.text.specs.Range.{cut}
 use Rattle.text.specs.declared.range.Range.{Range}
@@ -98,18 +98,6 @@ take-over vs l k e = take-at vs (drop (length vs) l) k (sym e)
 pub take-overAt : (a : ℕ) (vs l : List ℕ) (k : ℕ) → a ≤ length l → k ≡ length vs → take k (drop a (overAt a vs l)) ≡ vs
 unfolding overAt
 take-overAt a vs l k h e = rw (drop-at (take a l) (over vs (drop a l)) a (length-take-le a l h)) (take-over vs (drop a l) k e)
-
-pub over-long : (vs l : List ℕ) → length vs ≤ length (over vs l)
-unfolding over
-over-long vs l = simp length-append (omega arith)
-
--- one element more, laid over a list, is a store
-pub over-set : (vs l : List ℕ) (j d : ℕ) → length vs ≡ j → j < length l → over (vs ++ d ∷ []) l ≡ over vs (set l j d)
-unfolding over
-over-set vs l j d e h =
-    let z : j < length (set l j d) = simp length-set h in
-    rw (length-append, e, drop-cons (set l j d) j 0 z, getD-set-same l j d 0 h, drop-set-lt (suc j) l j d (le-refl _), add-one)
-    (append-assoc vs (d ∷ []) _)
 
 -- one run of bytes and then another
 pub over-append : (us vs l : List ℕ) → length us ≤ length l → over (us ++ vs) l ≡ overAt (length us) vs (over us l)

@@ -5,7 +5,7 @@ use mathlib.Core.Bool.{Bool, true}
 use mathlib.Core.List.{List}
 use native.Mathlib.Omega.{arith}
 use native.Mathlib.Nat.{add-zero}
-use lib.ListN.{length, take, drop, drop-of-length-le}
+use lib.ListN.{length, getD, take, drop, drop-of-length-le}
 use Rattle.text.specs.Flags.{Plain, Each, TellsOf}
 use Rattle.text.specs.Utf8.{charsFrom, charsOf, there, isUtf8, utf8Answer}
 use Rattle.text.specs.Inner.{CharAt, Passes}
@@ -43,6 +43,13 @@ plain-passes {s} (suc n) at h e =
     let l : at < length s = omega arith in
     let c = at-alone l (e at (omega arith) (omega arith) .small) in
     pass-on (pass-char l c (λ z. omega arith)) (rw q at (plain-passes n (at + 1) (omega arith) (λ k a b. e k (omega arith) (omega arith))))
+
+-- a text of such bytes is UTF-8
+pub plain-utf8 : (t : List ℕ) → ((k : ℕ) → k < length t → getD t k 0 < 128) → isUtf8 t ≡ true
+unfolding isUtf8 there charsOf charsFrom
+plain-utf8 t f =
+    let p = plain-passes {s = t} (length t) 0 (omega arith) (λ k a b. record { small = f k (omega arith) }) in
+    sym (p .same) ∙ rw (drop-of-length-le t {i = 0 + length t} (omega arith))
 
 pub block-plain : {s : List ℕ} {at : ℕ} {r : Bool} → at + 68 ≤ length s → TellsOf 64 Plain s at r → r ≡ true → Passes s at (at + 64)
 block-plain {at = at} f t e = plain-passes 64 at (omega arith) (t .yes e)

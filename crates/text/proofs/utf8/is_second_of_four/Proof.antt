@@ -3,10 +3,6 @@ use Rattle.text.proofs.Utf8Laws.{laws}
 use borrow.Author.Needs.{needs}
 use Rattle.text.proofs.utf8.is_second_of_four.Statement.{statement}
 use Rattle.text.proofs.utf8.is_second_of_four.Tie as tie
-use Rattle.text.proofs.utf8.is_second_of_four.Reads as reads
-use Rattle.text.proofs.utf8.is_second_of_four.Lts as lts
-use Rattle.text.proofs.utf8.is_further.Reads as is-further-reads
-use Rattle.text.proofs.utf8.is_within.Reads as is-within-reads
 
 -- src/utf8.rt:54:17
 is-within-requires : tie.Need-is-within-requires

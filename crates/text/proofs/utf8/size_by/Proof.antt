@@ -3,11 +3,6 @@ use Rattle.text.proofs.Utf8Laws.{laws}
 use borrow.Author.Needs.{needs}
 use Rattle.text.proofs.utf8.size_by.Statement.{statement}
 use Rattle.text.proofs.utf8.size_by.Tie as tie
-use Rattle.text.proofs.utf8.size_by.Reads as reads
-use Rattle.text.proofs.utf8.size_by.Lts as lts
-use Rattle.text.proofs.utf8.is_further.Reads as is-further-reads
-use Rattle.text.proofs.utf8.is_second_of_four.Reads as is-second-of-four-reads
-use Rattle.text.proofs.utf8.is_second_of_three.Reads as is-second-of-three-reads
 
 -- src/utf8.rt:67:16
 is-further-requires : tie.Need-is-further-requires
