@@ -37,14 +37,6 @@ fn samples(input: &Input) -> &[u8] {
     &input.body[..total(&input.samples)]
 }
 
-/// ALT too, which a checked reader goes through.
-fn samples_and_alts(input: &Input) -> &[u8] {
-    match total(&input.samples) {
-        0 => &[],
-        bytes => &input.body[..bytes + total(&input.alts)],
-    }
-}
-
 fn total(places: &[Place]) -> usize {
     places.iter().map(|place| place.len).sum()
 }
@@ -71,7 +63,7 @@ fn rows() -> [Row; 11] {
         row("INFO steps", info, Some(theirs::info_steps), ours::info_steps),
         row("INFO count", info, Some(theirs::info_count), ours::info_count),
         row("samples, every GT", samples, Some(theirs::genotypes), ours::genotypes),
-        row("samples, every GT checked", samples_and_alts, Some(theirs::genotypes_checked), ours::genotypes_checked),
+        row("samples, every GT checked", samples, Some(theirs::genotypes_checked), ours::genotypes_checked),
         row("read lines, samples, every GT", body_with_samples, Some(theirs::read_genotypes), ours::read_genotypes),
         row("write every genotype", genotypes, Some(theirs::write), ours::write),
         row("UTF-8", text, Some(theirs::utf8), ours::utf8),
