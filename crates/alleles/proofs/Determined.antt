@@ -2,26 +2,20 @@
 use Prim.Native.Nat.{ℕ}
 use mathlib.Core.Path.{_≡_, sym, _∙_}
 use mathlib.Core.List.{List}
-use lib.ListN.{drop}
 use Rattle.text.specs.Answer.{Answer}
 use Rattle.text.specs.Outcome.{OneOutcome}
 use Rattle.genotype.specs.Paper.{readPaper}
-use Rattle.genotype.specs.declared.allele.Allele.{Allele}
+use Rattle.allele.specs.declared.allele.Allele.{Allele}
 use Rattle.genotype.specs.declared.read.Read.{Read}
 use Rattle.genotype.proofs.PaperLaws.{read-paper-injective}
 use Rattle.spelling.proofs.PaperLaws.{write-paper-injective}
 use Rattle.alleles.specs.Write.{WritesAlleles}
 use Rattle.alleles.specs.Promises.{Determined}
-use Rattle.alleles.specs.declared.own_read.Filled.{Filled}
 
-one-read : {a : Answer} (r r′ : Read) → readPaper r ≡ a → readPaper r′ ≡ a → r ≡ r′
+pub one-read : {a : Answer} (r r′ : Read) → readPaper r ≡ a → readPaper r′ ≡ a → r ≡ r′
 one-read r r′ e e′ = read-paper-injective r r′ (e ∙ sym e′)
 
--- a row by value
-one-filled : {r r′ : Filled} → r .answer ≡ r′ .answer → r .row ≡ r′ .row → r ≡ r′
-one-filled p q = λ i. record { answer = p i; row = q i }
-
-one-written : (row : List Allele) (major minor : ℕ) (out : List ℕ) (at : ℕ) → OneOutcome (WritesAlleles row major minor out at)
+pub one-written : (row : List Allele) (major minor : ℕ) (out : List ℕ) (at : ℕ) → OneOutcome (WritesAlleles row major minor out at)
 one-written row major minor out at r r′ l l′ w w′ = (write-paper-injective r r′ (w .answer ∙ sym (w′ .answer)), w .bytes ∙ sym (w′ .bytes))
 
 pub determined : Determined
@@ -30,8 +24,4 @@ determined =
       read-alleles = λ t row r r′ l l′ w w′. (one-read r r′ (w .answer) (w′ .answer), w .records ∙ sym (w′ .records));
       read-alleles-checked = λ t alt row r r′ l l′ w w′. (one-read r r′ (w .answer) (w′ .answer), w .records ∙ sym (w′ .records));
       write-alleles = one-written;
-      read-own = λ t row from r r′ w w′. one-filled (one-read (r .answer) (r′ .answer) (w .answer) (w′ .answer)) (w .records ∙ sym (w′ .records));
-      read-own-checked =
-          λ t alt row from r r′ w w′. one-filled (one-read (r .answer) (r′ .answer) (w .answer) (w′ .answer)) (w .records ∙ sym (w′ .records));
-      write-own = λ row from. one-written (drop from row);
     }

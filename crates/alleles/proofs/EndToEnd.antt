@@ -2,8 +2,8 @@
 -- Assumes nothing.
 use mathlib.Core.Path.{_≡_, sym, _∙_}
 use lib.ListN.{length, take, drop}
-use Rattle.genotype.specs.Reading.{list, readingOf, listOf}
-use Rattle.genotype.proofs.MeansLaws.{reads-means}
+use Rattle.allele.specs.Reading.{list, readingOf, listOf}
+use Rattle.allele.proofs.MeansLaws.{reads-means}
 use Rattle.genotype.proofs.AnswerLaws.{answer-list}
 use Rattle.spelling.specs.Demands.{RoundTrip}
 use Rattle.spelling.proofs.RoundTrip.{round-trip}

@@ -13,15 +13,15 @@ use borrow.Author.Tests.{ne-eqb}
 use Rattle.text.specs.Answer.{Answer, numberOf}
 use Rattle.text.specs.Over.{laid, over}
 use Rattle.text.proofs.Lists.{sets-over}
-use Rattle.genotype.specs.Reading.{readingOf, listOf}
+use Rattle.allele.specs.Reading.{readingOf, listOf}
 use Rattle.genotype.specs.Inner.{ListMeant}
 use Rattle.genotype.specs.Answers.{textAnswer, checkedText}
 use Rattle.genotype.specs.Paper.{readPaper}
-use Rattle.genotype.specs.declared.allele.Allele.{Allele}
+use Rattle.allele.specs.declared.allele.Allele.{Allele}
 use Rattle.genotype.specs.declared.read.Read.{Read}
 use Rattle.genotype.specs.declared.read.Read.the-variants as R
 use Rattle.genotype.proofs.read.Read as D
-use Rattle.genotype.proofs.StepLaws.{pastAt, Further}
+use Rattle.allele.proofs.StepLaws.{pastAt, Further}
 use Rattle.genotype.proofs.JudgeLaws.{done-number, other-number}
 use Rattle.genotype.proofs.Ahead.{leftOf, Ahead, ahead-first, left-first, ahead-past, left-past, left-some}
 use Rattle.genotype.proofs.ReadLaws.{Fits, read-fits, checked-fits}

@@ -8,7 +8,7 @@ use mathlib.Core.WellFounded.{WellFounded, InvImage·wf}
 use lib.WfN.{Nat·lt-wfRel}
 use lib.Dec.{lit<}
 use lib.ListN.{length, getD, drop-of-length-le}
-use Rattle.genotype.specs.declared.allele.Allele.{Allele}
+use Rattle.allele.specs.declared.allele.Allele.{Allele}
 use Rattle.spelling.specs.Inner.{plannedText}
 use Rattle.spelling.specs.Promises.{PutsOne}
 use Rattle.spelling.specs.declared.tally.Plan.{Plan}

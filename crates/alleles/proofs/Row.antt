@@ -26,10 +26,10 @@ use denote.Index.{row, others, place, elem-out, elem-back, elem-put}
 use denote.Steps.{owned}
 use denote.Enum.Laws as EL
 use denote.Struct.Laws as LL
-use Rattle.genotype.specs.declared.allele.Allele.{Allele}
+use Rattle.allele.specs.declared.allele.Allele.{Allele}
 use Rattle.genotype.specs.declared.read.Read.{Read}
-use Rattle.genotype.proofs.allele.Allele as T
-use Rattle.genotype.proofs.allele.Allele.Laws as T′
+use Rattle.allele.proofs.allele.Allele as T
+use Rattle.allele.proofs.allele.Allele.Laws as T′
 use Rattle.genotype.proofs.read.Read as N
 use Rattle.genotype.proofs.read.Read.Laws as N′
 

@@ -18,9 +18,9 @@ use denote.Ref.{RefT}
 use denote.Slice.{sliceVal, ShrSlice, shr-slice-copy}
 use denote.Index.{row, looks-slice, shuts-slice}
 use denote.Struct.Laws as LL
-use Rattle.genotype.specs.declared.allele.Allele.{Allele}
-use Rattle.genotype.proofs.allele.Allele as T
-use Rattle.genotype.proofs.allele.Allele.Laws as T′
+use Rattle.allele.specs.declared.allele.Allele.{Allele}
+use Rattle.allele.proofs.allele.Allele as T
+use Rattle.allele.proofs.allele.Allele.Laws as T′
 use Rattle.spelling.specs.Demands.{Fitting}
 use Rattle.alleles.proofs.Row.{R, IsR, blank, takes, puts-back}
 

@@ -17,7 +17,7 @@ use denote.RattleType.{RattleType}
 use denote.Laws.{Is}
 use denote.Steps.{only}
 use denote.Struct.Laws as LL
-use Rattle.genotype.specs.declared.allele.Allele.{Allele}
+use Rattle.allele.specs.declared.allele.Allele.{Allele}
 use Rattle.spelling.specs.Inner.{begun, tallied, tallyOf}
 use Rattle.spelling.specs.declared.tally.Tally.{Tally}
 use Rattle.spelling.proofs.RowLaws.{Tallying, tally-first, tally-turn, tally-past}

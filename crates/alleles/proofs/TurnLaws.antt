@@ -10,16 +10,16 @@ use denote.Enum.Declared.{tagOf}
 use lib.ListN.{drop, drop-of-length-le}
 use borrow.Author.Tests.{lt-ltb, le-ltb}
 use Rattle.text.proofs.Lists.{here}
-use Rattle.genotype.specs.Reading.{stepAnswer, firstOf, pastFirst}
-use Rattle.genotype.specs.Paper.{stepPaper}
-use Rattle.genotype.specs.declared.allele.Allele.{Allele}
-use Rattle.genotype.specs.declared.step.Step.{Step}
-use Rattle.genotype.specs.declared.step.Step.the-variants as S
+use Rattle.allele.specs.Reading.{stepAnswer, firstOf, pastFirst}
+use Rattle.allele.specs.Paper.{stepPaper}
+use Rattle.allele.specs.declared.allele.Allele.{Allele}
+use Rattle.allele.specs.declared.step.Step.{Step}
+use Rattle.allele.specs.declared.step.Step.the-variants as S
 use Rattle.genotype.specs.declared.read.Read.{Read}
 use Rattle.genotype.specs.declared.read.Read.the-variants as R
-use Rattle.genotype.proofs.step.Step as T
+use Rattle.allele.proofs.step.Step as T
 use Rattle.genotype.proofs.read.Read as D
-use Rattle.genotype.proofs.StepLaws.{Further, step-means}
+use Rattle.allele.proofs.StepLaws.{Further, step-means}
 use Rattle.alleles.specs.Inner.{ended, laidTurn, lays, turnAt}
 use Rattle.alleles.specs.declared.read.Turn.{Turn}
 

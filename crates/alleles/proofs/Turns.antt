@@ -8,8 +8,8 @@ use lib.Dec.{ltb}
 use lib.ListN.{set, drop}
 use borrow.Author.Tests.{ltb-true}
 use Rattle.text.specs.Pick.{pick}
-use Rattle.genotype.specs.Reading.{firstOf, pastFirst}
-use Rattle.genotype.specs.declared.allele.Allele.{Allele}
+use Rattle.allele.specs.Reading.{firstOf, pastFirst}
+use Rattle.allele.specs.declared.allele.Allele.{Allele}
 use Rattle.genotype.specs.declared.read.Read.{Read}
 use Rattle.genotype.specs.declared.read.Read.the-variants as R
 use Rattle.alleles.specs.Inner.{ended, laidTurn, lays, turnAt, fillOn}

@@ -4,7 +4,7 @@ use mathlib.Core.Path.{_≡_}
 use mathlib.Core.Bool.{Bool}
 use mathlib.Core.List.{List, _++_}
 use lib.ListN.{length, take, drop}
-use Rattle.genotype.specs.declared.allele.Allele.{Allele}
+use Rattle.allele.specs.declared.allele.Allele.{Allele}
 use Rattle.spelling.specs.Permitted.{from44}
 use Rattle.spelling.specs.Inner.{tallyOf, planOf, answerOf, WritesList}
 use Rattle.spelling.specs.Demands.{Fitting}

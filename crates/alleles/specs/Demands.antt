@@ -6,7 +6,7 @@ use mathlib.Core.List.{List}
 use Rattle.lists.specs.AlternateBases.{altCount}
 use Rattle.genotype.specs.Paper.{readPaper}
 use Rattle.genotype.specs.Demands.{reader, checkedReader}
-use Rattle.genotype.specs.declared.allele.Allele.{Allele}
+use Rattle.allele.specs.declared.allele.Allele.{Allele}
 use Rattle.genotype.specs.declared.read.Read.{Read}
 use Rattle.spelling.specs.Paper.{writePaper}
 use Rattle.spelling.specs.Demands.{writer}

@@ -8,8 +8,8 @@ use lib.ListN.{length, drop, set}
 use lib.Dec.{ltb}
 use Rattle.text.specs.Pick.{pick}
 use Rattle.text.specs.Over.{over}
-use Rattle.genotype.specs.Reading.{firstOf, pastFirst}
-use Rattle.genotype.specs.declared.allele.Allele.{Allele}
+use Rattle.allele.specs.Reading.{firstOf, pastFirst}
+use Rattle.allele.specs.declared.allele.Allele.{Allele}
 use Rattle.genotype.specs.declared.read.Read.{Read}
 use Rattle.genotype.specs.declared.read.Read.the-variants as R
 use Rattle.spelling.specs.Inner.{plannedText}

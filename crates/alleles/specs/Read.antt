@@ -6,7 +6,7 @@ use mathlib.Core.List.{List}
 use lib.ListN.{length}
 use Rattle.genotype.specs.Answers.{textAnswer, checkedText, rowRead, rowChecked}
 use Rattle.genotype.specs.Paper.{readPaper}
-use Rattle.genotype.specs.declared.allele.Allele.{Allele}
+use Rattle.allele.specs.declared.allele.Allele.{Allele}
 use Rattle.genotype.specs.declared.read.Read.{Read}
 
 pub record ReadsRow (t : List ℕ) (row : List Allele) (r : Read) (row′ : List Allele) : Type 0 where

@@ -1,10 +1,10 @@
 // Reading a genotype into a row of alleles.
-use genotype::allele::Allele;
+use allele::allele::Allele;
+use allele::step::Step;
+use allele::step::step_at;
 use genotype::read::Read;
 use genotype::read::judge;
 use genotype::read::judge_checked;
-use genotype::step::Step;
-use genotype::step::step_at;
 ghost use mathlib.Core.Path.{_≡_};
 ghost use Rattle.alleles.specs.Inner.{turnAt, ended, filledRow};
 ghost use Rattle.alleles.specs.Read.{ReadsRow, ReadsRowChecked};

@@ -1,5 +1,5 @@
 // Writing a row of alleles.
-use genotype::allele::Allele;
+use allele::allele::Allele;
 use spelling::put::put_one;
 use spelling::tally::Plan;
 use spelling::tally::Tally;

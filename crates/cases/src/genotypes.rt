@@ -23,12 +23,12 @@ use crate::words::decode_two;
 use crate::words::index_in;
 use crate::words::number;
 use crate::words::word;
-use genotype::allele::Allele;
+use allele::allele::Allele;
+use allele::step::Step;
+use allele::step::step_at;
 use genotype::read::Read;
 use genotype::read::read_checked;
 use genotype::read::read_genotype;
-use genotype::step::Step;
-use genotype::step::step_at;
 
 // The most alleles of a row.
 pub const ROW: u64 = 64;

@@ -25,11 +25,11 @@ use crate::words::numbers;
 use crate::words::word;
 use join::columns::Joined;
 use join::columns::join;
-use line::ending::Ending;
 use lists::alternate_bases::alt_count;
 use lists::alternate_bases::write_alts;
 use lists::filters::write_filters;
 use lists::write::Write;
+use record::ending::Ending;
 ghost use Prim.Native.Nat.{_<_};
 
 pub fn answer(

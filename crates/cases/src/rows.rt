@@ -26,11 +26,11 @@ use crate::words::decode_two;
 use crate::words::index_in;
 use crate::words::number;
 use crate::words::word;
-use alleles::own_read::Filled;
-use alleles::own_read::read_own;
-use alleles::own_read::read_own_checked;
-use alleles::own_write::write_own;
-use genotype::allele::Allele;
+use allele::allele::Allele;
+use own::read::Filled;
+use own::read::read_own;
+use own::read::read_own_checked;
+use own::write::write_own;
 use text::same::same_bytes;
 
 const SIZE: usize = 64;

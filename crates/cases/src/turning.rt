@@ -16,9 +16,9 @@ use forms::turn::narrow;
 use forms::turn::widen;
 use forms::wide::make_wide;
 use forms::wide::wide_places;
-use line::ending::Ending;
-use line::place::make_record;
-use line::place::numbers_of;
+use record::ending::Ending;
+use record::place::make_record;
+use record::place::numbers_of;
 
 pub fn answer(case: &[u8], arguments: usize, out: &mut Buffer, at: Place) -> Answer {
     let verb = index_in(b"widen narrow", 2, word(case, 0));

@@ -2,10 +2,10 @@
 use crate::parts::part;
 use decimal::read::Number;
 use decimal::read::read_decimal;
-use line::ending::Ending;
-use line::ending::ending_by;
 use pieces::step::Step;
 use pieces::step::piece_at;
+use record::ending::Ending;
+use record::ending::ending_by;
 use text::same::same_bytes;
 ghost use Prim.Native.Nat.{_≤_, _<_};
 

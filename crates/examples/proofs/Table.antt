@@ -16,10 +16,10 @@ use Rattle.fields.specs.Pos as L
 use Rattle.lists.specs.AlternateBases.{altCount}
 use Rattle.lists.specs.Judge as J
 use Rattle.lists.specs.Write as F
-use Rattle.genotype.specs.Reading as R
+use Rattle.allele.specs.Reading as R
 use Rattle.genotype.specs.Answers as A
-use Rattle.genotype.specs.Row as N
-use Rattle.genotype.specs.Means.{allPhased}
+use Rattle.allele.specs.Row as N
+use Rattle.allele.specs.Means.{allPhased}
 use Rattle.spelling.specs.Spelling as S
 use Rattle.spelling.specs.Permitted as M
 use Rattle.spelling.specs.Write as W

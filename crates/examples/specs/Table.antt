@@ -15,9 +15,9 @@ use Rattle.fields.specs.Pos.{posAnswer}
 use Rattle.lists.specs.Judge.{entryAnswer}
 use Rattle.lists.specs.Write.{listText, entriesAnswer}
 use Rattle.lists.specs.declared.write.Kind.the-variants as K
-use Rattle.genotype.specs.Reading.{readingOf, listOf}
+use Rattle.allele.specs.Reading.{readingOf, listOf}
 use Rattle.genotype.specs.Answers.{textAnswer, checkedText}
-use Rattle.genotype.specs.declared.allele.Allele.{Allele}
+use Rattle.allele.specs.declared.allele.Allele.{Allele}
 use Rattle.spelling.specs.Spelling.{Spelled, spell}
 use Rattle.spelling.specs.Permitted.{from44}
 use Rattle.spelling.specs.Write.{spelledAnswer, textOf}

@@ -4,7 +4,7 @@ use mathlib.Core.Path.{sym, _∙_}
 use mathlib.Core.List.{List}
 use Rattle.text.specs.Answer.{Answer}
 use Rattle.text.specs.Outcome.{OneOutcome}
-use Rattle.genotype.specs.declared.allele.Allele.{Allele}
+use Rattle.allele.specs.declared.allele.Allele.{Allele}
 use Rattle.exports.specs.Told.{Tells, TellsWriting, TellsReading}
 use Rattle.exports.specs.Promises.{OneWriting, OneReading, Determined}
 

@@ -5,15 +5,15 @@ use mathlib.Core.List.{List, [], _∷_}
 use lib.ListN.{length, getD}
 use borrow.Author.Tests.{le-leb, lt-leb}
 use Rattle.text.specs.Answer.{says}
-use Rattle.line.specs.Line as Line
-use Rattle.line.specs.Line.{endingNumber, endingBy}
-use Rattle.line.specs.Paper.{endingOf, recordPlaces}
-use Rattle.line.specs.Promises.{SizesEnding, NamesEnding, GivesEnding, GivesNumbers, MakesRecord}
-use Rattle.line.specs.declared.ending.Ending.{Ending}
-use Rattle.line.specs.declared.ending.Ending.the-variants as E
-use Rattle.line.specs.declared.read.Record.{Record}
-use Rattle.line.proofs.LineLaws.{ending-told}
-use Rattle.line.proofs.NumberLaws.{eleven, twenty, places-with}
+use Rattle.record.specs.Ending.{endingNumber, endingBy}
+use Rattle.record.specs.Paper.{endingOf, recordPlaces}
+use Rattle.record.specs.Promises.{SizesEnding, NamesEnding, GivesEnding, GivesNumbers, MakesRecord}
+use Rattle.record.specs.declared.ending.Ending.{Ending}
+use Rattle.record.specs.declared.ending.Ending.the-variants as E
+use Rattle.record.specs.declared.place.Record.{Record}
+use Rattle.record.specs.Ending as Endings
+use Rattle.record.proofs.EndingLaws.{ending-told}
+use Rattle.record.proofs.NumberLaws.{eleven, twenty, places-with}
 use Rattle.forms.specs.Form.{widenAnswer, narrowAnswer}
 use Rattle.forms.specs.Paper.{widePlaces, widenedPaper, narrowedPaper}
 use Rattle.forms.specs.Promises as Forms
@@ -65,7 +65,7 @@ module _ (n : ℕ) (numbers : List ℕ) {r : ℕ} {l l′ : List ℕ} where
   unfolding widenedAnswer
   widen-told {x = x} y line h q e k w t =
       rw (le-leb _ _ h)
-      (told-case (sym (w ∙ ap (λ (z : Line.Ending). widenAnswer z (recordPlaces line)) (named {x = x} {y = line .ending} e q (k .0)) ∙ ap (widenAnswer (endingBy n)) (places-with E.Nothing line (k .1)))) t)
+      (told-case (sym (w ∙ ap (λ (z : Endings.Ending). widenAnswer z (recordPlaces line)) (named {x = x} {y = line .ending} e q (k .0)) ∙ ap (widenAnswer (endingBy n)) (places-with E.Nothing line (k .1)))) t)
 
 module _ (n : ℕ) (places : List ℕ) {r : ℕ} {l l′ : List ℕ} where
   pub narrow-none : 2 < n → Tells (says 32 []) l r l′ → Tells (narrowedAnswer n places) l r l′
@@ -77,6 +77,6 @@ module _ (n : ℕ) (places : List ℕ) {r : ℕ} {l l′ : List ℕ} where
   unfolding narrowedAnswer
   narrow-told {x = x} y wide h q e k w t =
       rw (le-leb _ _ h)
-      (told-case (sym (w ∙ ap (λ (z : Line.Ending). narrowAnswer z (widePlaces wide)) (named {x = x} {y = wide .ending} e q (k .0)) ∙ ap (narrowAnswer (endingBy n)) (k .1))) t)
+      (told-case (sym (w ∙ ap (λ (z : Endings.Ending). narrowAnswer z (widePlaces wide)) (named {x = x} {y = wide .ending} e q (k .0)) ∙ ap (narrowAnswer (endingBy n)) (k .1))) t)
 
 pub ruleset laws = (widen-none, widen-told, narrow-none, narrow-told)

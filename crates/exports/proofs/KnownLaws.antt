@@ -5,26 +5,27 @@ use mathlib.Core.List.{List, [], _∷_}
 use Rattle.text.specs.Answer.{says}
 use Rattle.text.specs.declared.range.Range.{Range}
 use Rattle.text.specs.Pick.{oneIf}
-use Rattle.line.specs.Place.{rangeOf}
-use Rattle.line.specs.Line.{endingNumber}
-use Rattle.line.specs.Paper.{endingOf, readPaper}
-use Rattle.line.specs.Promises.{SizesEnding, GivesEnding}
-use Rattle.line.specs.declared.ending.Ending.{Ending}
-use Rattle.line.specs.declared.read.Record.{Record}
+use Rattle.record.specs.Place.{rangeOf}
+use Rattle.record.specs.Ending.{endingNumber}
+use Rattle.record.specs.Paper.{endingOf}
+use Rattle.record.specs.Promises.{SizesEnding, GivesEnding}
+use Rattle.record.specs.declared.ending.Ending.{Ending}
+use Rattle.record.specs.declared.place.Record.{Record}
+use Rattle.record.specs.declared.place.Name.the-variants as N
+use Rattle.line.specs.Paper.{readPaper}
 use Rattle.line.specs.declared.read.Read.{Read}
 use Rattle.line.specs.declared.read.Read.the-variants as R
-use Rattle.line.specs.declared.place.Name.the-variants as N
-use Rattle.line.proofs.LineLaws.{ending-told}
+use Rattle.record.proofs.EndingLaws.{ending-told}
 use Rattle.line.proofs.CaseLaws as L
 use Rattle.info.specs.Paper as IP
 use Rattle.info.specs.declared.step.Entry.{Entry}
 use Rattle.info.specs.declared.step.Step as IS
 use Rattle.info.specs.declared.step.Step.the-variants as I
-use Rattle.genotype.specs.Paper as GP
-use Rattle.genotype.specs.declared.allele.Allele.{Allele}
-use Rattle.genotype.specs.declared.step.Step as GS
-use Rattle.genotype.specs.declared.step.Step.the-variants as G
-use Rattle.genotype.proofs.CaseLaws as A
+use Rattle.allele.specs.Paper as GP
+use Rattle.allele.specs.declared.allele.Allele.{Allele}
+use Rattle.allele.specs.declared.step.Step as GS
+use Rattle.allele.specs.declared.step.Step.the-variants as G
+use Rattle.allele.proofs.CaseLaws as A
 use Rattle.exports.specs.Told.{Tells}
 use Rattle.exports.proofs.ToldLaws.{told-case}
 

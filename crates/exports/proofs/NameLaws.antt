@@ -7,9 +7,9 @@ use native.Mathlib.Omega.{arith}
 use borrow.Author.Tests.{le-leb, lt-leb}
 use Rattle.text.specs.Answer.{Answer, says}
 use Rattle.text.specs.declared.range.Range.{Range}
-use Rattle.line.specs.Line.{Ending, endingBy}
-use Rattle.line.specs.declared.place.Name.{Name}
-use Rattle.line.specs.declared.place.Name.the-variants as N
+use Rattle.record.specs.Ending.{Ending, endingBy}
+use Rattle.record.specs.declared.place.Name.{Name}
+use Rattle.record.specs.declared.place.Name.the-variants as N
 use Rattle.fields.specs.Fields.{textAnswer}
 use Rattle.join.specs.Join.{JoinsAt}
 use Rattle.join.specs.Paper.{joinedPaper}

@@ -6,7 +6,7 @@ use Rattle.text.specs.Answer.{Answer, says}
 use Rattle.text.specs.declared.range.Range.{Range}
 use Rattle.genotype.specs.Answers.{Reads}
 use Rattle.genotype.specs.Paper.{readPaper}
-use Rattle.genotype.specs.declared.allele.Allele.{Allele}
+use Rattle.allele.specs.declared.allele.Allele.{Allele}
 use Rattle.genotype.specs.declared.read.Read.{Read}
 use Rattle.exports.specs.Told.{Tells, TellsWriting, TellsReading}
 

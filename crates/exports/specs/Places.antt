@@ -6,11 +6,11 @@ use lib.Dec.{leb}
 use Rattle.text.specs.Pick.{pick}
 use Rattle.text.specs.Answer.{Answer, says}
 use Rattle.text.specs.declared.range.Range.{Range}
-use Rattle.line.specs.Line.{endingBy}
-use Rattle.line.specs.Paper.{recordPlaces, recordWith}
-use Rattle.line.specs.declared.ending.Ending.the-variants as E
-use Rattle.line.specs.declared.place.Name.{Name}
-use Rattle.line.specs.declared.place.Name.the-variants as N
+use Rattle.record.specs.Ending.{endingBy}
+use Rattle.record.specs.Paper.{recordPlaces, recordWith}
+use Rattle.record.specs.declared.ending.Ending.the-variants as E
+use Rattle.record.specs.declared.place.Name.{Name}
+use Rattle.record.specs.declared.place.Name.the-variants as N
 use Rattle.fields.specs.Fields.{textAnswer}
 use Rattle.join.specs.Join.{joinAnswer, lineLeft}
 use Rattle.forms.specs.Form.{widenAnswer, narrowAnswer}

@@ -24,7 +24,7 @@ use Rattle.lists.specs.AlternateBases.{altCount}
 use Rattle.lists.specs.Judge.{entryAnswer}
 use Rattle.lists.specs.Write as Lists
 use Rattle.lists.specs.declared.write.Kind.the-variants.{Filters, Alts}
-use Rattle.genotype.specs.Reading as Genotype
+use Rattle.allele.specs.Reading as Genotype
 use Rattle.genotype.specs.Answers.{textAnswer, checkedText, slicesAnswer, checkedSlices}
 use Rattle.spelling.specs.Permitted.{from44}
 use Rattle.spelling.specs.Write as Spelling

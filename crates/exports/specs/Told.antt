@@ -6,8 +6,8 @@ use mathlib.Core.List.{List, _∷_}
 use lib.ListN.{length}
 use Rattle.text.specs.Answer.{Answer, numberOf, valuesOf}
 use Rattle.text.specs.Over.{over, laid}
-use Rattle.genotype.specs.Row.{numbersOf, missingOf, phasedOf}
-use Rattle.genotype.specs.declared.allele.Allele.{Allele}
+use Rattle.allele.specs.Row.{numbersOf, missingOf, phasedOf}
+use Rattle.allele.specs.declared.allele.Allele.{Allele}
 
 -- an entry that only judges returns its answer's number
 abbrev pub Judges : Answer → ℕ → Type 0

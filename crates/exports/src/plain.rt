@@ -3,12 +3,12 @@
 use crate::told::LINE_VALUES;
 use crate::told::tell;
 use crate::told::tell_one;
-use line::ending::ending_size;
-use line::place::Name;
-use line::place::ending_of;
-use line::place::place_of;
 use line::read::Read;
-use line::read::Record;
+use record::ending::ending_size;
+use record::place::Name;
+use record::place::Record;
+use record::place::ending_of;
+use record::place::place_of;
 use splitter::split::split_line;
 ghost use Rattle.line.specs.Paper.{readPaper};
 ghost use Rattle.line.specs.declared.read.Read.the-variants as R;

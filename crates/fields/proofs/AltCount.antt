@@ -8,7 +8,7 @@ use native.Mathlib.Omega.{arith}
 use Rattle.text.specs.Pick.{pick}
 use Rattle.text.specs.Same.{same}
 use Rattle.text.proofs.SameLaws.{same-is}
-use Rattle.line.specs.declared.place.Name.the-variants as N
+use Rattle.record.specs.declared.place.Name.the-variants as N
 use Rattle.lists.specs.AlternateBases.{altCount}
 use Rattle.lists.proofs.Counts.{counts}
 use Rattle.fields.specs.Fields.{readText}

@@ -8,10 +8,10 @@ use Rattle.text.specs.Answer.{Answer, says, numberOf}
 use Rattle.text.specs.Range.{rangeAt}
 use Rattle.text.specs.Same.{same}
 use Rattle.text.proofs.SameLaws.{same-self, same-not}
+use Rattle.record.specs.declared.place.Record.{Record}
+use Rattle.record.specs.declared.place.Name.{Name}
 use Rattle.line.specs.Promises.{ReadsLine}
-use Rattle.line.specs.declared.read.Record.{Record}
 use Rattle.line.specs.declared.read.Read.the-variants as R
-use Rattle.line.specs.declared.place.Name.{Name}
 use Rattle.line.proofs.CaseLaws.{read-record}
 use Rattle.line.proofs.RecordLaws.{Recorded, recorded}
 use Rattle.fields.specs.Fields.{dotOf, dotPlaces, fieldAnswer}

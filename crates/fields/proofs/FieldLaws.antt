@@ -14,9 +14,9 @@ use Rattle.text.specs.Range.{cut}
 use Rattle.text.specs.declared.range.Range.{Range}
 use Rattle.text.proofs.Lists.{here, cut-is}
 use Rattle.text.proofs.SameLaws.{same-self, same-not, same-byte}
-use Rattle.line.specs.Place.{rangeOf}
-use Rattle.line.specs.declared.read.Record.{Record}
-use Rattle.line.specs.declared.place.Name.{Name}
+use Rattle.record.specs.Place.{rangeOf}
+use Rattle.record.specs.declared.place.Record.{Record}
+use Rattle.record.specs.declared.place.Name.{Name}
 use Rattle.fields.specs.Fields.{fitsIn, placeAnswer, dotOf, dotPlaces, dotAnswer, textAnswer, fieldAnswer}
 use Rattle.fields.specs.Paper.{fieldPaper}
 use Rattle.fields.specs.declared.field.Text.{Text}

@@ -12,9 +12,9 @@ use Rattle.text.specs.Same.{same}
 use Rattle.text.specs.declared.range.Range.{Range}
 use Rattle.text.proofs.Lists.{cut-is}
 use Rattle.text.proofs.SameLaws.{same-self, same-is, same-not, same-other}
-use Rattle.line.specs.Place.{rangeOf, columnOf, columnStart}
-use Rattle.line.specs.declared.read.Record.{Record}
-use Rattle.line.specs.declared.place.Name.{Name}
+use Rattle.record.specs.Place.{rangeOf, columnOf, columnStart}
+use Rattle.record.specs.declared.place.Record.{Record}
+use Rattle.record.specs.declared.place.Name.{Name}
 use Rattle.line.proofs.RecordLaws.{Recorded, LiesIn, Placed, placed}
 use Rattle.fields.specs.Fields.{Dot, empty, absent, itself, dotOf, dotPlaces, fitsIn, readText, fieldAnswer}
 use Rattle.fields.specs.Paper.{fieldPaper}

@@ -9,14 +9,14 @@ use Rattle.text.specs.Answer.{Answer, says}
 use Rattle.text.specs.Range.{cut}
 use Rattle.text.specs.declared.range.Range.{Range}
 use Rattle.decimal.specs.Demands.{Decimal, FirstFault}
-use Rattle.line.specs.Line.{Ending}
-use Rattle.line.specs.Place.{columnOf, columnStart}
+use Rattle.record.specs.Ending.{Ending}
+use Rattle.record.specs.Place.{columnOf, columnStart}
+use Rattle.record.specs.declared.place.Record.{Record}
+use Rattle.record.specs.declared.place.Name.{Name}
+use Rattle.record.specs.declared.place.Name.the-variants as N
 use Rattle.line.specs.Promises.{ReadsLine}
 use Rattle.line.specs.Demands.{Begins}
-use Rattle.line.specs.declared.read.Record.{Record}
 use Rattle.line.specs.declared.read.Read.the-variants as R
-use Rattle.line.specs.declared.place.Name.{Name}
-use Rattle.line.specs.declared.place.Name.the-variants as N
 use Rattle.lists.specs.AlternateBases.{altCount}
 use Rattle.fields.specs.Fields.{dotOf, empty, absent, itself}
 use Rattle.fields.specs.Paper.{fieldPaper}

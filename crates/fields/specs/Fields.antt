@@ -10,10 +10,10 @@ use Rattle.text.specs.Answer.{Answer, says}
 use Rattle.text.specs.Same.{same}
 use Rattle.text.specs.Range.{cut, rangePlaces}
 use Rattle.text.specs.declared.range.Range.{Range}
-use Rattle.line.specs.Place.{rangeOf}
-use Rattle.line.specs.declared.read.Record.{Record}
-use Rattle.line.specs.declared.place.Name.{Name}
-use Rattle.line.specs.declared.place.Name.the-variants as N
+use Rattle.record.specs.Place.{rangeOf}
+use Rattle.record.specs.declared.place.Record.{Record}
+use Rattle.record.specs.declared.place.Name.{Name}
+use Rattle.record.specs.declared.place.Name.the-variants as N
 
 -- the range's start lies in the buffer, and its length does not pass what is left
 unfoldable pub fitsIn : Range → List ℕ → Bool

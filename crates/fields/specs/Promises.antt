@@ -4,8 +4,8 @@ use mathlib.Core.Path.{_≡_}
 use mathlib.Core.List.{List}
 use Rattle.text.specs.Outcome.{OneAnswer}
 use Rattle.text.specs.declared.range.Range.{Range}
-use Rattle.line.specs.declared.read.Record.{Record}
-use Rattle.line.specs.declared.place.Name.{Name}
+use Rattle.record.specs.declared.place.Record.{Record}
+use Rattle.record.specs.declared.place.Name.{Name}
 use Rattle.fields.specs.Fields.{placeAnswer, textAnswer, fieldAnswer}
 use Rattle.fields.specs.Pos.{posAnswer}
 use Rattle.fields.specs.Paper.{fieldPaper, positionPaper}

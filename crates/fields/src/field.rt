@@ -1,7 +1,7 @@
 // The text of each field of a line, as a place in the line's buffer.
-use line::place::Name;
-use line::place::place_of;
-use line::read::Record;
+use record::place::Name;
+use record::place::Record;
+use record::place::place_of;
 use text::range::Range;
 ghost use mathlib.Core.Path.{_≡_};
 ghost use Prim.Native.Nat.{_+_, _<_, _^_};

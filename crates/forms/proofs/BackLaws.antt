@@ -10,12 +10,12 @@ use lib.ListN.{length, getD, take, drop, take-append-drop}
 use lib.Seq.{length-take-le, getD-take}
 use Rattle.text.specs.Range.{rangeAt, rangePlaces}
 use Rattle.text.specs.declared.range.Range.{Range}
-use Rattle.line.specs.Line.{Ending, endsOf, numbersOf}
-use Rattle.line.specs.Place.{span, passed}
-use Rattle.line.specs.Paper.{recordPlaces, recordNumbers}
-use Rattle.line.specs.declared.read.Record.{Record}
-use Rattle.line.proofs.SpanLaws.{span-real, span-some, span-within, spans, full-spans, bare-spans, format-place, samples-place, rising, rising-numbers}
-use Rattle.line.proofs.NumberLaws.{ends-none, ends-odd, ends-more, numbers-are, recordEnds, record-numbers}
+use Rattle.record.specs.Ending.{Ending}
+use Rattle.record.specs.Place.{endsOf, numbersOf, span, passed}
+use Rattle.record.specs.Paper.{recordPlaces, recordNumbers}
+use Rattle.record.specs.declared.place.Record.{Record}
+use Rattle.record.proofs.SpanLaws.{span-real, span-some, span-within, spans, full-spans, bare-spans, format-place, samples-place, rising, rising-numbers}
+use Rattle.record.proofs.NumberLaws.{ends-none, ends-odd, ends-more, numbers-are, recordEnds, record-numbers}
 use Rattle.forms.specs.Form.{endAt, chainedFrom, chained}
 use Rattle.forms.proofs.ChainLaws.{chain-field, chain-single, chain-some, chain-rises, end-is, end-next}
 use Rattle.forms.proofs.MadeLaws.{bare-drop}

@@ -2,9 +2,9 @@
 use mathlib.Core.Path.{_≡_}
 use mathlib.Core.List.{[], _∷_}
 use Rattle.text.specs.Answer.{says}
-use Rattle.line.specs.Line.{endingNumber}
-use Rattle.line.specs.Paper.{endingOf, recordNumbers}
-use Rattle.line.specs.declared.read.Record.{Record}
+use Rattle.record.specs.Ending.{endingNumber}
+use Rattle.record.specs.Paper.{endingOf, recordNumbers}
+use Rattle.record.specs.declared.place.Record.{Record}
 use Rattle.forms.specs.Paper.{widePlaces, widenedPaper, narrowedPaper}
 use Rattle.forms.specs.declared.wide.Wide.{Wide}
 use Rattle.forms.specs.declared.turn.Widened.{Widened}

@@ -9,21 +9,23 @@ use Rattle.text.specs.Answer.{Answer, says, numberOf}
 use Rattle.text.specs.Pick.{pick}
 use Rattle.text.specs.Range.{rangeAt}
 use Rattle.text.specs.declared.range.Range.{Range}
-use Rattle.line.specs.Line.{endingNumber, numbersOf}
-use Rattle.line.specs.Place.{rangeOf, columnNumber}
-use Rattle.line.specs.Paper.{endingOf, recordPlaces, recordNumbers, readPaper}
+use Rattle.record.specs.Ending.{endingNumber}
+use Rattle.record.specs.Place.{numbersOf, rangeOf, columnNumber}
+use Rattle.record.specs.Paper.{endingOf, recordPlaces, recordNumbers}
+use Rattle.record.specs.declared.ending.Ending.{Ending as DeclaredEnding}
+use Rattle.record.specs.declared.place.Record.{Record}
+use Rattle.record.specs.declared.place.Name.{Name}
+use Rattle.record.specs.declared.place.Name.the-variants as N
+use Rattle.line.specs.Paper.{readPaper}
+use Rattle.record.proofs.EndingLaws.{ending-numbered}
+use Rattle.record.proofs.NumberLaws.{record-values}
+use Rattle.record.proofs.Determined.{same-ending}
+use Rattle.line.proofs.AnswerLaws.{keeps-line}
+use Rattle.line.proofs.CaseLaws.{read-record}
+use Rattle.line.proofs.RecordLaws.{range-place}
 use Rattle.line.specs.Demands as Line
 use Rattle.line.specs.Demands.{Reader}
-use Rattle.line.specs.declared.ending.Ending.{Ending as DeclaredEnding}
-use Rattle.line.specs.declared.read.Record.{Record}
-use Rattle.line.proofs.LineLaws.{ending-numbered}
-use Rattle.line.proofs.AnswerLaws.{keeps-line}
-use Rattle.line.proofs.CaseLaws.{record-values, read-record}
-use Rattle.line.proofs.Determined.{same-ending}
-use Rattle.line.proofs.RecordLaws.{range-place}
 use Rattle.line.specs.declared.read.Read.the-variants as L
-use Rattle.line.specs.declared.place.Name.{Name}
-use Rattle.line.specs.declared.place.Name.the-variants as N
 use Rattle.forms.specs.Form.{made, widenAnswer, narrowAnswer}
 use Rattle.forms.specs.Paper.{wideRange, widePlaces, widenedPaper, narrowedPaper}
 use Rattle.forms.specs.Promises.{WidensRecord, NarrowsWide}

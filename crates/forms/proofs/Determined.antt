@@ -7,9 +7,9 @@ use native.Mathlib.Omega.{arith}
 use lib.ListN.{getD}
 use Rattle.text.specs.Answer.{numberOf}
 use Rattle.text.specs.Range.{rangeAt}
-use Rattle.line.specs.declared.ending.Ending.{Ending}
-use Rattle.line.specs.declared.read.Record.{Record}
-use Rattle.line.proofs.Determined.{same-ending, form-injective}
+use Rattle.record.specs.declared.ending.Ending.{Ending}
+use Rattle.record.specs.declared.place.Record.{Record}
+use Rattle.record.proofs.Determined.{same-ending, form-injective}
 use Rattle.forms.specs.Paper.{widePlaces, widenedPaper, narrowedPaper}
 use Rattle.forms.specs.Promises.{Determined}
 use Rattle.forms.specs.declared.wide.Wide.{Wide}

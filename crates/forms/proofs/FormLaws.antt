@@ -11,9 +11,9 @@ use lib.ListN.{length, take}
 use lib.Seq.{length-take-le, getD-take}
 use lib.Dec.{eqb, leb}
 use borrow.Author.Tests.{le-leb, leb-true, eq-eqb, eqb-true}
-use Rattle.line.specs.Line.{Ending, endingBytes}
-use Rattle.line.specs.Paper.{endingOf}
-use Rattle.line.specs.declared.ending.Ending.{Ending as DeclaredEnding}
+use Rattle.record.specs.Ending.{Ending, endingBytes}
+use Rattle.record.specs.Paper.{endingOf}
+use Rattle.record.specs.declared.ending.Ending.{Ending as DeclaredEnding}
 use Rattle.forms.specs.Form.{endAt, chained, bare, tenFields, limit, made}
 use Rattle.forms.specs.Inner.{Bounded}
 use Rattle.forms.proofs.ChainLaws.{end-is, chain-rises}

@@ -3,14 +3,14 @@
 use Prim.Native.Nat.{ℕ}
 use mathlib.Core.Path.{_≡_, refl, ap}
 use native.Mathlib.Omega.{arith}
-use lib.ListN.{length, take}
+use lib.ListN.{take}
 use Rattle.text.specs.Answer.{Answer, numberOf}
 use Rattle.text.specs.Range.{rangeAt}
-use Rattle.line.specs.Line.{nothing}
+use Rattle.record.specs.Ending.{nothing}
+use Rattle.record.specs.declared.ending.Ending.the-variants as E
 use Rattle.line.specs.Demands as Line
 use Rattle.line.specs.Demands.{Reader}
-use Rattle.line.specs.declared.ending.Ending.the-variants as E
-use Rattle.line.proofs.ColumnLaws.{nothing-bytes}
+use Rattle.record.proofs.EndingLaws.{nothing-bytes}
 use Rattle.forms.specs.Form.{endAt, chainedFrom, chained}
 use Rattle.forms.specs.Paper.{widePlaces}
 use Rattle.forms.specs.Demands.{Narrows}

@@ -19,18 +19,19 @@ use Rattle.text.proofs.Demands.{nil-text, byte-text, append-text}
 use Rattle.pieces.specs.Pieces.{joined}
 use Rattle.pieces.specs.Demands.{Free}
 use Rattle.pieces.proofs.PieceLaws.{joined-none, joined-one, joined-more}
-use Rattle.line.specs.Line.{Ending, nothing, feed, return-feed, endingBytes, endingNumber, leadingPlaces, fieldPlaces, readAnswer}
+use Rattle.record.specs.Ending.{Ending, nothing, feed, return-feed, endingBytes, endingNumber}
+use Rattle.line.specs.Line.{leadingPlaces, fieldPlaces, readAnswer}
 use Rattle.line.specs.Demands as Line
 use Rattle.line.specs.Demands.{MayEnd, Ended, by-nothing, by-feed, by-return-feed, Begins, Reader, Stands, One, Moved, OneReader}
-use Rattle.line.proofs.ColumnLaws.{free-joined, utf8-all, nothing-bytes, feed-bytes, return-feed-bytes}
-use Rattle.line.proofs.LineLaws.{ending-known}
+use Rattle.record.proofs.EndingLaws.{nothing-bytes, feed-bytes, return-feed-bytes, ending-known}
+use Rattle.line.proofs.ColumnLaws.{free-joined, utf8-all}
 use Rattle.line.proofs.RecordLaws.{joined-length, begins-some, behind}
 use Rattle.line.proofs.ShapeLaws.{begins-answer}
 use Rattle.line.proofs.TenPlaces.{leading-none, leading-rest, leading-more, leading-length, all-length, eight-fields, ten-fields, places-lie}
 use Rattle.line.proofs.MovesOn.{read-moved, zero-inside}
 use Rattle.line.proofs.One.{one}
 use Rattle.line.proofs.Meets as LineMeets
-use Rattle.forms.specs.Form.{endAt, chainedFrom, chained, bare, made}
+use Rattle.forms.specs.Form.{endAt, chainedFrom, chained, bare}
 use Rattle.forms.specs.Demands.{Input, Makes, Made}
 use Rattle.forms.proofs.ChainLaws.{chain-field, chain-none, chain-single, chain-on, end-is, end-next}
 use Rattle.forms.proofs.MadeLaws.{bare-drop, drop-bare}

@@ -9,14 +9,13 @@ use lib.ListN.{length, getD, take, drop}
 use lib.Seq.{take-all}
 use lib.Dec.{leb, eqb}
 use borrow.Author.Tests.{le-leb, lt-leb, leb-true, leb-false, eq-eqb, ne-eqb}
-use Rattle.text.specs.Same.{same}
 use Rattle.text.proofs.SameLaws.{same-self, same-is, same-not}
-use Rattle.line.specs.Line.{Ending, nothing, feed, return-feed, endingBytes}
-use Rattle.line.specs.Paper.{endingOf}
-use Rattle.line.specs.Promises.{SizesEnding}
-use Rattle.line.specs.declared.ending.Ending.{Ending as DeclaredEnding}
-use Rattle.line.proofs.ColumnLaws.{nothing-bytes, feed-bytes, return-feed-bytes}
-use Rattle.line.proofs.NumberLaws.{last-four}
+use Rattle.record.specs.Ending.{Ending, nothing, feed, return-feed, endingBytes}
+use Rattle.record.specs.Paper.{endingOf}
+use Rattle.record.specs.Promises.{SizesEnding}
+use Rattle.record.specs.declared.ending.Ending.{Ending as DeclaredEnding}
+use Rattle.record.proofs.EndingLaws.{nothing-bytes, feed-bytes, return-feed-bytes}
+use Rattle.record.proofs.NumberLaws.{last-four}
 use Rattle.forms.specs.Form.{endAt, chained, bare, tenFields, limit, made}
 
 -- ---- FORMAT and the samples empty at INFO's end

@@ -6,13 +6,13 @@ use mathlib.Core.List.{List, [], _∷_}
 use native.Mathlib.Omega.{arith}
 use lib.ListN.{length, getD, drop, drop-of-length-le}
 use lib.Seq.{drop-cons}
-use Rattle.line.specs.Line.{endsOf, numbersOf}
-use Rattle.line.specs.Paper.{endingOf, recordPlaces}
-use Rattle.line.specs.Promises.{GivesEnding, MakesRecord}
-use Rattle.line.specs.declared.ending.Ending.{Ending}
-use Rattle.line.specs.declared.read.Record.{Record}
-use Rattle.line.proofs.LineLaws.{ending-numbered}
-use Rattle.line.proofs.NumberLaws.{ends-none, ends-more, numbers-are}
+use Rattle.record.specs.Place.{endsOf, numbersOf}
+use Rattle.record.specs.Paper.{endingOf, recordPlaces}
+use Rattle.record.specs.Promises.{GivesEnding, MakesRecord}
+use Rattle.record.specs.declared.ending.Ending.{Ending}
+use Rattle.record.specs.declared.place.Record.{Record}
+use Rattle.record.proofs.EndingLaws.{ending-numbered}
+use Rattle.record.proofs.NumberLaws.{ends-none, ends-more, numbers-are}
 use Rattle.forms.specs.Form.{endAt, made, widenAnswer, narrowAnswer}
 use Rattle.forms.specs.Paper.{widePlaces, widenedPaper, narrowedPaper}
 use Rattle.forms.specs.Promises.{MakesWide, WidensRecord, NarrowsWide}

@@ -5,8 +5,8 @@ use mathlib.Core.List.{List, [], _∷_}
 use lib.ListN.{length, getD}
 use Rattle.text.specs.Range.{rangeAt}
 use Rattle.text.specs.declared.range.Range.{Range}
-use Rattle.line.specs.declared.ending.Ending.{Ending}
-use Rattle.line.proofs.NumberLaws.{twenty}
+use Rattle.record.specs.declared.ending.Ending.{Ending}
+use Rattle.record.proofs.NumberLaws.{twenty}
 use Rattle.forms.specs.Paper.{widePlaces}
 use Rattle.forms.specs.Promises.{GivesPlaces, MakesWide}
 use Rattle.forms.specs.declared.wide.Wide.{Wide}

@@ -9,15 +9,15 @@ use lib.ListN.{length, getD}
 use denote.Builtin.{u8}
 use denote.Slice.{Room}
 use Rattle.text.specs.Answer.{Answer, says}
-use Rattle.line.specs.Line.{Ending, endingNumber, numbersOf}
-use Rattle.line.specs.Place.{rangeOf}
-use Rattle.line.specs.Paper.{endingOf, recordPlaces, recordNumbers}
+use Rattle.record.specs.Ending.{Ending, endingNumber}
+use Rattle.record.specs.Place.{numbersOf, rangeOf}
+use Rattle.record.specs.Paper.{endingOf, recordPlaces, recordNumbers}
+use Rattle.record.specs.declared.place.Record.{Record}
+use Rattle.record.specs.declared.place.Name.{Name}
 use Rattle.line.specs.Promises.{ReadsLine, KeepsNumbers}
 use Rattle.line.specs.Demands as Line
 use Rattle.line.specs.Demands.{Reader}
-use Rattle.line.specs.declared.read.Record.{Record}
 use Rattle.line.specs.declared.read.Read.the-variants as L
-use Rattle.line.specs.declared.place.Name.{Name}
 use Rattle.forms.specs.Form.{made}
 use Rattle.forms.specs.Paper.{wideRange, widePlaces}
 use Rattle.forms.specs.Promises.{WidensRecord, NarrowsWide}

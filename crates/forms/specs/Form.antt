@@ -8,7 +8,8 @@ use lib.Dec.{leb, ltb, eqb}
 use Rattle.text.specs.Pick.{pick}
 use Rattle.text.specs.Answer.{Answer, says}
 use Rattle.text.specs.Same.{same}
-use Rattle.line.specs.Line.{Ending, endingBytes, endingNumber, numbersOf}
+use Rattle.record.specs.Ending.{Ending, endingBytes, endingNumber}
+use Rattle.record.specs.Place.{numbersOf}
 
 -- where field i ends
 unfoldable pub endAt : List ℕ → ℕ → ℕ

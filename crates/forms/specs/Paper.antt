@@ -5,10 +5,10 @@ use mathlib.Core.List.{List, [], _∷_, _++_}
 use Rattle.text.specs.Answer.{Answer, says}
 use Rattle.text.specs.Range.{rangePlaces}
 use Rattle.text.specs.declared.range.Range.{Range}
-use Rattle.line.specs.Line.{endingNumber}
-use Rattle.line.specs.Paper.{endingOf, recordNumbers}
-use Rattle.line.specs.declared.place.Name.{Name}
-use Rattle.line.specs.declared.place.Name.the-variants as N
+use Rattle.record.specs.Ending.{endingNumber}
+use Rattle.record.specs.Paper.{endingOf, recordNumbers}
+use Rattle.record.specs.declared.place.Name.{Name}
+use Rattle.record.specs.declared.place.Name.the-variants as N
 use Rattle.forms.specs.declared.wide.Wide.{Wide}
 use Rattle.forms.specs.declared.turn.Widened.{Widened}
 use Rattle.forms.specs.declared.turn.Widened.the-variants as W

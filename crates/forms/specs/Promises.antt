@@ -4,10 +4,10 @@ use mathlib.Core.Path.{_≡_}
 use mathlib.Core.List.{List}
 use Rattle.text.specs.Outcome.{OneAnswer}
 use Rattle.text.specs.declared.range.Range.{Range}
-use Rattle.line.specs.Paper.{endingOf, recordPlaces}
-use Rattle.line.specs.declared.ending.Ending.{Ending}
-use Rattle.line.specs.declared.read.Record.{Record}
-use Rattle.line.specs.declared.place.Name.{Name}
+use Rattle.record.specs.Paper.{endingOf, recordPlaces}
+use Rattle.record.specs.declared.ending.Ending.{Ending}
+use Rattle.record.specs.declared.place.Record.{Record}
+use Rattle.record.specs.declared.place.Name.{Name}
 use Rattle.forms.specs.Form.{widenAnswer, narrowAnswer}
 use Rattle.forms.specs.Paper.{wideRange, widePlaces, widenedPaper, narrowedPaper}
 use Rattle.forms.specs.declared.wide.Wide.{Wide}

@@ -1,13 +1,13 @@
 // Whether a line reader can make a form on some input, by its ending and its ten places. Only differences are taken, so that no
 // numbers are too large.
-use line::ending::Ending;
-use line::ending::ending_size;
+use record::ending::Ending;
+use record::ending::ending_size;
 ghost use mathlib.Core.Path.{_≡_};
 ghost use Prim.Native.Nat.{_+_, _*_, _<_, _≤_};
 ghost use lib.ListN.{length, take};
 ghost use lib.Dec.{leb};
-ghost use Rattle.line.specs.Line.{endingBytes};
-ghost use Rattle.line.specs.Paper.{endingOf};
+ghost use Rattle.record.specs.Ending.{endingBytes};
+ghost use Rattle.record.specs.Paper.{endingOf};
 ghost use Rattle.forms.specs.Form.{chained, bare, endAt, limit, tenFields, made};
 ghost use Rattle.forms.specs.Inner.{follows};
 

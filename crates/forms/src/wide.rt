@@ -1,6 +1,6 @@
 // The old form of a line's record: how the line ended, and the place of each of its ten fields.
-use line::ending::Ending;
-use line::place::Name;
+use record::ending::Ending;
+use record::place::Name;
 use text::range::Range;
 ghost use mathlib.Core.Path.{_≡_};
 ghost use Rattle.text.specs.Range.{rangeAt};

@@ -18,21 +18,22 @@ use Rattle.text.proofs.FirstLaws.{where-none, where-here, where-later}
 use Rattle.text.proofs.SameLaws.{same-other}
 use Rattle.lists.specs.AlternateBases.{altCount}
 use Rattle.lists.proofs.AltLaws.{count-some}
-use Rattle.genotype.specs.Reading.{Reading, list, bad, empty, readingOf, stepAnswer, listOf}
+use Rattle.allele.specs.Reading.{Reading, list, bad, empty, readingOf, stepAnswer, listOf}
+use Rattle.allele.specs.Paper.{stepPaper}
+use Rattle.allele.specs.declared.allele.Allele.{Allele}
+use Rattle.allele.specs.declared.step.Step.{Step}
+use Rattle.allele.specs.declared.step.Step.the-variants as S
+use Rattle.allele.proofs.step.Step as T
+use Rattle.allele.proofs.StepLaws.{found-less}
 use Rattle.genotype.specs.Answers.{firstAbove, aboveAnswer, checkedAnswer, checkedText}
-use Rattle.genotype.specs.Paper.{stepPaper, readPaper}
-use Rattle.genotype.specs.declared.allele.Allele.{Allele}
-use Rattle.genotype.specs.declared.step.Step.{Step}
-use Rattle.genotype.specs.declared.step.Step.the-variants as S
+use Rattle.genotype.specs.Paper.{readPaper}
 use Rattle.genotype.specs.declared.read.Read.{Read}
 use Rattle.genotype.specs.declared.read.Read.the-variants as R
 use Rattle.genotype.specs.declared.above.Above.{Above}
 use Rattle.genotype.specs.declared.above.Above.the-variants as O
 use Rattle.genotype.specs.declared.lay.Whole.{Whole}
 use Rattle.genotype.specs.Inner.{ListMeant, wholeAnswer, NoneAbove, Judged, abovePaper}
-use Rattle.genotype.proofs.step.Step as T
 use Rattle.genotype.proofs.read.Read as D
-use Rattle.genotype.proofs.StepLaws.{found-less}
 use Rattle.genotype.proofs.JudgeLaws.{other-number, judge-fits, judge-other}
 use Rattle.genotype.proofs.Ahead.{leftOf, Ahead, ahead-first, left-first, ahead-turn, left-turn, left-end}
 

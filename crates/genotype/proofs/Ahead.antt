@@ -10,16 +10,16 @@ use denote.Enum.Declared.{tagOf}
 use lib.ListN.{length, drop}
 use lib.Dec.{ltb}
 use borrow.Author.Tests.{ltb-true, ltb-false}
-use Rattle.genotype.specs.Reading.{list, empty, gathered, readingOf, partsOf, stepAnswer, listOf}
+use Rattle.allele.specs.Reading.{list, empty, gathered, readingOf, partsOf, stepAnswer, listOf}
+use Rattle.allele.specs.Paper.{stepPaper}
+use Rattle.allele.specs.declared.allele.Allele.{Allele}
+use Rattle.allele.specs.declared.step.Step.{Step}
+use Rattle.allele.specs.declared.step.Step.the-variants as S
+use Rattle.allele.proofs.step.Step as T
+use Rattle.allele.proofs.PieceLaws.{parts-end}
+use Rattle.allele.proofs.StepLaws.{firstAt, pastAt, Further, further-at, wrong-at, step-means, found}
+use Rattle.allele.proofs.ReadingLaws.{reading-some, reading-none, with-list, with-cons}
 use Rattle.genotype.specs.Inner.{ListMeant}
-use Rattle.genotype.specs.Paper.{stepPaper}
-use Rattle.genotype.specs.declared.allele.Allele.{Allele}
-use Rattle.genotype.specs.declared.step.Step.{Step}
-use Rattle.genotype.specs.declared.step.Step.the-variants as S
-use Rattle.genotype.proofs.step.Step as T
-use Rattle.genotype.proofs.PieceLaws.{parts-end}
-use Rattle.genotype.proofs.StepLaws.{firstAt, pastAt, Further, further-at, wrong-at, step-means, found}
-use Rattle.genotype.proofs.JudgeLaws.{reading-some, reading-none, with-list, with-cons}
 
 -- those from `at` on, the first of which has index k
 abbrev pub leftOf : List ℕ → ℕ → ℕ → List Allele

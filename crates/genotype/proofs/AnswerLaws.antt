@@ -9,11 +9,11 @@ use lib.ListN.{length}
 use borrow.Author.Tests.{eq-eqb, ne-eqb, lt-leb, le-leb}
 use Rattle.text.specs.Answer.{Answer, says, numberOf}
 use Rattle.text.specs.Over.{over}
-use Rattle.genotype.specs.Reading.{list, bad, empty, readingOf, listOf, faultAt}
-use Rattle.genotype.specs.Row.{numbersOf, missingOf, phasedOf}
+use Rattle.allele.specs.Reading.{list, bad, empty, readingOf, listOf, faultAt}
+use Rattle.allele.specs.Row.{numbersOf, missingOf, phasedOf}
+use Rattle.allele.specs.declared.allele.Allele.{Allele}
 use Rattle.genotype.specs.Answers.{readAnswer, rowAnswer, ReadsText}
 use Rattle.genotype.specs.Paper.{readPaper}
-use Rattle.genotype.specs.declared.allele.Allele.{Allele}
 use Rattle.genotype.specs.declared.read.Read.{Read}
 
 -- ---- by what the text reads as

@@ -9,14 +9,15 @@ use native.Mathlib.Decide.{decLt}
 use lib.ListN.{length, getD, take, length-append, List·getD-append}
 use lib.Seq.{length-take-le, take-append-le, take-append-add, getD-append-add}
 use Rattle.decimal.specs.Demands.{Begun, FaultAt}
-use Rattle.genotype.specs.Reading.{headOf}
-use Rattle.genotype.specs.Means.{markByte, Body, dot, number, Later, none, more, allPhased, Means, marked, bare, Ends, at-end, at-mark, Bad, BrokenLater, bad-here, bad-later, Broken, bad-marked, bad-bare, bad-after}
+use Rattle.allele.specs.Reading.{headOf}
+use Rattle.allele.specs.Means.{markByte, Body, dot, number, Later, none, more, allPhased, marked, bare, Ends, at-end, at-mark, Bad, BrokenLater, bad-here, bad-later, Broken, bad-marked, bad-bare, bad-after}
+use Rattle.allele.specs.declared.allele.Allele.{Allele}
+use Rattle.allele.proofs.BodyLaws.{bodied-body, phased-body, body-none}
+use Rattle.allele.proofs.CutLaws.{quiet-append, quiet-take, quiet-head}
+use Rattle.allele.proofs.BrokenLaws.{behind, head-ends, head-whole, bad-quiet, quiet-bad}
+use Rattle.allele.proofs.MeansOrBroken.{means-or-broken}
 use Rattle.genotype.specs.Demands.{reader, Refusals, Meant, Blames}
-use Rattle.genotype.specs.declared.allele.Allele.{Allele}
-use Rattle.genotype.proofs.BodyLaws.{bodied-body, phased-body, body-none}
-use Rattle.genotype.proofs.CutLaws.{quiet-append, quiet-take, quiet-head}
-use Rattle.genotype.proofs.BrokenLaws.{behind, head-ends, head-whole, bad-quiet, quiet-bad}
-use Rattle.genotype.proofs.Refusals.{means-or-broken, refusals}
+use Rattle.genotype.proofs.Refusals.{refusals}
 
 -- ---- up to the byte at fault
 

@@ -14,14 +14,14 @@ use borrow.Author.Tests.{ltb-true, lt-ltb, ne-eqb}
 use Rattle.text.specs.Answer.{says, numberOf}
 use Rattle.text.specs.First.{here, later}
 use Rattle.text.proofs.FirstLaws.{where-none, is-first, first-is, none-first, first-none}
-use Rattle.genotype.specs.Reading.{Reading, list, bad, empty, readingOf, listOf}
+use Rattle.allele.specs.Reading.{Reading, list, bad, empty, readingOf, listOf}
+use Rattle.allele.specs.Means.{Means}
+use Rattle.allele.specs.declared.allele.Allele.{Allele}
+use Rattle.allele.proofs.MeansLaws.{reads-means, means-one}
 use Rattle.genotype.specs.Answers.{readAnswer, firstAbove, aboveAnswer, checkedAnswer, textAnswer}
-use Rattle.genotype.specs.Means.{Means}
 use Rattle.genotype.specs.Demands.{reader, Meant, Untouched, checkedReader, AtMost, FirstAbove, MeansAtMost, MeansAbove, Checked, MeetsChecked, OneChecked, OneReader}
-use Rattle.genotype.specs.declared.allele.Allele.{Allele}
 use Rattle.genotype.proofs.AnswerLaws.{answer-list, answer-short, answer-bad, answer-empty}
 use Rattle.genotype.proofs.ReaderLaws.{checked-answer, checked-row}
-use Rattle.genotype.proofs.MeansLaws.{reads-means, means-one}
 use Rattle.genotype.proofs.Refusals.{one-outcome, meets, one-reader}
 
 -- ---- the first above a count

@@ -3,10 +3,10 @@ use Prim.Native.Nat.{ℕ}
 use mathlib.Core.Path.{sym, _∙_}
 use mathlib.Core.List.{List}
 use Rattle.text.specs.Answer.{Answer}
+use Rattle.allele.specs.declared.allele.Allele.{Allele}
 use Rattle.genotype.specs.Answers.{Reads}
 use Rattle.genotype.specs.Promises.{OneReading, Determined}
-use Rattle.genotype.specs.declared.allele.Allele.{Allele}
-use Rattle.genotype.proofs.PaperLaws.{step-paper-injective, read-paper-injective}
+use Rattle.genotype.proofs.PaperLaws.{read-paper-injective}
 
 one-reading : (a : Answer) (as′ : List Allele) (n m p : List ℕ) → OneReading (Reads a as′ n m p)
 one-reading a as′ n m p r r′ n₁ n₂ m₁ m₂ p₁ p₂ u w = (
@@ -19,7 +19,6 @@ one-reading a as′ n m p r r′ n₁ n₂ m₁ m₂ p₁ p₂ u w = (
 pub determined : Determined
 determined =
     record {
-      step-at = λ t at r r′ e e′. step-paper-injective r r′ (e ∙ sym e′);
       judge = λ t room r r′ e e′. read-paper-injective r r′ (e ∙ sym e′);
       judge-checked = λ t alt room r r′ e e′. read-paper-injective r r′ (e ∙ sym e′);
       read-genotype = λ t n m p. one-reading _ _ n m p;

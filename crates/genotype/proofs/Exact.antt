@@ -7,11 +7,11 @@ use native.Mathlib.Omega.{arith}
 use lib.ListN.{length}
 use borrow.Author.Tests.{ne-eqb}
 use Rattle.text.specs.Answer.{numberOf}
-use Rattle.genotype.specs.Reading.{Reading, list, bad, empty, readingOf, listOf}
+use Rattle.allele.specs.Reading.{Reading, list, bad, empty, readingOf, listOf}
+use Rattle.allele.specs.declared.allele.Allele.{Allele}
+use Rattle.allele.proofs.MeansLaws.{reads-means, means-one}
 use Rattle.genotype.specs.Demands.{Outcome, reader, ExactAt, Exact, Untouched}
-use Rattle.genotype.specs.declared.allele.Allele.{Allele}
 use Rattle.genotype.proofs.AnswerLaws.{answer-list, answer-bad, answer-empty}
-use Rattle.genotype.proofs.MeansLaws.{reads-means, means-one}
 
 -- a text that reads as no list is refused
 refuses : (t : List ℕ) (row : List Allele) (o : Outcome) → ((as′ : List Allele) → readingOf t ≡ list as′ → ⊥) → (numberOf (o .answer) ≡ 0 → ⊥) → ExactAt t row o

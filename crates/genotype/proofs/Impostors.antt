@@ -1,8 +1,7 @@
--- Readers and steppers that nobody would accept do not meet what is asked: each is found out by texts of one or two digits. Assumes
--- nothing.
+-- Readers that nobody would accept do not meet what is asked: each is found out by texts of one or two digits. Assumes nothing.
 use Prim.Native.Nat.{ℕ, _+_, _<_}
 use mathlib.Core.Path.{_≡_, refl, sym, ap, _∙_}
-use mathlib.Core.Bool.{true, false}
+use mathlib.Core.Bool.{true}
 use mathlib.Core.List.{List, [], _∷_}
 use native.Mathlib.Omega.{arith}
 use native.Mathlib.Decide.{ℕ-discrete}
@@ -11,30 +10,20 @@ use Rattle.text.specs.Over.{over}
 use Rattle.text.specs.First.{here}
 use Rattle.text.proofs.Lists.{over-is}
 use Rattle.pieces.proofs.PieceLaws.{free-nil}
-use Rattle.pieces.proofs.CountLaws.{lacks-none}
 use Rattle.decimal.specs.Decimal.{faultOf}
 use Rattle.decimal.proofs.FirstFault.{decimal-fault}
-use Rattle.genotype.specs.Reading.{foundAnswer, stepAnswer}
-use Rattle.genotype.specs.Means.{none, more, Means, bare, at-end, without, bad-here, Broken, bad-after}
-use Rattle.genotype.specs.Demands.{Reader, reader, Stands, ExactAt, Exact, Longer, Refusals, FirstAbove, MeansAbove, Checked, Stepper, Walk, next, Visits, Steps, OneStepper}
-use Rattle.genotype.specs.declared.allele.Allele.{Allele}
-use Rattle.genotype.proofs.PhasedLaws.{phased-none, phased-more}
-use Rattle.genotype.proofs.MeansLaws.{means-one}
-use Rattle.genotype.proofs.BodyLaws.{body-some, digit-body}
+use Rattle.allele.specs.Means.{none, Means, bare, at-end, bad-here, Broken, bad-after}
+use Rattle.allele.specs.declared.allele.Allele.{Allele}
+use Rattle.allele.proofs.PhasedLaws.{phased-none}
+use Rattle.allele.proofs.MeansLaws.{means-one}
+use Rattle.allele.proofs.BodyLaws.{body-some, digit-body}
+use Rattle.allele.proofs.Impostors.{lone}
+use Rattle.genotype.specs.Demands.{Reader, reader, Stands, ExactAt, Exact, Longer, Refusals, FirstAbove, MeansAbove, Checked}
 use Rattle.genotype.proofs.Exact.{exact}
 use Rattle.genotype.proofs.Refusals.{refusals}
-use Rattle.genotype.proofs.Steps.{steps, one-stepper}
-
--- an allele alone is phased, since no mark follows
-abbrev lone : ℕ → Allele
-lone n = record { number = n; missing = false; phased = true }
 
 digit-means : (n : ℕ) → n < 10 → Means ((48 + n) ∷ []) (lone n ∷ [])
 digit-means n h = bare (sym phased-none) (digit-body n true h) none
-
--- `0|1`, by which steps are tried
-pair-means : Means (48 ∷ 124 ∷ 49 ∷ []) (lone 0 ∷ lone 1 ∷ [])
-pair-means = bare (sym (phased-more _ _ ∙ phased-none)) (digit-body 0 true (omega arith)) (more refl (digit-body 1 true (omega arith)) none)
 
 -- an exact reader, given one digit and a row of one
 module _ (read : Reader) (x : Exact read) (n : ℕ) (h : n < 10) where
@@ -146,25 +135,3 @@ room-first read f x =
     let a = f (49 ∷ []) [] (record { list = lone 1 ∷ []; means = digit-means 1 (omega arith); longer = omega arith }) in
     let b = x .above _ [] 0 .1 one-above in
     omega (arith, ap numberOf (sym a ∙ b))
-
--- ---- steppers
-
--- one whose next place lies too far by one
-pub invented-next : (step : Stepper)
-    → ((t : List ℕ) (at next : ℕ) (a : Allele) → stepAnswer t at ≡ foundAnswer next a → step t at ≡ foundAnswer (next + 1) a)
-    → Steps step → ⊥
-unfolding Steps OneStepper
-invented-next step f x =
-    let g = without {rest = []} (sym (lacks-none 47)) (digit-body 0 true (omega arith)) at-end in
-    let e = steps (48 ∷ []) 0 .found (lone 0) 1 .1 g in
-    let a = f (48 ∷ []) 0 1 (lone 0) e in
-    let b = one-stepper step stepAnswer x steps (48 ∷ []) 0 in
-    let z : _≡_ {A = ℕ} 2 1 = cc in
-    omega arith
-
--- one that is right at the first step and then answers 10
-pub stops-early : (step : Stepper) → ((t : List ℕ) (at : ℕ) → 0 < at → step t at ≡ says 10 []) → Visits step → ⊥
-stops-early step f x = by (x .means _ _ .0 pair-means)
-  where
-    by : Walk step (48 ∷ 124 ∷ 49 ∷ []) 0 (lone 0 ∷ lone 1 ∷ []) → ⊥
-    by (next e h (next {at = at} g i w)) = let z = ap numberOf (sym g ∙ f _ at (omega arith)) in omega arith

@@ -10,32 +10,23 @@ use lib.ListN.{length, drop}
 use borrow.Author.Tests.{lt-leb, le-leb}
 use Rattle.text.specs.Answer.{Answer, says, numberOf}
 use Rattle.text.specs.Over.{roomFor}
-use Rattle.genotype.specs.Reading.{Reading, list, bad, empty, with, gathered, readingOf, listOf, partsOf, faultAt, stepAnswer}
+use Rattle.allele.specs.Reading.{Reading, list, bad, empty, with, gathered, readingOf, partsOf, faultAt, stepAnswer}
+use Rattle.allele.specs.Paper.{stepPaper}
+use Rattle.allele.specs.declared.allele.Allele.{Allele}
+use Rattle.allele.specs.declared.step.Step.{Step}
+use Rattle.allele.specs.declared.step.Step.the-variants as S
+use Rattle.allele.proofs.step.Step as T
+use Rattle.allele.proofs.PieceLaws.{parts-end}
+use Rattle.allele.proofs.StepLaws.{further-fault, step-means, found}
+use Rattle.allele.proofs.ReadingLaws.{reading-some, reading-none}
 use Rattle.genotype.specs.Answers.{readAnswer, textAnswer}
-use Rattle.genotype.specs.Paper.{stepPaper, readPaper}
-use Rattle.genotype.specs.declared.allele.Allele.{Allele}
-use Rattle.genotype.specs.declared.step.Step.{Step}
-use Rattle.genotype.specs.declared.step.Step.the-variants as S
+use Rattle.genotype.specs.Paper.{readPaper}
 use Rattle.genotype.specs.declared.read.Read.{Read}
 use Rattle.genotype.specs.declared.read.Read.the-variants as R
 use Rattle.genotype.specs.Inner.{wholeAnswer}
-use Rattle.genotype.proofs.step.Step as T
 use Rattle.genotype.proofs.read.Read as D
-use Rattle.genotype.proofs.PieceLaws.{parts-end}
-use Rattle.genotype.proofs.StepLaws.{further-fault, step-means, found}
 
 -- ---- the whole text
-
--- a text that is not empty reads as its parts do
-pub reading-some : (t : List ℕ) → (length t ≡ 0 → ⊥) → readingOf t ≡ gathered 0 (partsOf t)
-unfolding readingOf
-reading-some [] h = absurd (h refl)
-reading-some (b ∷ s) h = refl
-
-pub reading-none : (t : List ℕ) → length t ≡ 0 → readingOf t ≡ empty
-unfolding readingOf
-reading-none [] h = refl
-reading-none (b ∷ s) h = absurd (omega arith)
 
 -- the answer of k alleles and a reading behind them
 pub wholeFrom : List ℕ → ℕ → Reading → Answer
@@ -54,19 +45,6 @@ unfolding wholeFrom with
 whole-with t k a (list as′) = let z : k + length (a ∷ as′) ≡ k + 1 + length as′ = omega arith in rw z
 whole-with t k a (bad j) = refl
 whole-with t k a empty = refl
-
--- a reading that is a list once it has an allele before it
-pub with-list : (a : Allele) (r : Reading) {as′ : List Allele} → with a r ≡ list as′ → r ≡ list (listOf r)
-unfolding with listOf
-with-list a (list bs) e = refl
-with-list a (bad k) e = cc
-with-list a empty e = cc
-
-pub with-cons : (a : Allele) (r : Reading) {as′ : List Allele} → with a r ≡ list as′ → listOf (with a r) ≡ a ∷ listOf r
-unfolding with listOf
-with-cons a (list bs) e = refl
-with-cons a (bad k) e = cc
-with-cons a empty e = cc
 
 -- neither an allele nor a bad piece, at a place of the text: it is the end
 pub end-tells : (t : List ℕ) (at : ℕ) (x : Step) → at ≤ length t → stepPaper x ≡ stepAnswer t at → OneOf (1 ∷ 2 ∷ 3 ∷ []) (tagOf T.the-type x) → length t ≤ at

@@ -9,10 +9,10 @@ use lib.ListN.{length, getD, take, drop, set, length-set}
 use lib.Seq.{paste-suc, length-take-le, take-at}
 use Rattle.text.specs.Over.{over}
 use Rattle.text.proofs.Lists.{over-is, over-nil, length-over}
-use Rattle.genotype.specs.Row.{numbersOf, missingOf, phasedOf}
+use Rattle.allele.specs.Row.{numbersOf, missingOf, phasedOf}
+use Rattle.allele.specs.declared.allele.Allele.{Allele}
+use Rattle.allele.proofs.ColumnLaws.{numbersOf-length, missingOf-length, phasedOf-length}
 use Rattle.genotype.specs.Inner.{Room, Laid, Copies, Keeps}
-use Rattle.genotype.specs.declared.allele.Allele.{Allele}
-use Rattle.genotype.proofs.ColumnLaws.{numbersOf-length, missingOf-length, phasedOf-length}
 
 -- ---- copied
 

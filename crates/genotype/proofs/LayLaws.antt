@@ -12,18 +12,18 @@ use lib.Seq.{sets, set-out}
 use Rattle.text.specs.Over.{over}
 use Rattle.text.proofs.Lists.{sets-over}
 use Rattle.text.specs.Pick.{oneIf}
-use Rattle.genotype.specs.Reading.{readingOf, stepAnswer, listOf}
-use Rattle.genotype.specs.Row.{numbersOf, missingOf, phasedOf}
-use Rattle.genotype.specs.Answers.{Parallel}
-use Rattle.genotype.specs.Paper.{stepPaper, readPaper}
-use Rattle.genotype.specs.declared.allele.Allele.{Allele}
-use Rattle.genotype.specs.declared.step.Step.{Step}
-use Rattle.genotype.specs.declared.step.Step.the-variants as S
+use Rattle.allele.specs.Reading.{readingOf, stepAnswer, listOf}
+use Rattle.allele.specs.Row.{numbersOf, missingOf, phasedOf, Parallel}
+use Rattle.allele.specs.Paper.{stepPaper}
+use Rattle.allele.specs.declared.allele.Allele.{Allele}
+use Rattle.allele.specs.declared.step.Step.{Step}
+use Rattle.allele.specs.declared.step.Step.the-variants as S
+use Rattle.allele.proofs.step.Step as T
+use Rattle.allele.proofs.StepLaws.{found-less}
+use Rattle.genotype.specs.Paper.{readPaper}
 use Rattle.genotype.specs.declared.read.Read.{Read}
 use Rattle.genotype.specs.declared.read.Read.the-variants as R
 use Rattle.genotype.specs.Inner.{ListMeant, wholeAnswer, Larger, Stores, Lays}
-use Rattle.genotype.proofs.step.Step as T
-use Rattle.genotype.proofs.StepLaws.{found-less}
 use Rattle.genotype.proofs.JudgeLaws.{Judging, end-tells, judge-empty, judge-first, judge-turn, judge-bad, judge-past}
 use Rattle.genotype.proofs.Ahead.{leftOf, Ahead, some-text, ahead-first, left-first, ahead-turn, left-turn, left-none, left-end}
 use Rattle.genotype.proofs.AboveLaws.{Finding, find-first, find-turn, find-past}

@@ -11,14 +11,14 @@ use Rattle.text.specs.Pick.{pick, oneIf}
 use Rattle.text.proofs.Lists.{sets-over}
 use Rattle.text.proofs.FirstLaws.{where-none, where-later}
 use Rattle.lists.specs.AlternateBases.{altCount}
-use Rattle.genotype.specs.Reading.{isMark, list, readingOf}
-use Rattle.genotype.specs.Row.{numbersOf, missingOf, phasedOf}
+use Rattle.allele.specs.Reading.{isMark, list, readingOf}
+use Rattle.allele.specs.Row.{numbersOf, missingOf, phasedOf}
+use Rattle.allele.specs.Means.{markByte, Body, dot, Means, allPhased}
+use Rattle.allele.specs.Means as M
+use Rattle.allele.proofs.BodyLaws.{digit-body, mark-of}
+use Rattle.allele.proofs.MeansLaws.{reads-means}
 use Rattle.genotype.specs.Answers.{firstAbove}
-use Rattle.genotype.specs.Means.{markByte, Body, dot, Means, allPhased}
-use Rattle.genotype.specs.Means as M
 use Rattle.genotype.specs.Inner.{NoneAbove, Larger, Room, Laid, isBody, Pair, FindsPair, KnowsPair, byteWorth, byteAllele, pairOf}
-use Rattle.genotype.proofs.BodyLaws.{digit-body, mark-of}
-use Rattle.genotype.proofs.MeansLaws.{reads-means}
 
 -- ---- one byte
 

@@ -15,11 +15,11 @@ use Rattle.text.specs.Answer.{Answer, says, numberOf}
 use Rattle.text.specs.Over.{over, roomFor}
 use Rattle.text.proofs.CopyLaws.{laid-refused}
 use Rattle.lists.specs.AlternateBases.{altCount}
-use Rattle.genotype.specs.Reading.{Reading, list, bad, empty, readingOf, listOf}
-use Rattle.genotype.specs.Row.{numbersOf, missingOf, phasedOf}
-use Rattle.genotype.specs.Answers.{readAnswer, firstAbove, aboveAnswer, checkedAnswer, textAnswer, checkedText, oneLength, rowAnswer, Parallel, Reads}
+use Rattle.allele.specs.Reading.{Reading, list, bad, empty, readingOf, listOf}
+use Rattle.allele.specs.Row.{numbersOf, missingOf, phasedOf, Parallel}
+use Rattle.allele.specs.declared.allele.Allele.{Allele}
+use Rattle.genotype.specs.Answers.{readAnswer, firstAbove, aboveAnswer, checkedAnswer, textAnswer, checkedText, oneLength, rowAnswer, Reads}
 use Rattle.genotype.specs.Paper.{readPaper}
-use Rattle.genotype.specs.declared.allele.Allele.{Allele}
 use Rattle.genotype.specs.declared.read.Read.{Read}
 use Rattle.genotype.specs.declared.read.Read.the-variants as R
 use Rattle.genotype.specs.Inner.{Judged, Room, Laid, Lays, Copies, Keeps, Kept, Fillable, FindsPair, KnowsPair, pairOf}

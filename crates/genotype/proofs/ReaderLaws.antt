@@ -3,10 +3,10 @@ use Prim.Native.Nat.{ℕ}
 use mathlib.Core.Path.{_≡_, refl}
 use mathlib.Core.List.{List}
 use lib.ListN.{length}
-use Rattle.genotype.specs.Reading.{readingOf}
+use Rattle.allele.specs.Reading.{readingOf}
+use Rattle.allele.specs.declared.allele.Allele.{Allele}
 use Rattle.genotype.specs.Answers.{textAnswer, checkedAnswer, rowRead, rowWithin}
 use Rattle.genotype.specs.Demands.{reader, checkedReader}
-use Rattle.genotype.specs.declared.allele.Allele.{Allele}
 
 module _ (t : List ℕ) (row : List Allele) where
   pub reader-answer : reader t row .answer ≡ textAnswer t (length row)

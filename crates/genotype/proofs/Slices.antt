@@ -9,14 +9,14 @@ use Rattle.text.specs.Pick.{pick}
 use Rattle.text.specs.Answer.{Answer, numberOf}
 use Rattle.text.specs.Over.{over, laid}
 use Rattle.lists.specs.AlternateBases.{altCount}
-use Rattle.genotype.specs.Row.{numbersOf, missingOf, phasedOf, rowOf}
-use Rattle.genotype.specs.Answers.{rowAnswer, Parallel, Reads}
+use Rattle.allele.specs.Row.{numbersOf, missingOf, phasedOf, rowOf, Parallel}
+use Rattle.allele.specs.declared.allele.Allele.{Allele}
+use Rattle.allele.proofs.RowLaws.{row-length, row-over}
+use Rattle.genotype.specs.Answers.{rowAnswer, Reads}
 use Rattle.genotype.specs.Demands.{SlicesReader, SlicesChecked}
-use Rattle.genotype.specs.declared.allele.Allele.{Allele}
 use Rattle.genotype.specs.declared.read.Read.{Read}
 use Rattle.genotype.proofs.AnswerLaws.{row-even}
 use Rattle.genotype.proofs.ReaderLaws.{reader-answer, reader-row, checked-answer, checked-row}
-use Rattle.genotype.proofs.RowLaws.{row-length, row-over}
 
 -- given slices of one length, whatever the answer: it is given, and what is laid over them is laid over the row
 module _ (a : Answer) (as′ : List Allele) {n m p n′ m′ p′ : List ℕ} {r : Read} (q : Parallel n m p) (g : Reads (rowAnswer n m p a) as′ n m p r n′ m′ p′) where

@@ -11,10 +11,10 @@ use Rattle.text.specs.Answer.{Answer, says}
 use Rattle.text.specs.Over.{laid, roomFor}
 use Rattle.text.specs.First.{firstWhere}
 use Rattle.lists.specs.AlternateBases.{altCount}
-use Rattle.genotype.specs.Reading.{Reading, list, bad, empty, readingOf, listOf, faultAt}
-use Rattle.genotype.specs.Row.{numbersOf, missingOf, phasedOf}
+use Rattle.allele.specs.Reading.{Reading, list, bad, empty, readingOf, listOf, faultAt}
+use Rattle.allele.specs.Row.{numbersOf, missingOf, phasedOf}
+use Rattle.allele.specs.declared.allele.Allele.{Allele}
 use Rattle.genotype.specs.Paper.{readPaper}
-use Rattle.genotype.specs.declared.allele.Allele.{Allele}
 use Rattle.genotype.specs.declared.read.Read.{Read}
 
 -- ---- judged whole, and room last
@@ -52,11 +52,7 @@ checkedText t alt room = checkedAnswer (altCount alt) t (readingOf t) room
 
 -- ---- the row
 
--- three slices of one length
-pub record Parallel (n m p : List ℕ) : Type 0 where
-  pub missing : length n ≡ length m
-  pub phased : length n ≡ length p
-
+-- whether three lengths are one
 abbrev pub oneLength : ℕ → ℕ → ℕ → Bool
 oneLength n m p = eqb n m && eqb n p
 

@@ -10,11 +10,11 @@ use Rattle.text.specs.Answer.{Answer, says}
 use Rattle.text.specs.Over.{over}
 use Rattle.text.specs.Pick.{pick, oneIf, within}
 use Rattle.lists.specs.AlternateBases.{altCount}
-use Rattle.genotype.specs.Reading.{Reading, list, bad, empty, isMark, readingOf, listOf, faultAt}
-use Rattle.genotype.specs.Row.{numbersOf, missingOf, phasedOf}
+use Rattle.allele.specs.Reading.{Reading, list, bad, empty, isMark, readingOf, listOf, faultAt}
+use Rattle.allele.specs.Row.{numbersOf, missingOf, phasedOf}
+use Rattle.allele.specs.declared.allele.Allele.{Allele}
 use Rattle.genotype.specs.Answers.{firstAbove}
 use Rattle.genotype.specs.Paper.{readPaper}
-use Rattle.genotype.specs.declared.allele.Allele.{Allele}
 use Rattle.genotype.specs.declared.read.Read.{Read}
 use Rattle.genotype.specs.declared.read.Read.the-variants as R
 use Rattle.genotype.specs.declared.above.Above.{Above}

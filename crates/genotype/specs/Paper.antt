@@ -1,18 +1,8 @@
 -- The number on paper, and the values, of each answer of this crate (docs/RULES.md, "Numbers answered"). Assumes nothing.
 use mathlib.Core.List.{[], _∷_}
 use Rattle.text.specs.Answer.{Answer, says}
-use Rattle.genotype.specs.Reading.{foundAnswer}
-use Rattle.genotype.specs.declared.step.Step.{Step}
-use Rattle.genotype.specs.declared.step.Step.the-variants as S
 use Rattle.genotype.specs.declared.read.Read.{Read}
 use Rattle.genotype.specs.declared.read.Read.the-variants as R
-
-unfoldable pub stepPaper : Step → Answer
-stepPaper (S.Found a next) = foundAnswer next a
-stepPaper S.Beyond = says 6 []
-stepPaper S.Nothing = says 10 []
-stepPaper S.Empty = says 11 []
-stepPaper (S.Bad fault) = says 12 (fault ∷ [])
 
 unfoldable pub readPaper : Read → Answer
 readPaper (R.Done n) = says 0 (n ∷ [])

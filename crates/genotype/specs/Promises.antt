@@ -3,14 +3,9 @@ use Prim.Native.Nat.{ℕ}
 use mathlib.Core.Path.{_≡_}
 use mathlib.Core.List.{List}
 use Rattle.text.specs.Outcome.{OneAnswer}
-use Rattle.genotype.specs.Reading.{stepAnswer}
 use Rattle.genotype.specs.Answers.{textAnswer, checkedText, ReadsText, ReadsChecked}
-use Rattle.genotype.specs.Paper.{stepPaper, readPaper}
-use Rattle.genotype.specs.declared.step.Step.{Step}
+use Rattle.genotype.specs.Paper.{readPaper}
 use Rattle.genotype.specs.declared.read.Read.{Read}
-
-abbrev pub TakesStep : List ℕ → ℕ → Step → Type 0
-TakesStep t at r = stepPaper r ≡ stepAnswer t at
 
 abbrev pub Judges : List ℕ → ℕ → Read → Type 0
 Judges t room r = readPaper r ≡ textAnswer t room
@@ -23,7 +18,6 @@ abbrev pub OneReading : (Read → List ℕ → List ℕ → List ℕ → Type 0)
 OneReading allows = (r r′ : Read) (n n′ m m′ p p′ : List ℕ) → allows r n m p → allows r′ n′ m′ p′ → (r ≡ r′) × (n ≡ n′) × (m ≡ m′) × (p ≡ p′)
 
 pub record Determined : Type 0 where
-  pub step-at : (t : List ℕ) (at : ℕ) → OneAnswer (TakesStep t at)
   pub judge : (t : List ℕ) (room : ℕ) → OneAnswer (Judges t room)
   pub judge-checked : (t alt : List ℕ) (room : ℕ) → OneAnswer (JudgesChecked t alt room)
   pub read-genotype : (t n m p : List ℕ) → OneReading (ReadsText t n m p)

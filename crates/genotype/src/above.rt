@@ -1,13 +1,13 @@
 // The alleles that an ALT column has not.
-use crate::step::Step;
-use crate::step::step_at;
+use allele::step::Step;
+use allele::step::step_at;
 use lists::alternate_bases::alt_count;
 use text::same::same_bytes;
 ghost use mathlib.Core.Path.{_≡_};
 ghost use Prim.Native.Nat.{_≤_};
 ghost use lib.Dec.{leb};
 ghost use Rattle.lists.specs.AlternateBases.{altCount};
-ghost use Rattle.genotype.specs.Reading.{readingOf, listOf};
+ghost use Rattle.allele.specs.Reading.{readingOf, listOf};
 ghost use Rattle.genotype.specs.Answers.{firstAbove};
 ghost use Rattle.genotype.specs.Inner.{ListMeant, NoneAbove, abovePaper};
 

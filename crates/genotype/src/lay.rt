@@ -1,11 +1,11 @@
 // A whole text judged, and its alleles laid over slices on the way.
-use crate::allele::Allele;
 use crate::read::Read;
-use crate::step::Step;
-use crate::step::step_at;
+use allele::allele::Allele;
+use allele::step::Step;
+use allele::step::step_at;
 ghost use mathlib.Core.Path.{_≡_};
 ghost use Rattle.text.specs.Pick.{oneIf};
-ghost use Rattle.genotype.specs.Answers.{Parallel};
+ghost use Rattle.allele.specs.Row.{Parallel};
 ghost use Rattle.genotype.specs.Inner.{Larger, Stores, Lays};
 
 // What a text answers, whatever the room, and a number that none of its alleles is above.

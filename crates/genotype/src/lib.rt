@@ -1,7 +1,5 @@
 // Reading a genotype: a text of alleles, each a number or missing, with its phasing.
 mod above;
-pub mod allele;
 mod lay;
 mod pair;
 pub mod read;
-pub mod step;

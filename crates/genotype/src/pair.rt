@@ -5,7 +5,7 @@ use crate::lay::as_mark;
 use crate::lay::larger;
 ghost use mathlib.Core.Path.{_≡_};
 ghost use mathlib.Core.Bool.{true};
-ghost use Rattle.genotype.specs.Reading.{isMark};
+ghost use Rattle.allele.specs.Reading.{isMark};
 ghost use Rattle.genotype.specs.Inner.{Room, NoneAbove, Laid, isBody, Pair, FindsPair, KnowsPair, byteWorth, pairOf};
 
 // Whether a byte is an allele by itself.

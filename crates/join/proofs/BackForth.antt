@@ -18,9 +18,10 @@ use Rattle.text.proofs.Lists.{take-overAt}
 use Rattle.text.proofs.CopyLaws.{laidAt-refused}
 use Rattle.text.proofs.OutcomeLaws.{same-outcome}
 use Rattle.pieces.specs.Pieces.{joined}
-use Rattle.pieces.specs.Entries.{entryList}
-use Rattle.line.specs.Line.{Ending, endingBytes, readAnswer}
-use Rattle.line.specs.Paper.{endingOf, recordValues}
+use Rattle.entries.specs.Entries.{entryList}
+use Rattle.record.specs.Ending.{Ending, endingBytes}
+use Rattle.record.specs.Paper.{endingOf, recordValues}
+use Rattle.line.specs.Line.{readAnswer}
 use Rattle.line.specs.Demands as Line
 use Rattle.line.specs.Demands.{Begins, Reader, Stands, One, OneReader}
 use Rattle.line.proofs.ShapeLaws.{begins-read}

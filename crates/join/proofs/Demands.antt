@@ -10,7 +10,7 @@ use borrow.Author.Tests.{le-leb, lt-leb, eq-eqb}
 use Rattle.text.specs.Answer.{Answer, says, numberOf}
 use Rattle.text.proofs.CopyLaws.{room-fits, room-lacks, laidAt-refused}
 use Rattle.text.proofs.OutcomeLaws.{same-outcome, RefusedWhen, one-outcome}
-use Rattle.line.specs.Line.{Ending}
+use Rattle.record.specs.Ending.{Ending}
 use Rattle.join.specs.Join.{lineText, columnsAnswer}
 use Rattle.join.specs.Demands.{Joiner, joiner, IsLine, Written, WritesLine, Refused, beyond, few, fault, short, Refusals, Untouched, Meets, OneJoiner}
 use Rattle.join.proofs.FaultLaws.{line-is, Way, uncounted, faulted, lined, way, columns-few, columns-fault, columns-line, fault-some}

@@ -20,7 +20,8 @@ use Rattle.text.specs.Verdict.{Verdict, fine, refused}
 use Rattle.pieces.specs.Pieces.{joined, lacks}
 use Rattle.pieces.proofs.CountLaws.{lacks-free, free-lacks}
 use Rattle.pieces.proofs.PieceLaws.{joined-one, joined-more}
-use Rattle.line.specs.Line.{Ending, nothing, feed, return-feed, endingBytes, required}
+use Rattle.record.specs.Ending.{Ending, nothing, feed, return-feed, endingBytes}
+use Rattle.line.specs.Line.{required}
 use Rattle.line.specs.Demands.{MayEnd, Column, Ended, by-nothing, by-feed, by-return-feed, Begins}
 use Rattle.line.proofs.ColumnLaws.{return-tab, utf8-each, utf8-all, or-none, required-count, count-required}
 use Rattle.join.specs.Join.{isBad, losesReturn, columnJudged, columnsJudged, lineText, columnsAnswer}

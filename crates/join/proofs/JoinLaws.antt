@@ -28,20 +28,23 @@ use Rattle.text.proofs.CopyLaws.{room-sized, writes-fits}
 use Rattle.text.proofs.Lists.{rest-all, length-rest, rest-put, over-nil, overAt-append, length-overAt}
 use Rattle.text.specs.Verdict.{fine, fitted}
 use mathlib.Core.Logic.{inl, inr, ⊎-elim}
-use Rattle.line.specs.Line.{Ending, endingBytes, required}
-use Rattle.line.specs.Paper.{endingOf}
-use Rattle.line.specs.declared.ending.Ending.{Ending as DeclaredEnding}
-use Rattle.line.specs.declared.ending.Ending.the-variants as E
-use Rattle.line.proofs.ColumnLaws.{required-count, count-required, nothing-bytes, feed-bytes, return-feed-bytes}
+use Rattle.record.specs.Ending.{Ending, endingBytes}
+use Rattle.record.specs.Paper.{endingOf}
+use Rattle.record.specs.declared.ending.Ending.{Ending as DeclaredEnding}
+use Rattle.record.specs.declared.ending.Ending.the-variants as E
+use Rattle.line.specs.Line.{required}
+use Rattle.record.proofs.EndingLaws.{nothing-bytes, feed-bytes, return-feed-bytes}
+use Rattle.line.proofs.ColumnLaws.{required-count, count-required}
 use Rattle.pieces.specs.Pieces.{joined}
-use Rattle.pieces.specs.Entries.{rising, entryList}
-use Rattle.pieces.specs.Inner.{endsAnswer, startOf, quietLength, Quiet}
-use Rattle.pieces.specs.Paper.{endsPaper}
-use Rattle.pieces.specs.declared.entries.Ends.{Ends}
-use Rattle.pieces.specs.declared.entries.Ends.the-variants as N
+use Rattle.pieces.specs.Inner.{quietLength, Quiet}
 use Rattle.pieces.proofs.EitherLaws.{either-quiet, either-second}
-use Rattle.pieces.proofs.EntryLaws.{start-later, entries-length, entry-here, entry-past, ends-tell}
-use Rattle.pieces.proofs.JoinedLaws.{list-length}
+use Rattle.entries.specs.Entries.{rising, entryList}
+use Rattle.entries.specs.Inner.{endsAnswer, startOf}
+use Rattle.entries.specs.Paper.{endsPaper}
+use Rattle.entries.specs.declared.entries.Ends.{Ends}
+use Rattle.entries.specs.declared.entries.Ends.the-variants as N
+use Rattle.entries.proofs.EntryLaws.{start-later, entries-length, entry-here, entry-past, ends-tell}
+use Rattle.entries.proofs.JoinedLaws.{list-length}
 use Rattle.join.specs.Join.{isBad, losesReturn, columnJudged, columnsJudged, lineText, columnsAnswer, listAnswer, joinAnswer, JoinsAt}
 use Rattle.join.specs.Inner.{Fine}
 use Rattle.join.specs.Paper.{joinedPaper}

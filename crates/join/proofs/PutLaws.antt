@@ -14,10 +14,10 @@ use Rattle.text.specs.declared.copy.Written.{Written}
 use Rattle.text.proofs.CopyLaws.{writes-fits}
 use Rattle.text.proofs.Lists.{length-rest, rest-put, over-is, overAt-append, overAt-one, overAt-again, length-overAt}
 use Rattle.pieces.specs.Pieces.{joined}
-use Rattle.pieces.specs.Entries.{rising, entryList}
-use Rattle.pieces.specs.Inner.{startOf}
-use Rattle.pieces.proofs.EntryLaws.{start-first, start-later, rising-fits, rising-below, entry-cut}
-use Rattle.pieces.proofs.JoinedLaws.{list-length, Laying, lay-first, lay-count, lay-on, last-bytes, last-length}
+use Rattle.entries.specs.Entries.{rising, entryList}
+use Rattle.entries.specs.Inner.{startOf}
+use Rattle.entries.proofs.EntryLaws.{start-first, start-later, rising-fits, rising-below, entry-cut}
+use Rattle.entries.proofs.JoinedLaws.{list-length, Laying, lay-first, lay-count, lay-on, last-bytes, last-length}
 use Rattle.join.specs.Inner.{Lies, Short, Puts}
 
 -- ---- sixteen bytes

@@ -16,10 +16,10 @@ use Rattle.text.specs.Verdict.{Verdict, fine}
 use Rattle.text.proofs.FlagLaws.{or-left, or-right}
 use Rattle.text.proofs.ByteLaws.{ends-at}
 use Rattle.text.proofs.RunLaws.{plain-utf8}
-use Rattle.pieces.specs.Entries.{rising, entryList}
-use Rattle.pieces.specs.Inner.{startOf}
-use Rattle.pieces.proofs.EntryLaws.{start-first, start-later, fits-rising, entries-length, entry-cut}
-use Rattle.line.specs.Line.{Ending, feed}
+use Rattle.entries.specs.Entries.{rising, entryList}
+use Rattle.entries.specs.Inner.{startOf}
+use Rattle.entries.proofs.EntryLaws.{start-first, start-later, fits-rising, entries-length, entry-cut}
+use Rattle.record.specs.Ending.{Ending, feed}
 use Rattle.line.specs.Demands.{Column}
 use Rattle.join.specs.Join.{isBad, losesReturn}
 use Rattle.join.specs.Demands.{no-column, lost, Fault, bad, broken}

@@ -12,13 +12,13 @@ use Rattle.text.specs.Outcome.{Outcome}
 use Rattle.text.specs.Over.{laidAt, overAt}
 use Rattle.text.specs.Place.{placed}
 use Rattle.text.specs.Utf8.{isUtf8}
-use Rattle.pieces.specs.Entries.{rising, entryList}
-use Rattle.line.specs.Line.{Ending, nothing, feed}
-use Rattle.line.specs.Paper.{endingOf}
+use Rattle.entries.specs.Entries.{rising, entryList}
+use Rattle.record.specs.Ending.{Ending, nothing, feed}
+use Rattle.record.specs.Paper.{endingOf}
+use Rattle.record.specs.declared.place.Record.{Record}
 use Rattle.line.specs.Promises.{ReadsLine}
 use Rattle.line.specs.Demands as Line
 use Rattle.line.specs.Demands.{MayEnd, Column, Begins, Reader, Stands}
-use Rattle.line.specs.declared.read.Record.{Record}
 use Rattle.line.specs.declared.read.Read.the-variants as R
 use Rattle.join.specs.Join.{lineText, columnsAnswer, JoinsAt}
 use Rattle.join.specs.Paper.{joinedPaper}

@@ -6,9 +6,9 @@ use mathlib.Core.List.{List, _++_}
 use lib.ListN.{length, getD}
 use Rattle.text.specs.Over.{overAt}
 use Rattle.text.specs.Verdict.{fine}
-use Rattle.line.specs.Line.{Ending}
-use Rattle.pieces.specs.Entries.{rising, entryList}
-use Rattle.pieces.specs.Inner.{startOf}
+use Rattle.record.specs.Ending.{Ending}
+use Rattle.entries.specs.Entries.{rising, entryList}
+use Rattle.entries.specs.Inner.{startOf}
 use Rattle.join.specs.Join.{columnsJudged}
 
 -- ---- all columns judged at once

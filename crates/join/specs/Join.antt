@@ -11,9 +11,10 @@ use Rattle.text.specs.Bytes.{isEmpty, endsIn}
 use Rattle.text.specs.Utf8.{isUtf8}
 use Rattle.text.specs.Place.{placed}
 use Rattle.text.specs.Verdict.{Verdict, fine, refused, fitted}
-use Rattle.line.specs.Line.{Ending, nothing, feed, return-feed, endingBytes, required}
+use Rattle.record.specs.Ending.{Ending, nothing, feed, return-feed, endingBytes}
+use Rattle.line.specs.Line.{required}
 use Rattle.pieces.specs.Pieces.{joined, lacks}
-use Rattle.pieces.specs.Entries.{entryList, ordered}
+use Rattle.entries.specs.Entries.{entryList, ordered}
 use Rattle.join.specs.Paper.{joinedPaper}
 use Rattle.join.specs.declared.columns.Joined.{Joined}
 

@@ -2,7 +2,7 @@
 use Prim.Native.Nat.{ℕ}
 use mathlib.Core.List.{List}
 use Rattle.text.specs.Outcome.{OneOutcome}
-use Rattle.line.specs.Line.{Ending}
+use Rattle.record.specs.Ending.{Ending}
 use Rattle.join.specs.Join.{JoinsAt}
 
 pub record Determined : Type 0 where

@@ -8,7 +8,7 @@ ghost use Prim.Native.Nat.{_+_, _-_, _<_, _≤_};
 ghost use lib.ListN.{length, take, drop};
 ghost use Rattle.text.specs.Over.{over, overAt};
 ghost use Rattle.pieces.specs.Pieces.{joined};
-ghost use Rattle.pieces.specs.Entries.{rising, entryList};
+ghost use Rattle.entries.specs.Entries.{rising, entryList};
 ghost use Rattle.join.specs.Inner.{Lies, Short, Puts};
 
 // Copies 16 bytes. Through a block of their own they are moved at once, since it shares no memory with either side.

@@ -3,7 +3,7 @@ ghost use mathlib.Core.Path.{_≡_};
 ghost use mathlib.Core.Bool.{true};
 ghost use Prim.Native.Nat.{_<_};
 ghost use lib.ListN.{length};
-ghost use Rattle.pieces.specs.Inner.{startOf};
+ghost use Rattle.entries.specs.Inner.{startOf};
 ghost use Rattle.join.specs.Inner.{Marks, AllSimple, Apart};
 
 // Where the last column ends, of at least one.

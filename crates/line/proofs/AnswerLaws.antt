@@ -17,19 +17,25 @@ use Rattle.text.proofs.Lists.{drop-take}
 use Rattle.text.specs.Verdict.{Verdict, fine, refused}
 use Rattle.pieces.specs.Pieces.{split}
 use Rattle.pieces.proofs.PieceLaws.{split-some}
-use Rattle.line.specs.Line.{Ending, endingBytes, endingNumber, Line, line, lineOf, verdict, allUtf8, numbersOf, judgedAnswer, lineAnswer, readAnswer}
-use Rattle.line.specs.Paper.{endingOf, recordPlaces, recordValues, recordNumbers, readPaper}
-use Rattle.line.specs.Promises.{NamesEnding, KeepsNumbers}
+use Rattle.record.specs.Ending.{Ending, endingBytes, endingNumber}
+use Rattle.record.specs.Place.{numbersOf}
+use Rattle.record.specs.Paper.{endingOf, recordPlaces, recordNumbers}
+use Rattle.record.specs.Promises.{NamesEnding}
+use Rattle.record.specs.declared.ending.Ending.{Ending as DeclaredEnding}
+use Rattle.record.specs.declared.place.Record.{Record}
+use Rattle.line.specs.Line.{Line, line, lineOf, verdict, allUtf8, judgedAnswer, lineAnswer, readAnswer}
+use Rattle.line.specs.Paper.{readPaper}
+use Rattle.line.specs.Promises.{KeepsNumbers}
 use Rattle.line.specs.Demands.{ByColumns}
 use Rattle.line.specs.Inner.{accepted, denied, judgement, judgementOf, judgedPaper, InOrder, Unset, Marks, Told, Fields}
-use Rattle.line.specs.declared.ending.Ending.{Ending as DeclaredEnding}
-use Rattle.line.specs.declared.read.Record.{Record}
 use Rattle.line.specs.declared.read.Read.{Read}
 use Rattle.line.specs.declared.read.Read.the-variants as R
 use Rattle.line.specs.declared.read.Judged.{Judged}
 use Rattle.line.specs.declared.read.Judged.the-variants as J
+use Rattle.record.proofs.EndingLaws.{ending-sized, ending-numbered}
+use Rattle.record.proofs.NumberLaws.{record-values}
 use Rattle.line.proofs.ColumnLaws.{line-whole, by-columns, fine-count}
-use Rattle.line.proofs.LineLaws.{ending-sized, ending-numbered, read-beyond, read-end, read-line}
+use Rattle.line.proofs.LineLaws.{read-beyond, read-end, read-line}
 
 -- ---- a line whose columns are in order
 
@@ -108,15 +114,15 @@ module _ {s : List ℕ} {at end next : ℕ} (g : InOrder s at end next) where
   module _ {x : Utf8} (u : utf8Paper x ≡ utf8Answer (take (end - at) (drop at s))) where
     pub finish-line : (r : Record) (y : DeclaredEnding) → x ≡ U.Text → NamesEnding (next - end) y → Fields (take end s) at y r
         → readPaper (R.Line r next) ≡ lineAnswer at (lineOf (drop at s))
-    unfolding readPaper recordValues judgedAnswer ByColumns
+    unfolding readPaper judgedAnswer ByColumns
     finish-line r y q b f = by (ordered g)
       where
         by : Ordered s at end next → readPaper (R.Line r next) ≡ lineAnswer at (lineOf (drop at s))
         by o =
             let v : allUtf8 (split 9 (o .text)) ≡ true = sym (by-columns (o .text)) ∙ told-text (o .text) (rw (q, o .stands) at u) in
             let d : endingOf y ≡ o .ending = b ∙ ending-sized (o .ending) (let z = o .past in omega arith) in
-            let n : endingNumber (endingOf (r .ending)) ≡ endingNumber (o .ending) = ending-numbered (f .ends) ∙ ap endingNumber d in
-            rw (line-judged o, v, n, f .places, text-cut o, length-take-le end s (o .within))
+            let n : endingNumber (endingOf (r .ending)) ≡ endingNumber (o .ending) = sym (ending-numbered (f .ends)) ∙ ap endingNumber d in
+            rw (record-values r, line-judged o, v, n, f .places, text-cut o, length-take-le end s (o .within))
 
     pub finish-broken : x ≡ U.Broken → readPaper (R.NotUtf8 next) ≡ lineAnswer at (lineOf (drop at s))
     unfolding readPaper judgedAnswer ByColumns

@@ -19,8 +19,10 @@ use Rattle.text.specs.Verdict.{Verdict, fine, refused}
 use Rattle.pieces.specs.Pieces.{split, joined}
 use Rattle.pieces.specs.Demands.{Free}
 use Rattle.pieces.proofs.PieceLaws.{first-free, joined-none, joined-one, joined-more, free-nil, free-cons, free-tail, free-append, free-left, free-right, split-some, split-nil, split-joined, split-whole, split-append, one-text, more-text}
-use Rattle.line.specs.Line.{Ending, nothing, feed, return-feed, endingBytes, line, fed, lineIn, lineOf, required, lastVerdict, verdict, fieldPlaces, allUtf8, endingNumber, judgedAnswer, lineAnswer}
+use Rattle.record.specs.Ending.{Ending, nothing, feed, return-feed, endingBytes, endingNumber}
+use Rattle.line.specs.Line.{line, fed, lineIn, lineOf, required, lastVerdict, verdict, fieldPlaces, allUtf8, judgedAnswer, lineAnswer}
 use Rattle.line.specs.Demands.{Ended, by-nothing, by-feed, by-return-feed, LineCut, ByColumns}
+use Rattle.record.proofs.EndingLaws.{nothing-bytes, feed-bytes, return-feed-bytes}
 
 -- ---- pieces joined
 
@@ -70,18 +72,6 @@ pub line-end : (c : List ℕ) → Free 10 c → lineOf c ≡ line c nothing []
 unfolding lineOf lineIn
 line-end c f = rw (split-whole c f)
 
-pub nothing-bytes : endingBytes nothing ≡ []
-unfolding endingBytes
-nothing-bytes = refl
-
-pub feed-bytes : endingBytes feed ≡ 10 ∷ []
-unfolding endingBytes
-feed-bytes = refl
-
-pub return-feed-bytes : endingBytes return-feed ≡ 13 ∷ 10 ∷ []
-unfolding endingBytes
-return-feed-bytes = refl
-
 line-same : {s t t′ : List ℕ} {e e′ : Ending} {rest rest′ : List ℕ} → line t e rest ≡ line t′ e′ rest′ → LineCut s t e rest
     → LineCut s t′ e′ rest′
 line-same {t = t} {t′ = t′} {e = e} {e′ = e′} {rest = rest} {rest′ = rest′} q c =
@@ -92,30 +82,28 @@ line-same {t = t} {t′ = t′} {e = e} {e′ = e′} {rest = rest} {rest′ = r
 
 -- such a cut is the line's
 pub line-only : {s t : List ℕ} {e : Ending} {rest : List ℕ} → LineCut s t e rest → lineOf s ≡ line t e rest
-unfolding endingBytes
 line-only {t = t} c = by (c .ended) (c .whole)
   where
     by : {e : Ending} {s rest : List ℕ} → Ended t e rest → t ++ (endingBytes e ++ rest) ≡ s → lineOf s ≡ line t e rest
-    by by-nothing w = rw (← w, append-nil t) (line-end t (c .unfed))
-    by {rest = rest} (by-feed h) w = rw (← w) (line-feed t rest (c .unfed) ∙ fed-plain t rest h)
+    by by-nothing w = rw (← w, nothing-bytes, append-nil t) (line-end t (c .unfed))
+    by {rest = rest} (by-feed h) w = rw (← w, feed-bytes) (line-feed t rest (c .unfed) ∙ fed-plain t rest h)
     by {rest = rest} by-return-feed w =
-        rw (← w, ← append-assoc t (13 ∷ []) (10 ∷ rest))
+        rw (← w, return-feed-bytes, ← append-assoc t (13 ∷ []) (10 ∷ rest))
         (line-feed (t ++ 13 ∷ []) rest (free-append t (c .unfed) (free-cons (λ z. omega arith) free-nil)) ∙ fed-return t rest)
 
 -- an input without LF, and one cut at its first LF, are so cut
 end-cut : {s : List ℕ} → Free 10 s → LineCut s s nothing []
-unfolding endingBytes
-end-cut {s} f = record { whole = append-nil s; unfed = f; ended = by-nothing }
+end-cut {s} f = record { whole = rw nothing-bytes (append-nil s); unfed = f; ended = by-nothing }
 
 feed-cut : (p rest : List ℕ) {t : List ℕ} {e : Ending} {r : List ℕ} → Free 10 p → fed p rest ≡ line t e r → LineCut (p ++ 10 ∷ rest) t e r
-unfolding fed endingBytes
+unfolding fed
 feed-cut p rest {t} {e} {r} f q = by (endsIn 13 p) refl q
   where
     by : (b : Bool) → endsIn 13 p ≡ b → pick b (line (dropLast p) return-feed rest) (line p feed rest) ≡ line t e r → LineCut (p ++ 10 ∷ rest) t e r
     by true h q =
         let w = ends-is 13 p h in
-        line-same q (record { whole = sym (append-assoc (dropLast p) (13 ∷ []) (10 ∷ rest)) ∙ rw w; unfed = free-left (dropLast p) (13 ∷ []) (rw w f); ended = by-return-feed })
-    by false h q = line-same q (record { whole = refl; unfed = f; ended = by-feed h })
+        line-same q (record { whole = rw return-feed-bytes (sym (append-assoc (dropLast p) (13 ∷ []) (10 ∷ rest)) ∙ rw w); unfed = free-left (dropLast p) (13 ∷ []) (rw w f); ended = by-return-feed })
+    by false h q = line-same q (record { whole = rw feed-bytes; unfed = f; ended = by-feed h })
 
 -- the line is so cut
 pub line-whole : (s : List ℕ) {t : List ℕ} {e : Ending} {rest : List ℕ} → lineOf s ≡ line t e rest → LineCut s t e rest

@@ -5,7 +5,8 @@ use mathlib.Core.List.{List, [], _∷_}
 use native.Mathlib.Omega.{arith}
 use lib.ListN.{drop}
 use Rattle.text.specs.Answer.{Answer, says, numberOf, valuesOf}
-use Rattle.line.specs.Line.{Ending, readAnswer}
+use Rattle.record.specs.Ending.{Ending}
+use Rattle.line.specs.Line.{readAnswer}
 use Rattle.line.specs.Demands.{Begins, Reader, Refuses, Exact, Faults, Moved, MovesOn}
 use Rattle.line.proofs.ShapeLaws.{begins-read}
 use Rattle.line.proofs.MovesOn.{moves-on}

@@ -1,5 +1,4 @@
--- The line at a place: all that is left where no LF stands from it on; else what stands before the first LF, less one CR; and an ending by how
--- many bytes it has. Assumes nothing.
+-- The line at a place: all that is left where no LF stands from it on; else what stands before the first LF, less one CR. Assumes nothing.
 use Prim.Native.Nat.{ℕ, _+_, _-_, _<_, _≤_}
 use mathlib.Core.Path.{_≡_, refl, sym, _∙_}
 use mathlib.Core.List.{List, [], dropLast}
@@ -10,15 +9,17 @@ use borrow.Author.Tests.{le-leb, lt-leb}
 use Rattle.text.specs.Answer.{says}
 use Rattle.pieces.specs.Inner.{Quiet, quietLength}
 use Rattle.pieces.proofs.EitherLaws.{either-quiet, either-second}
-use Rattle.line.specs.Line.{feed, return-feed, endingBytes, endingNumber, fed, lineOf, extentAnswer, lineAtAnswer}
-use Rattle.line.specs.Paper.{endingOf, linedPaper}
-use Rattle.line.specs.Promises.{NamesEnding, FindsLine}
+use Rattle.record.specs.Ending.{feed, return-feed, endingBytes}
+use Rattle.record.specs.Promises.{NamesEnding}
+use Rattle.record.specs.declared.ending.Ending.{Ending}
+use Rattle.record.specs.declared.ending.Ending.the-variants as E
+use Rattle.line.specs.Line.{fed, lineOf, extentAnswer, lineAtAnswer}
+use Rattle.line.specs.Paper.{linedPaper}
+use Rattle.line.specs.Promises.{FindsLine}
 use Rattle.line.specs.Demands.{FirstFeed}
 use Rattle.line.specs.Inner.{TextEnd, input, none, bare, return}
-use Rattle.line.specs.declared.ending.Ending.{Ending}
-use Rattle.line.specs.declared.ending.Ending.the-variants as E
 use Rattle.line.specs.declared.extent.Lined.the-variants as L
-use Rattle.line.proofs.LineLaws.{ending-sized, named-nothing, named-feed, named-return-feed}
+use Rattle.record.proofs.EndingLaws.{nothing-bytes, feed-bytes, return-feed-bytes, ending-sized}
 use Rattle.line.proofs.ColumnLaws.{line-end}
 use Rattle.line.proofs.ReadLaws.{input-end, rest-free, length-last, column, column-length, line-here, Closes, plain, returned, closes}
 
@@ -38,11 +39,11 @@ module _ (s : List ℕ) (at : ℕ) where
 -- with none it goes to the end of the input
 pub found-unfed : (s : List ℕ) (at : ℕ) → at ≤ length s → ((k : ℕ) → at ≤ k → k < length s → getD s k 0 ≡ 10 → ⊥)
     → FindsLine s at (L.At (length s) E.Nothing (length s))
-unfolding linedPaper extentAnswer endingNumber endingBytes
+unfolding linedPaper extentAnswer
 found-unfed s at h f =
     let l : at + length (drop at s) ≡ length s = omega (arith, length-drop at s) in
     let m : length s + 0 ≡ length s = omega arith in
-    sym (at-inside s at h ∙ rw (line-end (drop at s) (rest-free s 10 at h f), l, m))
+    sym (at-inside s at h ∙ rw (line-end (drop at s) (rest-free s 10 at h f), nothing-bytes, l, m))
 
 module _ (s : List ℕ) (at stop : ℕ) (g : FirstFeed s at stop) where
   text : List ℕ
@@ -52,17 +53,17 @@ module _ (s : List ℕ) (at stop : ℕ) (g : FirstFeed s at stop) where
   reached = let a = g .after in let w = g .within in omega arith
 
   found-closed : {x end : ℕ} → Closes s at stop g x → x ≡ end → (r : Ending) → NamesEnding (stop + 1 - end) r → linedPaper (L.At end r (stop + 1)) ≡ lineAtAnswer s at
-  unfolding linedPaper extentAnswer endingBytes fed text
+  unfolding linedPaper extentAnswer fed text
   found-closed {end = end} (plain c) q r b =
       let l : at + length text ≡ end = omega (arith, column-length s at stop g, g .after) in
       let m : end + 1 ≡ stop + 1 = omega arith in
-      let k : stop + 1 - end ≡ 1 = omega arith in
-      sym (at-inside s at reached ∙ rw (line-here s at stop g, c, l, b, ending-sized feed k, m))
+      let k : stop + 1 - end ≡ length (endingBytes feed) = rw feed-bytes (omega arith) in
+      sym (at-inside s at reached ∙ rw (line-here s at stop g, c, l, b, ending-sized feed k, feed-bytes, m))
   found-closed {end = end} (returned a c) q r b =
       let l : at + length (dropLast text) ≡ end = omega (arith, length-last text, column-length s at stop g) in
       let m : end + 2 ≡ stop + 1 = omega arith in
-      let k : stop + 1 - end ≡ 2 = omega arith in
-      sym (at-inside s at reached ∙ rw (line-here s at stop g, c, l, b, ending-sized return-feed k, m))
+      let k : stop + 1 - end ≡ length (endingBytes return-feed) = rw return-feed-bytes (omega arith) in
+      sym (at-inside s at reached ∙ rw (line-here s at stop g, c, l, b, ending-sized return-feed k, return-feed-bytes, m))
 
   -- with one it goes there, and the byte before it tells the ending
   pub found-fed : {end : ℕ} → TextEnd s at stop end → (r : Ending) → NamesEnding (stop + 1 - end) r → FindsLine s at (L.At end r (stop + 1))
@@ -112,19 +113,4 @@ module _ (s : List ℕ) (at : ℕ) {stop : ℕ} (h : at ≤ length s) (first : s
     pub finds-fed : (stop ≡ length s → ⊥) → (r : Ending) → NamesEnding (stop + 1 - end) r → linedPaper (L.At end r (stop + 1)) ≡ lineAtAnswer s at
     finds-fed n = found-fed s at stop (stop-feed n) z
 
--- ---- how many bytes an ending has
-
-module _ {e : Ending} where
-  pub size-nothing : e ≡ E.Nothing → 0 ≡ length (endingBytes (endingOf e))
-  unfolding endingBytes
-  size-nothing q = rw q
-
-  pub size-feed : e ≡ E.Feed → 1 ≡ length (endingBytes (endingOf e))
-  unfolding endingBytes
-  size-feed q = rw q
-
-  pub size-return-feed : e ≡ E.ReturnFeed → 2 ≡ length (endingBytes (endingOf e))
-  unfolding endingBytes
-  size-return-feed q = rw q
-
-pub ruleset laws = (finds-beyond, stop-after, stop-within, stop-inside, ends-before, finds-nothing, finds-fed, size-nothing, size-feed, size-return-feed, named-nothing, named-feed, named-return-feed)
+pub ruleset laws = (finds-beyond, stop-after, stop-within, stop-inside, ends-before, finds-nothing, finds-fed)

@@ -9,14 +9,16 @@ use lib.ListN.{length, drop, length-append, length-drop}
 use lib.Dec.{leb}
 use borrow.Author.Tests.{leb-true, leb-false}
 use Rattle.text.specs.Answer.{says}
-use Rattle.line.specs.Line.{Ending, endingBytes, endingNumber, Line, line, lineOf, extentAnswer, lineAtAnswer}
-use Rattle.line.specs.Paper.{endingOf, linedPaper}
+use Rattle.record.specs.Ending.{Ending, endingBytes, endingNumber}
+use Rattle.record.specs.Paper.{endingOf}
+use Rattle.record.specs.declared.ending.Ending.{Ending as DeclaredEnding}
+use Rattle.line.specs.Line.{Line, line, lineOf, extentAnswer, lineAtAnswer}
+use Rattle.line.specs.Paper.{linedPaper}
 use Rattle.line.specs.Promises.{FindsLine}
 use Rattle.line.specs.Demands.{Reader, Extends, Extents, OneFinder}
-use Rattle.line.specs.declared.ending.Ending.{Ending as DeclaredEnding}
 use Rattle.line.specs.declared.extent.Lined.{Lined}
 use Rattle.line.specs.declared.extent.Lined.the-variants as L
-use Rattle.line.proofs.LineLaws.{ending-known}
+use Rattle.record.proofs.EndingLaws.{ending-known}
 use Rattle.line.proofs.ColumnLaws.{line-only, line-whole}
 use Rattle.line.proofs.ExtentLaws.{at-beyond, at-inside}
 

@@ -15,8 +15,10 @@ use Rattle.pieces.specs.Pieces.{split, joined}
 use Rattle.pieces.specs.Demands.{Free, startIn}
 use Rattle.pieces.proofs.PieceLaws.{free-nil, free-cons, free-append, free-left, split-some, split-whole, split-free, split-append, split-joined, joined-one, joined-more}
 use Rattle.pieces.proofs.NumberLaws.{start-first, start-later}
-use Rattle.line.specs.Line.{Ending, nothing, feed, return-feed, endingBytes, Line, line, lineOf, required, lastVerdict, verdict, fieldPlaces, allUtf8, judgedAnswer, lineAnswer, readAnswer}
+use Rattle.record.specs.Ending.{Ending, nothing, feed, return-feed, endingBytes}
+use Rattle.line.specs.Line.{Line, line, lineOf, required, lastVerdict, verdict, fieldPlaces, allUtf8, judgedAnswer, lineAnswer, readAnswer}
 use Rattle.line.specs.Demands.{MayEnd, Column, Ended, by-nothing, by-feed, by-return-feed, Shaped, Begins, Refuses, Bad, empty-tabbed, empty-fed, empty-returned, early-fed, early-cut, empty-cut, Behind, Faulty, bad-column, not-text, Faults}
+use Rattle.record.proofs.EndingLaws.{nothing-bytes, feed-bytes, return-feed-bytes}
 use Rattle.line.proofs.LineLaws.{read-line, BeforeFeed, plain, returned, before-feed}
 use Rattle.line.proofs.ColumnLaws.{free-each, verdict-last, verdict-more, line-refused, line-whole, line-tab, line-feed, line-end, fed-plain, fed-return, InOrder, order-one, order-more, count-required, required-count}
 use Rattle.line.proofs.ShapeLaws.{shaped-line, shaped-split, shaped-fine, shaped-answer, cut-shaped, begins-answer}
@@ -59,29 +61,29 @@ must-go-on {k} h = by (required k) refl
     by false q = absurd (h (required-count k q))
 
 bad-verdict : (k from : ℕ) {left : List ℕ} {n m : ℕ} → Bad k left n m → verdictOf k from (lineOf left) ≡ refused n (from + m)
-unfolding lastVerdict endingBytes isEmpty endsIn
+unfolding lastVerdict isEmpty endsIn
 bad-verdict k from (empty-tabbed {rest}) = verdict-tab k from [] rest free-nil free-nil
 bad-verdict k from (empty-fed {rest} h) =
     let x : from + 0 + 1 ≡ from + 1 = omega arith in
-    rw (line-feed [] rest free-nil, fed-plain [] rest refl, verdict-one k from [] feed rest free-nil, count-required h, x)
+    rw (line-feed [] rest free-nil, fed-plain [] rest refl, verdict-one k from [] feed rest free-nil, feed-bytes, count-required h, x)
 bad-verdict k from (empty-returned {rest} h) =
     let x : from + 0 + 2 ≡ from + 2 = omega arith in
-    rw (line-feed (13 ∷ []) rest (free-cons (λ z. omega arith) free-nil), fed-return [] rest, verdict-one k from [] return-feed rest free-nil, count-required h, x)
+    rw (line-feed (13 ∷ []) rest (free-cons (λ z. omega arith) free-nil), fed-return [] rest, verdict-one k from [] return-feed rest free-nil, return-feed-bytes, count-required h, x)
 bad-verdict k from (early-fed c rest h f g) = rw (line-feed c rest g) (by (before-feed c rest))
   where
     by : {l : Line} → BeforeFeed c rest l → verdictOf k from l ≡ refused 3 (from + (length c + 1))
     by plain =
         let x : from + length c + 1 ≡ from + (length c + 1) = omega arith in
-        rw (verdict-one k from c feed rest f, must-go-on h, x)
+        rw (verdict-one k from c feed rest f, feed-bytes, must-go-on h, x)
     by (returned {u} e) =
         let x : from + length u + 2 ≡ from + (length c + 1) = omega (arith, length-append u (13 ∷ []), ap length e) in
-        rw (verdict-one k from u return-feed rest (free-left u (13 ∷ []) (rw e at f)), must-go-on h, x)
+        rw (verdict-one k from u return-feed rest (free-left u (13 ∷ []) (rw e at f)), return-feed-bytes, must-go-on h, x)
 bad-verdict k from (early-cut {c} h f g) =
     let x : from + length c + 0 ≡ from + length c = omega arith in
-    rw (line-end c g, verdict-one k from c nothing [] f, must-go-on h, x)
+    rw (line-end c g, verdict-one k from c nothing [] f, nothing-bytes, must-go-on h, x)
 bad-verdict k from empty-cut =
     let x : from + 0 + 0 ≡ from + 0 = omega arith in
-    rw (line-end [] free-nil, verdict-one k from [] nothing [] free-nil, or-true (required k), x)
+    rw (line-end [] free-nil, verdict-one k from [] nothing [] free-nil, nothing-bytes, or-true (required k), x)
 
 -- ---- behind columns
 
@@ -139,20 +141,19 @@ found-later {k} c u h f =
 -- the last column is bad, or may be the last and is not empty
 last-found : {t : List ℕ} {e : Ending} {rest : List ℕ} → Ended t e rest → (k : ℕ) (c : List ℕ) → Free 9 c → Free 10 c
     → Found k (c ++ (endingBytes e ++ rest)) ⊎ InOrder k (c ∷ [])
-unfolding endingBytes
 last-found {t} x k c f g = by (required k) refl c f g x
   where
     early : (MayEnd k → ⊥) → (c : List ℕ) → Free 9 c → Free 10 c → {e : Ending} {rest : List ℕ} → Ended t e rest → Found k (c ++ (endingBytes e ++ rest))
-    early n c f g by-nothing = rw (append-nil c) (found-here (early-cut n f g))
-    early n c f g (by-feed {rest} h) = found-here (early-fed c rest n f g)
+    early n c f g by-nothing = rw (nothing-bytes, append-nil c) (found-here (early-cut n f g))
+    early n c f g (by-feed {rest} h) = rw feed-bytes (found-here (early-fed c rest n f g))
     early n c f g (by-return-feed {rest}) =
-        rw (← append-assoc c (13 ∷ []) (10 ∷ rest))
+        rw (return-feed-bytes, ← append-assoc c (13 ∷ []) (10 ∷ rest))
         (found-here (early-fed (c ++ 13 ∷ []) rest n (free-append c f (free-cons (λ z. omega arith) free-nil)) (free-append c g (free-cons (λ z. omega arith) free-nil))))
 
     empty : MayEnd k → {e : Ending} {rest : List ℕ} → Ended t e rest → Found k (endingBytes e ++ rest)
-    empty m by-nothing = found-here empty-cut
-    empty m (by-feed h) = found-here (empty-fed m)
-    empty m by-return-feed = found-here (empty-returned m)
+    empty m by-nothing = rw nothing-bytes (found-here empty-cut)
+    empty m (by-feed h) = rw feed-bytes (found-here (empty-fed m))
+    empty m by-return-feed = rw return-feed-bytes (found-here (empty-returned m))
 
     by : (b : Bool) → required k ≡ b → (c : List ℕ) → Free 9 c → Free 10 c → {e : Ending} {rest : List ℕ} → Ended t e rest
         → Found k (c ++ (endingBytes e ++ rest)) ⊎ InOrder k (c ∷ [])

@@ -12,8 +12,10 @@ use Rattle.pieces.specs.Pieces.{joined}
 use Rattle.pieces.specs.Demands.{startIn}
 use Rattle.pieces.proofs.PieceLaws.{free-nil, free-cons, joined-one, joined-more}
 use Rattle.pieces.proofs.NumberLaws.{start-first, start-later}
-use Rattle.line.specs.Line.{nothing, endingBytes, readAnswer}
+use Rattle.record.specs.Ending.{nothing}
+use Rattle.line.specs.Line.{readAnswer}
 use Rattle.line.specs.Demands.{by-nothing, Begins, Reader, Refuses, Exact, Stands, One, empty-tabbed, Faulty, bad-column, Faults}
+use Rattle.record.proofs.EndingLaws.{nothing-bytes}
 use Rattle.line.proofs.ColumnLaws.{utf8-all}
 use Rattle.line.proofs.ShapeLaws.{begins-read}
 use Rattle.line.proofs.One.{one}
@@ -29,14 +31,14 @@ input : List ℕ
 input = joined 9 ones
 
 ones-begin : Begins input ones nothing []
-unfolding ones input endingBytes
+unfolding ones input
 ones-begin =
     record {
       shaped =
           record {
             count = inl refl;
             each = λ i l. rw (one i l) (record { some = omega arith; no-tab = free-cons (λ z. omega arith) free-nil; no-feed = free-cons (λ z. omega arith) free-nil });
-            whole = append-nil (joined 9 ones);
+            whole = rw nothing-bytes (append-nil (joined 9 ones));
             ended = by-nothing;
           };
       utf8 = utf8-all ones (λ i l. rw (one i l) (byte-text 49 (omega arith)));

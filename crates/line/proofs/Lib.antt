@@ -3,8 +3,6 @@ pub mod LineLaws
 pub mod ReadLaws
 pub mod ExtentLaws
 pub mod Extents
-pub mod NumberLaws
-pub mod SpanLaws
 pub mod PlaceLaws
 pub mod AnswerLaws
 pub mod MarkLaws
@@ -23,7 +21,6 @@ pub mod Impostors
 pub mod Determined
 pub mod RecordLaws
 pub mod CaseLaws
-pub mod Size
 pub mod CalmLaws
 pub mod ScanLaws
 pub mod SwiftLaws

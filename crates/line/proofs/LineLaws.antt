@@ -1,12 +1,11 @@
--- The three ways of the reader, an ending by its number, and the line that an input begins with, by where its first LF stands: each is the
--- definition's clause. Assumes nothing.
-use Prim.Native.Nat.{ℕ, _<_, _≤_}
-use mathlib.Core.Path.{_≡_, refl, sym, ap, _∙_}
+-- The three ways of the reader, and the line that an input begins with, by where its first LF stands: each is the definition's clause.
+-- Assumes nothing.
+use Prim.Native.Nat.{ℕ, _<_}
+use mathlib.Core.Path.{_≡_, refl, sym}
 use mathlib.Core.Bool.{Bool, true, false}
 use mathlib.Core.List.{List, [], _∷_, _++_, dropLast}
-use mathlib.Mathlib.Logic.Function.Defs.{LeftInverse·injective}
 use native.Mathlib.Omega.{arith}
-use lib.ListN.{length, getD, drop, List·getD-eq-default}
+use lib.ListN.{length, getD, drop}
 use Rattle.text.specs.Pick.{pick}
 use Rattle.text.specs.Answer.{says}
 use Rattle.text.specs.Bytes.{endsIn}
@@ -15,10 +14,8 @@ use Rattle.text.proofs.PlaceLaws.{place-beyond, place-end, place-inside}
 use Rattle.pieces.specs.Pieces.{split, joined}
 use Rattle.pieces.specs.Demands.{Free}
 use Rattle.pieces.proofs.PieceLaws.{split-nil, split-free, one-text, more-text}
-use Rattle.line.specs.Line.{Ending, nothing, feed, return-feed, endingBytes, endingNumber, endingBy, Line, line, fed, lineOf, lineAnswer, readAnswer}
-use Rattle.line.specs.Paper.{endingOf}
-use Rattle.line.specs.Promises.{SizesEnding}
-use Rattle.line.specs.declared.ending.Ending.{Ending as DeclaredEnding}
+use Rattle.record.specs.Ending.{feed, return-feed}
+use Rattle.line.specs.Line.{Line, line, fed, lineOf, lineAnswer, readAnswer}
 
 -- ---- the reader at a place
 
@@ -34,49 +31,6 @@ module _ (s : List ℕ) (at : ℕ) where
   pub read-line : at < length s → readAnswer s at ≡ lineAnswer at (lineOf (drop at s))
   unfolding readAnswer
   read-line h = place-inside at s 1 (lineAnswer at (lineOf (drop at s))) h
-
--- ---- an ending
-
--- its number is how many bytes it has
-pub ending-size : (e : Ending) → length (endingBytes e) ≡ endingNumber e
-unfolding endingBytes endingNumber
-ending-size nothing = refl
-ending-size feed = refl
-ending-size return-feed = refl
-
-ending-back : (e : Ending) → endingBy (endingNumber e) ≡ e
-unfolding endingBy endingNumber
-ending-back nothing = refl
-ending-back feed = refl
-ending-back return-feed = refl
-
--- and tells it
-pub ending-known : (e f : Ending) → endingNumber e ≡ endingNumber f → e ≡ f
-ending-known = LeftInverse·injective endingBy endingNumber ending-back
-
--- so does how many bytes it has
-pub ending-sized : {n : ℕ} (e : Ending) → n ≡ length (endingBytes e) → endingBy n ≡ e
-ending-sized e q = rw (q, ending-size e) (ending-back e)
-
--- of an ending that is declared: one number for one ending, which is what its size is
-pub ending-numbered : {x y : DeclaredEnding} → x ≡ y → endingNumber (endingOf x) ≡ endingNumber (endingOf y)
-ending-numbered = ap (λ (x : DeclaredEnding). endingNumber (endingOf x))
-
-pub ending-told : {x y : DeclaredEnding} {size : ℕ} → SizesEnding x size → x ≡ y → size ≡ endingNumber (endingOf y)
-ending-told {x} s e = s ∙ ending-size (endingOf x) ∙ ending-numbered e
-
-module _ {n : ℕ} where
-  pub named-nothing : n ≡ 0 → nothing ≡ endingBy n
-  unfolding endingBy
-  named-nothing e = rw e
-
-  pub named-feed : n ≡ 1 → feed ≡ endingBy n
-  unfolding endingBy
-  named-feed e = rw e
-
-  pub named-return-feed : (n ≡ 0 → ⊥) → (n ≡ 1 → ⊥) → return-feed ≡ endingBy n
-  unfolding endingBy
-  named-return-feed a b = let h : 2 ≤ n = omega arith in sym (List·getD-eq-default (nothing ∷ feed ∷ []) return-feed h)
 
 -- ---- an input, cut at its first LF
 

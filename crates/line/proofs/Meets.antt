@@ -11,7 +11,8 @@ use lib.Seq.{getD-drop, ext-getD}
 use lib.Dec.{ltb}
 use borrow.Author.Tests.{ltb-true, ltb-false}
 use Rattle.text.specs.Answer.{Answer, numberOf, valuesOf}
-use Rattle.line.specs.Line.{Ending, readAnswer}
+use Rattle.record.specs.Ending.{Ending}
+use Rattle.line.specs.Line.{readAnswer}
 use Rattle.line.specs.Demands.{MayEnd, Begins, Reader, Exact, Lies, TenPlaces, Stands, One, Faults, Moved, MovesOn, Meets, OneReader}
 use Rattle.line.proofs.LineLaws.{read-end, read-beyond}
 use Rattle.line.proofs.ShapeLaws.{begins-read}

@@ -18,7 +18,8 @@ use Rattle.text.specs.Verdict.{Verdict, fine, refused}
 use Rattle.pieces.specs.Pieces.{split, joined}
 use Rattle.pieces.specs.Demands.{Free}
 use Rattle.pieces.proofs.PieceLaws.{first-free, split-nil, one-text, more-text, more-rest}
-use Rattle.line.specs.Line.{Ending, nothing, feed, return-feed, endingBytes, endingNumber, Line, line, required, lastVerdict, verdict, fieldPlaces, allUtf8, judgedAnswer, lineOf, lineAnswer, readAnswer}
+use Rattle.record.specs.Ending.{Ending, nothing, feed, return-feed, endingBytes, endingNumber}
+use Rattle.line.specs.Line.{Line, line, required, lastVerdict, verdict, fieldPlaces, allUtf8, judgedAnswer, lineOf, lineAnswer, readAnswer}
 use Rattle.line.specs.Demands.{
   FirstFeed,
   NoFeed,
@@ -38,6 +39,7 @@ use Rattle.line.specs.Demands.{
   Moved,
   MovesOn,
 }
+use Rattle.record.proofs.EndingLaws.{nothing-bytes, feed-bytes, return-feed-bytes}
 use Rattle.line.proofs.LineLaws.{read-beyond, read-end, read-line, AtFeed, none, one, at-feed, BeforeFeed, plain, returned, before-feed}
 use Rattle.line.proofs.ColumnLaws.{line-end, line-feed}
 
@@ -252,17 +254,17 @@ module _ {s : List ℕ} {at : ℕ} (h : at < length s) where
 
   -- no LF is left
   all-goes : Free 10 (drop at s) → Moved s at (lineAnswer at (lineOf (drop at s)))
-  unfolding endingBytes NoFeed
+  unfolding NoFeed
   all-goes f =
       let d : drop at s ≡ drop at s ++ [] = sym (append-nil (drop at s)) in
       let l : at + length (drop at s) ≡ length s = simp length-drop (omega arith) in
+      let n = ap length nothing-bytes in
       rw (line-end _ f)
       (line-goes (drop at s) nothing [] [] d
       (by-end (λ k a b. free-there s at (drop at s) [] d 10 f k a (omega arith)) (omega arith)))
 
   -- the first LF stands behind a text
   fed-goes : (t rest : List ℕ) → Free 10 t → drop at s ≡ t ++ 10 ∷ rest → Moved s at (lineAnswer at (lineOf (drop at s)))
-  unfolding endingBytes
   fed-goes t rest f d = rw (d, line-feed t rest f) (by (before-feed t rest))
     where
       it : FirstFeed s at (at + length t)
@@ -270,11 +272,13 @@ module _ {s : List ℕ} {at : ℕ} (h : at < length s) where
 
       by : {l : Line} → BeforeFeed t rest l → Moved s at (lineAnswer at l)
       by plain =
+          let n = ap length feed-bytes in
           line-goes t feed rest (10 ∷ rest) d
-          (by-feed (record { feed-at = at + length t; first-feed = it; past-it = refl; after-text = omega arith; no-tab = λ k a b. absurd (omega arith) }))
+          (by-feed (record { feed-at = at + length t; first-feed = it; past-it = omega arith; after-text = omega arith; no-tab = λ k a b. absurd (omega arith) }))
       by (returned {u} e) =
           let there : drop at s ≡ u ++ 13 ∷ 10 ∷ rest = d ∙ rw e (append-snoc u 13 (10 ∷ rest)) in
           let n = simp length-append at (ap length e) in
+          let m = ap length return-feed-bytes in
           line-goes u return-feed rest (13 ∷ 10 ∷ rest) there
           (by-return
           (record {

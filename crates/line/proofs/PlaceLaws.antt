@@ -8,12 +8,13 @@ use lib.Seq.{length-take-le, set-out}
 use borrow.Author.Tests.{eq-eqb, ne-eqb}
 use Rattle.pieces.specs.Pieces.{split}
 use Rattle.pieces.proofs.PieceLaws.{split-nil, split-joined}
+use Rattle.record.specs.declared.ending.Ending.{Ending}
+use Rattle.record.specs.declared.place.Record.{Record}
 use Rattle.line.specs.Line.{leadingPlaces, fieldPlaces}
-use Rattle.line.specs.Place.{passed}
-use Rattle.line.specs.Inner.{Tab, Told, recordBy, Fields}
-use Rattle.line.specs.declared.ending.Ending.{Ending}
-use Rattle.line.specs.declared.read.Record.{Record}
-use Rattle.line.proofs.SpanLaws.{passed-none, passed-one, Rising, rising-places, rising-numbers}
+use Rattle.line.specs.Inner.{Tab, startOf, Told, recordBy, Fields}
+use Rattle.record.proofs.SpanLaws.{bare-places, bare-numbers, full-places, full-numbers}
+use Rattle.record.proofs.NumberLaws.{with-ending}
+use Rattle.record.proofs.Determined.{made-is}
 
 -- ---- a tab is kept
 
@@ -65,64 +66,44 @@ module _ {t : List ℕ} {at : ℕ} {tabs : List ℕ} (h : Told t at tabs) where
       let c₇ = count-tab (h .seven 6 (omega arith)) in
       omega arith
 
-  -- the first seven tabs stand behind each other, and so do the ends behind them
-  risen : (ending : Ending) {info format end : ℕ} → getD tabs 6 0 + 1 ≤ info → passed (recordBy ending at tabs info format end) info ≤ format
-      → passed (recordBy ending at tabs info format end) format ≤ end → Rising (recordBy ending at tabs info format end)
-  risen ending i f e =
-      record {
-        chrom = h .seven 0 (omega arith) .after;
-        pos = h .seven 1 (omega arith) .after;
-        id = h .seven 2 (omega arith) .after;
-        reference = h .seven 3 (omega arith) .after;
-        alt = h .seven 4 (omega arith) .after;
-        qual = h .seven 5 (omega arith) .after;
-        filter = h .seven 6 (omega arith) .after;
-        info = i;
-        format = f;
-        samples = e;
-      }
+  -- each tab stands behind where its column starts
+  after : (j : ℕ) → j < 7 → startOf at tabs j ≤ getD tabs j 0
+  after j l = h .seven j l .after
 
   module _ (ending : Ending) where
     pub filled-eight : getD tabs 7 0 ≡ 0 → Fields t at ending (recordBy ending at tabs (length t) (length t) (length t))
     unfolding fieldPlaces
     filled-eight z =
-        let r : Record = recordBy ending at tabs (length t) (length t) (length t) in
-        let p = passed-none r (length t) refl in
         let w = h .seven 6 (omega arith) .within in
-        let g : Rising r = risen ending (omega arith) (omega arith) (omega arith) in
-        let n : length t - length t ≡ 0 = omega arith in
+        let n : getD tabs 6 0 + 1 ≤ length t = omega arith in
         let c = count-is in
         let l = ap length (h .eight z) in
         let eight : length (split 9 (drop at t)) ≡ 8 = omega arith in
         record {
-          ends = refl;
+          ends = with-ending ending _;
           places =
-              rising-places g
-              ∙ rw (p, n, eq-eqb _ 8 eight, leading-tab (h .seven 0 (omega arith)) 7, leading-tab (h .seven 1 (omega arith)) 6, leading-tab (h .seven 2 (omega arith)) 5, leading-tab (h .seven 3 (omega arith)) 4, leading-tab (h .seven 4 (omega arith)) 3, leading-tab (h .seven 5 (omega arith)) 2, leading-tab (h .seven 6 (omega arith)) 1, leading-last t (getD tabs 6 0 + 1) (h .eight z));
-          numbers = rising-numbers g;
+              bare-places ending (after 0 (omega arith)) (after 1 (omega arith)) (after 2 (omega arith)) (after 3 (omega arith)) (after 4 (omega arith)) (after 5 (omega arith)) (after 6 (omega arith)) n
+              ∙ rw (eq-eqb _ 8 eight, leading-tab (h .seven 0 (omega arith)) 7, leading-tab (h .seven 1 (omega arith)) 6, leading-tab (h .seven 2 (omega arith)) 5, leading-tab (h .seven 3 (omega arith)) 4, leading-tab (h .seven 4 (omega arith)) 3, leading-tab (h .seven 5 (omega arith)) 2, leading-tab (h .seven 6 (omega arith)) 1, leading-last t (getD tabs 6 0 + 1) (h .eight z));
+          numbers = bare-numbers ending (after 0 (omega arith)) (after 1 (omega arith)) (after 2 (omega arith)) (after 3 (omega arith)) (after 4 (omega arith)) (after 5 (omega arith)) (after 6 (omega arith)) n;
         }
 
     pub filled-ten : (getD tabs 7 0 ≡ 0 → ⊥) → Fields t at ending (recordBy ending at tabs (getD tabs 7 0) (getD tabs 8 0) (length t))
     unfolding fieldPlaces
     filled-ten n =
-        let r : Record = recordBy ending at tabs (getD tabs 7 0) (getD tabs 8 0) (length t) in
         let i = h .nine n 7 (omega arith) in
         let f = h .nine n 8 (omega arith) in
-        let a = f .after in
         let w = f .within in
-        let p = passed-one r (getD tabs 7 0) (λ z. omega arith) in
-        let q = passed-one r (getD tabs 8 0) (λ z. omega arith) in
-        let g : Rising r = risen ending (i .after) (omega arith) (omega arith) in
+        let l : getD tabs 8 0 + 1 ≤ length t = omega arith in
         let c = count-is in
         let c₈ = count-tab i in
         let c₉ = count-tab f in
         let more : length (split 9 (drop at t)) ≡ 8 → ⊥ = λ z. omega arith in
         record {
-          ends = refl;
+          ends = with-ending ending _;
           places =
-              rising-places g
-              ∙ rw (p, q, ne-eqb _ 8 more, leading-tab (h .seven 0 (omega arith)) 8, leading-tab (h .seven 1 (omega arith)) 7, leading-tab (h .seven 2 (omega arith)) 6, leading-tab (h .seven 3 (omega arith)) 5, leading-tab (h .seven 4 (omega arith)) 4, leading-tab (h .seven 5 (omega arith)) 3, leading-tab (h .seven 6 (omega arith)) 2, leading-tab i 1, leading-tab f 0, leading-rest t (getD tabs 8 0 + 1));
-          numbers = rising-numbers g;
+              full-places ending (after 0 (omega arith)) (after 1 (omega arith)) (after 2 (omega arith)) (after 3 (omega arith)) (after 4 (omega arith)) (after 5 (omega arith)) (after 6 (omega arith)) (i .after) (f .after) l
+              ∙ rw (ne-eqb _ 8 more, leading-tab (h .seven 0 (omega arith)) 8, leading-tab (h .seven 1 (omega arith)) 7, leading-tab (h .seven 2 (omega arith)) 6, leading-tab (h .seven 3 (omega arith)) 5, leading-tab (h .seven 4 (omega arith)) 4, leading-tab (h .seven 5 (omega arith)) 3, leading-tab (h .seven 6 (omega arith)) 2, leading-tab i 1, leading-tab f 0, leading-rest t (getD tabs 8 0 + 1));
+          numbers = full-numbers ending (after 0 (omega arith)) (after 1 (omega arith)) (after 2 (omega arith)) (after 3 (omega arith)) (after 4 (omega arith)) (after 5 (omega arith)) (after 6 (omega arith)) (i .after) (f .after) l;
         }
 
 -- the record that was asked for is that one
@@ -133,4 +114,4 @@ module _ {t : List ℕ} {at : ℕ} {tabs : List ℕ} (h : Told t at tabs) (endin
   pub fields-ten : (getD tabs 7 0 ≡ 0 → ⊥) → r ≡ recordBy ending at tabs (getD tabs 7 0) (getD tabs 8 0) (length t) → Fields t at ending r
   fields-ten n e = rw e (filled-ten h ending n)
 
-pub ruleset laws = (keep-out, fields-eight, fields-ten)
+pub ruleset laws = (keep-out, made-is, fields-eight, fields-ten)

@@ -21,13 +21,15 @@ use Rattle.pieces.specs.Pieces.{split}
 use Rattle.pieces.specs.Demands.{Free}
 use Rattle.pieces.proofs.EitherLaws.{either-quiet, either-second}
 use Rattle.pieces.proofs.PieceLaws.{free-nil, free-cons, free-head, free-tail, part-free, split-whole, split-append, split-nil}
-use Rattle.line.specs.Line.{Ending, feed, return-feed, endingBytes, Line, line, fed, lineOf, required, lastVerdict, verdict}
+use Rattle.record.specs.Ending.{Ending, feed, return-feed, endingBytes}
+use Rattle.line.specs.Line.{Line, line, fed, lineOf, required, lastVerdict, verdict}
 use Rattle.line.specs.Demands.{FirstFeed}
 use Rattle.line.specs.Inner.{Clear, Stopped, StopsAt, TextEnd, input, none, bare, return, accepted, denied, judgement, judgementOf, judgedPaper, Going}
 use Rattle.line.specs.declared.read.Stop.{Stop}
 use Rattle.line.specs.declared.read.Stop.the-variants as S
 use Rattle.line.specs.declared.read.Judged.{Judged}
 use Rattle.line.specs.declared.read.Judged.the-variants as J
+use Rattle.record.proofs.EndingLaws.{nothing-bytes, feed-bytes, return-feed-bytes}
 use Rattle.line.proofs.ColumnLaws.{line-end, line-feed, line-tab}
 
 -- ---- the search for a column's end
@@ -165,12 +167,12 @@ judged-end (refused n p) end past e = absurd (let z : _≡_ {A = ℕ} 0 1 = cc i
 
 module _ (s : List ℕ) (k start : ℕ) (h : start ≤ length s) (g : Clear s start (length s)) where
   cut-judged : judgementOf k start (lineOf (drop start s)) ≡ judgement (pick (required k || isEmpty (drop start s)) (refused 4 (length s)) fine) (length s) (length s)
-  unfolding judgementOf verdict lastVerdict endingBytes
+  unfolding judgementOf verdict lastVerdict
   cut-judged =
       let l = length-drop start s in
       let e : start + length (drop start s) ≡ length s = omega arith in
       let z : length s + 0 ≡ length s = omega arith in
-      rw (line-end (drop start s) (rest-free s 10 start h (g .no-second)), split-whole (drop start s) (rest-free s 9 start h (g .no-first)), e, z)
+      rw (line-end (drop start s) (rest-free s 10 start h (g .no-second)), nothing-bytes, split-whole (drop start s) (rest-free s 9 start h (g .no-first)), e, z)
 
   pub cut-ends : {end next : ℕ} → judgementOf k start (lineOf (drop start s)) ≡ accepted end next → end ≡ length s
   cut-ends e = judged-end (pick (required k || isEmpty (drop start s)) (refused 4 (length s)) fine) (length s) (length s) (sym cut-judged ∙ e)
@@ -262,7 +264,7 @@ strip-most c = by (endsIn 13 c) refl
 fed-judged : (k start : ℕ) (c rest : List ℕ) → Free 9 c
     → judgementOf k start (fed c rest)
     ≡ judgement (pick (required k) (refused 3 (start + length c + 1)) (pick (isEmpty (stripped c)) (refused 2 (start + length c + 1)) fine)) (start + length (stripped c)) (start + length c + 1)
-unfolding judgementOf fed verdict lastVerdict endingBytes stripped
+unfolding judgementOf fed verdict lastVerdict stripped
 fed-judged k start c rest f = by (endsIn 13 c) refl
   where
     by : (t : Bool) → endsIn 13 c ≡ t
@@ -272,8 +274,8 @@ fed-judged k start c rest f = by (endsIn 13 c) refl
         let l = length-last c in
         let m = ends-some 13 c e in
         let p : start + length (dropLast c) + 2 ≡ start + length c + 1 = omega arith in
-        rw (split-whole (dropLast c) (free-last c f), p)
-    by false e = rw (split-whole c f)
+        rw (split-whole (dropLast c) (free-last c f), return-feed-bytes, p)
+    by false e = rw (split-whole c f, feed-bytes)
 
 module _ (s : List ℕ) (k start feed : ℕ) (g : Stopped s start feed 10) where
   first-feed : FirstFeed s start feed

@@ -1,15 +1,11 @@
 -- A record that was read has the ten places of its line's columns; as none of them is empty, each lies in the buffer. Assumes nothing.
 use Prim.Native.Nat.{ℕ, suc, _+_, _<_, _≤_, suc-le-suc}
 use mathlib.Core.Path.{_≡_, refl, sym, ap, _∙_}
-use mathlib.Core.Bool.{Bool, true, false}
 use mathlib.Core.Logic.{_⊎_, ⊎-elim}
 use mathlib.Core.List.{List, [], _∷_, _++_}
 use native.Mathlib.Omega.{arith}
-use lib.ListN.{length, getD, drop, length-drop, length-take, length-append, drop-of-length-le, List·getD-eq-default}
+use lib.ListN.{length, getD, drop, length-drop, length-take, length-append}
 use lib.Seq.{getD-drop}
-use lib.Dec.{eqb}
-use borrow.Author.Tests.{lt-ltb, le-ltb, ne-eqb}
-use Rattle.text.specs.Pick.{pick}
 use Rattle.text.specs.Answer.{says, valuesOf}
 use Rattle.text.specs.Range.{cut}
 use Rattle.text.specs.declared.range.Range.{Range}
@@ -17,14 +13,18 @@ use Rattle.text.proofs.Lists.{cut-is}
 use Rattle.pieces.specs.Pieces.{split, pieces, joined}
 use Rattle.pieces.specs.Demands.{Free, startIn}
 use Rattle.pieces.proofs.PieceLaws.{split-back, joined-none, joined-one, joined-more, pieces-none, pieces-some}
-use Rattle.line.specs.Line.{Ending, endingBytes, endingNumber, line, lineOf, readAnswer}
-use Rattle.line.specs.Place.{rangeOf, columnNumber, columnOf, columnStart}
-use Rattle.line.specs.Paper.{endingOf, recordPlaces, recordValues}
+use Rattle.record.specs.Ending.{Ending, endingBytes, endingNumber}
+use Rattle.record.specs.Place.{rangeOf, columnNumber, columnOf, columnStart}
+use Rattle.record.specs.Paper.{endingOf, recordPlaces, recordValues}
+use Rattle.record.specs.declared.place.Record.{Record}
+use Rattle.record.specs.declared.place.Name.{Name}
+use Rattle.record.specs.declared.place.Name.the-variants as N
+use Rattle.line.specs.Line.{line, lineOf, readAnswer}
 use Rattle.line.specs.Demands.{Column, Begins, Lies, TenPlaces, Stands, One, TellsEnding}
-use Rattle.line.specs.declared.read.Record.{Record}
-use Rattle.line.specs.declared.place.Name.{Name}
-use Rattle.line.specs.declared.place.Name.the-variants as N
-use Rattle.line.proofs.LineLaws.{ending-known}
+use Rattle.record.proofs.EndingLaws.{ending-known}
+use Rattle.record.proofs.NumberLaws.{record-values}
+use Rattle.record.proofs.SpanLaws.{range-starts, range-sized}
+use Rattle.record.proofs.FieldLaws.{column-is, column-none, column-samples, start-there, start-none}
 use Rattle.line.proofs.ShapeLaws.{shaped-line, shaped-split, begins-only}
 use Rattle.line.proofs.CaseLaws.{read-record}
 use Rattle.line.proofs.One.{one, lie-cuts, fieldOf, CutsOut}
@@ -42,10 +42,10 @@ pub record Recorded (s : List ℕ) (at : ℕ) (r : Record) : Type 0 where
   pub lie : TenPlaces (recordPlaces r) at columns
 
 pub recorded : (s : List ℕ) (at : ℕ) {next : ℕ} {r : Record} → readAnswer s at ≡ says 0 (next ∷ recordValues r) → Recorded s at r
-unfolding One recordValues
+unfolding One
 recorded s at {next} {r} h =
     let o : Stands s at (readAnswer s at) = one s at (rw h) in
-    let v : next ∷ recordValues r ≡ valuesOf (readAnswer s at) = rw h in
+    let v : next ∷ endingNumber (endingOf (r .ending)) ∷ recordPlaces r ≡ valuesOf (readAnswer s at) = rw (h, record-values r) in
     let n : endingNumber (endingOf (r .ending)) ≡ endingNumber (o .ending) = cc (v ∙ o .values) in
     let p : o .places ≡ recordPlaces r = cc (v ∙ o .values) in
     record {
@@ -115,35 +115,11 @@ empty-lies {s} {x} h z = record { fits = omega arith; text = cut-is (x .start) (
 
 -- a field is the place of its column's number
 pub range-place : (r : Record) (n : Name) → Lies (recordPlaces r) (columnNumber n) (rangeOf r n .start) (rangeOf r n .len)
-unfolding recordPlaces
-range-place r N.Chrom = record { starts = refl; sized = refl }
-range-place r N.Pos = record { starts = refl; sized = refl }
-range-place r N.Id = record { starts = refl; sized = refl }
-range-place r N.Reference = record { starts = refl; sized = refl }
-range-place r N.Alt = record { starts = refl; sized = refl }
-range-place r N.Qual = record { starts = refl; sized = refl }
-range-place r N.Filter = record { starts = refl; sized = refl }
-range-place r N.Info = record { starts = refl; sized = refl }
-range-place r N.Format = record { starts = refl; sized = refl }
-range-place r N.Samples = record { starts = refl; sized = refl }
+range-place r n = record { starts = range-starts r n; sized = range-sized r n }
 
 -- what stands behind the first eight places
 pub behind : (places : List ℕ) {l : List ℕ} → drop 16 places ≡ l → (j : ℕ) → getD places (16 + j) 0 ≡ getD l j 0
 behind places e j = sym (getD-drop 16 places j 0) ∙ ap (λ (l : List ℕ). getD l j 0) e
-
--- the column of a field but the samples
-column-is : (n : Name) (cs : List (List ℕ)) → columnNumber n < 9 → columnOf n cs ≡ getD cs (columnNumber n) []
-unfolding columnOf
-column-is n cs h = rw (ne-eqb (columnNumber n) 9 (λ z. omega arith))
-
--- and of one that is not among the columns
-column-none : (n : Name) (cs : List (List ℕ)) → length cs ≤ columnNumber n → length cs ≡ 8 → columnOf n cs ≡ []
-unfolding columnOf
-column-none n cs h e = by (eqb (columnNumber n) 9)
-  where
-    by : (b : Bool) → pick b (joined 9 (drop 9 cs)) (getD cs (columnNumber n) []) ≡ []
-    by true = rw (drop-of-length-le cs {i = 9} (omega arith)) (joined-none 9)
-    by false = List·getD-eq-default cs [] h
 
 module _ {s : List ℕ} {at : ℕ} {r : Record} (g : Recorded s at r) where
   -- there are eight columns, or at least ten
@@ -196,12 +172,12 @@ module _ {s : List ℕ} {at : ℕ} {r : Record} (g : Recorded s at r) where
   there : (n : Name) → columnNumber n < length (g .columns)
       → Lies (recordPlaces r) (columnNumber n) (at + startIn (g .columns) (columnNumber n)) (length (columnOf n (g .columns)))
       → fieldOf (recordPlaces r) (columnNumber n) s ≡ columnOf n (g .columns) → 0 < length (columnOf n (g .columns)) → Placed n
-  unfolding columnStart fieldOf
+  unfolding fieldOf
   there n h l e f =
       let p = range-place r n in
       let z : rangeOf r n .len ≡ length (columnOf n (g .columns)) = sym (p .sized) ∙ l .sized in
       record {
-        starts = rw (lt-ltb _ _ h) (sym (p .starts) ∙ l .starts);
+        starts = rw (start-there n (g .columns) h) (sym (p .starts) ∙ l .starts);
         sized = z;
         lies = cut-lies (rw (p .starts, p .sized) at e) z f;
       }
@@ -209,14 +185,13 @@ module _ {s : List ℕ} {at : ℕ} {r : Record} (g : Recorded s at r) where
   -- and of one that is not
   absent : (n : Name) → length (g .columns) ≤ columnNumber n → length (g .columns) ≡ 8
       → Lies (recordPlaces r) (columnNumber n) (at + length (joined 9 (g .columns))) 0 → Placed n
-  unfolding columnStart
   absent n h k l =
       let p = range-place r n in
       let c : columnOf n (g .columns) ≡ [] = column-none n (g .columns) h k in
       let a : rangeOf r n .start ≡ at + length (joined 9 (g .columns)) = sym (p .starts) ∙ l .starts in
       let z : rangeOf r n .len ≡ 0 = sym (p .sized) ∙ l .sized in
       let e = ends in
-      record { starts = rw (le-ltb _ _ h) a; sized = rw c z; lies = rw c (empty-lies (omega arith) z) }
+      record { starts = rw (start-none n (g .columns) h) a; sized = rw c z; lies = rw c (empty-lies (omega arith) z) }
 
   -- the first eight are
   early : (n : Name) → columnNumber n < 8 → Placed n
@@ -246,7 +221,6 @@ module _ {s : List ℕ} {at : ℕ} {r : Record} (g : Recorded s at r) where
   samples-full i l = rw (getD-drop 9 (g .columns) i []) (full (9 + i) (further i l))
 
   samples-placed : Placed N.Samples
-  unfolding columnOf
   samples-placed = ⊎-elim bare some count
     where
       bare : length (g .columns) ≡ 8 → Placed N.Samples
@@ -258,7 +232,8 @@ module _ {s : List ℕ} {at : ℕ} {r : Record} (g : Recorded s at r) where
       some h =
           let l = joined-length 9 (drop 9 (g .columns)) samples-full in
           let d = length-drop 9 (g .columns) in
-          there N.Samples (omega arith) (g .lie .samples h) (cuts .samples h) (omega arith)
+          let c = column-samples (g .columns) in
+          there N.Samples (omega arith) (rw c (g .lie .samples h)) (rw c (cuts .samples h)) (rw c (omega arith))
 
   -- each field's place is its column's
   pub placed : (n : Name) → Placed n
@@ -275,10 +250,10 @@ module _ {s : List ℕ} {at : ℕ} {r : Record} (g : Recorded s at r) where
 
   -- the samples come back from theirs
   pub samples-back : pieces 9 (columnOf N.Samples (g .columns)) ≡ drop 9 (g .columns)
-  unfolding columnOf
   samples-back =
-      joined-back 9 (drop 9 (g .columns)) samples-full
-      (λ i l. rw (getD-drop 9 (g .columns) i []) (each (9 + i) (further i l) .no-tab))
+      rw (column-samples (g .columns))
+      (joined-back 9 (drop 9 (g .columns)) samples-full
+      (λ i l. rw (getD-drop 9 (g .columns) i []) (each (9 + i) (further i l) .no-tab)))
 
   -- the buffer has no fewer bytes than there are columns
   pub columns-within : length (g .columns) ≤ length s

@@ -9,7 +9,8 @@ use Rattle.text.specs.Answer.{says, numberOf}
 use Rattle.text.specs.Verdict.{fine}
 use Rattle.pieces.specs.Pieces.{split, joined}
 use Rattle.pieces.proofs.PieceLaws.{split-free, split-joined, split-back}
-use Rattle.line.specs.Line.{Ending, endingBytes, endingNumber, line, lineOf, verdict, fieldPlaces, judgedAnswer, lineAnswer, readAnswer}
+use Rattle.record.specs.Ending.{Ending, endingBytes, endingNumber}
+use Rattle.line.specs.Line.{line, lineOf, verdict, fieldPlaces, judgedAnswer, lineAnswer, readAnswer}
 use Rattle.line.specs.Demands.{MayEnd, LineCut, Shaped, Begins}
 use Rattle.line.proofs.LineLaws.{read-line}
 use Rattle.line.proofs.ColumnLaws.{free-joined, free-each, line-only, count-fine}

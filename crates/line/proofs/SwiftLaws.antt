@@ -13,13 +13,13 @@ use Rattle.text.specs.Utf8.{utf8Answer}
 use Rattle.text.specs.Paper.{utf8Paper}
 use Rattle.text.specs.declared.utf8.Utf8.the-variants as U
 use Rattle.text.proofs.RunLaws.{plain-utf8}
+use Rattle.record.specs.Promises.{NamesEnding}
+use Rattle.record.specs.declared.ending.Ending.{Ending}
+use Rattle.record.specs.declared.place.Record.{Record}
 use Rattle.line.specs.Line.{lineOf, lineAnswer}
 use Rattle.line.specs.Paper.{readPaper}
-use Rattle.line.specs.Promises.{NamesEnding}
 use Rattle.line.specs.Inner.{TextEnd, input, none, bare, return, judgementOf, judgedPaper, InOrder, Told, Fields}
 use Rattle.line.specs.Scan.{FedAt, Scanned, PlainIf, Whole, Feeds, WholeEnd}
-use Rattle.line.specs.declared.ending.Ending.{Ending}
-use Rattle.line.specs.declared.read.Record.{Record}
 use Rattle.line.specs.declared.read.Read.the-variants as R
 use Rattle.line.specs.declared.read.Judged.the-variants as J
 use Rattle.line.proofs.ColumnLaws.{count-required}

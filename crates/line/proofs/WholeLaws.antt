@@ -11,8 +11,10 @@ use Rattle.text.specs.Answer.{Answer, says, numberOf, valuesOf}
 use Rattle.text.specs.Bytes.{endsIn}
 use Rattle.text.proofs.ByteLaws.{ends-is}
 use Rattle.pieces.specs.Demands.{Free}
-use Rattle.line.specs.Line.{Ending, nothing, feed, return-feed, endingBytes, line, fed}
+use Rattle.record.specs.Ending.{Ending, nothing, feed, return-feed, endingBytes}
+use Rattle.line.specs.Line.{line, fed}
 use Rattle.line.specs.Demands.{moved, Window, through-feed}
+use Rattle.record.proofs.EndingLaws.{feed-bytes, return-feed-bytes}
 use Rattle.line.proofs.MovesOn.{first-fed}
 
 -- ---- the line before an LF
@@ -26,7 +28,7 @@ pub record FedLine (t : List ℕ) : Type 0 where
   pub some : ending ≡ nothing → ⊥
 
 pub fed-line : (t : List ℕ) → FedLine t
-unfolding fed endingBytes
+unfolding fed
 fed-line t = by (endsIn 13 t) refl
   where
     by : (c : Bool) → endsIn 13 t ≡ c → FedLine t
@@ -35,11 +37,11 @@ fed-line t = by (endsIn 13 t) refl
           text = dropLast t;
           ending = return-feed;
           is = λ rest. rw e;
-          long = let l = simp length-append at (ap length (ends-is 13 t e)) in omega arith;
+          long = let l = simp length-append at (ap length (ends-is 13 t e)) in rw return-feed-bytes (omega arith);
           some = λ z. (let q : _≡_ {A = ℕ} 0 1 = cc in omega arith);
         }
     by false e =
-        record { text = t; ending = feed; is = λ rest. rw e; long = refl; some = λ z. (let q : _≡_ {A = ℕ} 0 1 = cc in omega arith) }
+        record { text = t; ending = feed; is = λ rest. rw e; long = rw feed-bytes; some = λ z. (let q : _≡_ {A = ℕ} 0 1 = cc in omega arith) }
 
 -- ---- a buffer that holds it
 

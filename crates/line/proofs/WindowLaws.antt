@@ -10,7 +10,8 @@ use Rattle.text.specs.Bytes.{endsIn}
 use Rattle.text.proofs.ByteLaws.{none-empty, some-empty}
 use Rattle.text.specs.Verdict.{Verdict, fine, refused}
 use Rattle.pieces.specs.Pieces.{split}
-use Rattle.line.specs.Line.{Ending, nothing, feed, return-feed, endingBytes, Line, line, fed, lastVerdict, verdict, leadingPlaces, fieldPlaces, judgedAnswer, lineAnswer}
+use Rattle.record.specs.Ending.{Ending, nothing, feed, return-feed, endingBytes}
+use Rattle.line.specs.Line.{Line, line, fed, lastVerdict, verdict, leadingPlaces, fieldPlaces, judgedAnswer, lineAnswer}
 use Rattle.line.specs.Demands.{movedPlaces, moved}
 
 -- a function of one of two

@@ -5,19 +5,18 @@ use mathlib.Core.Bool.{Bool, true, false}
 use mathlib.Core.Logic.{_⊎_, _↔_}
 use mathlib.Core.List.{List, [], _∷_, _++_, flatten}
 use lib.ListN.{length, getD, take, drop}
-use denote.Builtin.{u8}
-use denote.Slice.{Room}
 use Rattle.text.specs.Answer.{Answer, says, numberOf, valuesOf}
 use Rattle.text.specs.Bytes.{endsIn}
 use Rattle.text.specs.Demands.{Characters}
 use Rattle.pieces.specs.Pieces.{joined}
 use Rattle.pieces.specs.Demands.{Free, startIn}
-use Rattle.line.specs.Line.{Ending, nothing, feed, return-feed, endingBytes, endingNumber, allUtf8}
-use Rattle.line.specs.Place.{span}
-use Rattle.line.specs.Paper.{endingOf}
-use Rattle.line.specs.Promises.{ReadsLine, GivesEnding}
-use Rattle.line.specs.declared.ending.Ending.{Ending as DeclaredEnding}
-use Rattle.line.specs.declared.read.Record.{Record}
+use Rattle.record.specs.Ending.{Ending, nothing, feed, return-feed, endingBytes, endingNumber}
+use Rattle.record.specs.Paper.{endingOf}
+use Rattle.record.specs.Promises.{GivesEnding}
+use Rattle.record.specs.declared.ending.Ending.{Ending as DeclaredEnding}
+use Rattle.record.specs.declared.place.Record.{Record}
+use Rattle.line.specs.Line.{allUtf8}
+use Rattle.line.specs.Promises.{ReadsLine}
 use Rattle.line.specs.declared.read.Read.the-variants as R
 
 -- INFO and the samples may be the last column, k counted from 1; columns 1 to 7, and FORMAT, must be ended by a tab
@@ -124,12 +123,6 @@ One read = (s : List ℕ) (at : ℕ) → numberOf (read s at) ≡ 0 → Stands s
 unfoldable pub TellsEnding : Type 0
 TellsEnding = (s : List ℕ) (at next : ℕ) (r : Record) (x : DeclaredEnding) → ReadsLine s at (R.Line r next) → GivesEnding r x
     → (cs : List (List ℕ)) (e : Ending) (rest : List ℕ) → Begins (drop at s) cs e rest → endingOf x ≡ e
-
--- ---- a record of any numbers
-
--- a field that ends before it starts has a place that no input reaches, however long the language lets it be
-unfoldable pub Unreached : Type 0
-Unreached = (s : List ℕ) → Room u8 (length s) → (start end : ℕ) → end < start → length s < span start end .start
 
 -- ---- faults
 

@@ -6,10 +6,13 @@ use lib.ListN.{length, getD, take, drop}
 use Rattle.text.specs.Verdict.{Verdict, fine, refused}
 use Rattle.pieces.specs.Inner.{Quiet}
 use Rattle.pieces.specs.Pieces.{split}
-use Rattle.line.specs.Line.{endingBytes, Line, line, lineOf, verdict, fieldPlaces, numbersOf}
-use Rattle.line.specs.Paper.{recordPlaces, recordNumbers}
-use Rattle.line.specs.declared.ending.Ending.{Ending}
-use Rattle.line.specs.declared.read.Record.{Record}
+use Rattle.record.specs.Ending.{endingBytes}
+use Rattle.record.specs.Place.{numbersOf}
+use Rattle.record.specs.Paper.{recordPlaces, recordNumbers, recordWith}
+use Rattle.record.specs.Promises.{GivesEnding}
+use Rattle.record.specs.declared.ending.Ending.{Ending}
+use Rattle.record.specs.declared.place.Record.{Record}
+use Rattle.line.specs.Line.{Line, line, lineOf, verdict, fieldPlaces}
 use Rattle.line.specs.declared.read.Stop.{Stop}
 use Rattle.line.specs.declared.read.Stop.the-variants as S
 use Rattle.line.specs.declared.read.Judged.{Judged}
@@ -125,23 +128,11 @@ pub record Judging (s : List ℕ) (at k start : ℕ) (tabs : List ℕ) : Type 0 
 -- the tabs end the first seven fields
 abbrev pub recordBy : Ending → ℕ → List ℕ → ℕ → ℕ → ℕ → Record
 recordBy ending at tabs info format end =
-    record {
-      ending = ending;
-      start = at;
-      chrom = getD tabs 0 0;
-      pos = getD tabs 1 0;
-      id = getD tabs 2 0;
-      reference = getD tabs 3 0;
-      alt = getD tabs 4 0;
-      qual = getD tabs 5 0;
-      filter = getD tabs 6 0;
-      info = info;
-      format = format;
-      end = end;
-    }
+    recordWith ending
+    (at ∷ getD tabs 0 0 ∷ getD tabs 1 0 ∷ getD tabs 2 0 ∷ getD tabs 3 0 ∷ getD tabs 4 0 ∷ getD tabs 5 0 ∷ getD tabs 6 0 ∷ info ∷ format ∷ end ∷ [])
 
 -- it has the places of the columns of the line that starts at `at` in t, and ends where t ends
 pub record Fields (t : List ℕ) (at : ℕ) (ending : Ending) (r : Record) : Type 0 where
-  pub ends : r .ending ≡ ending
+  pub ends : GivesEnding r ending
   pub places : recordPlaces r ≡ fieldPlaces at (split 9 (drop at t)) (length t)
   pub numbers : recordNumbers r ≡ numbersOf (recordPlaces r)

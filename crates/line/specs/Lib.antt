@@ -1,5 +1,4 @@
 pub mod Line
-pub mod Place
 pub mod Paper
 pub mod Promises
 pub mod Inner

@@ -3,7 +3,7 @@
 use Prim.Native.Nat.{ℕ, zero, suc, _+_}
 use mathlib.Core.Bool.{Bool, true, _&&_, _||_}
 use mathlib.Core.List.{List, [], _∷_, _++_, dropLast}
-use lib.ListN.{length, getD, drop}
+use lib.ListN.{length, drop}
 use lib.Dec.{leb, eqb}
 use Rattle.text.specs.Pick.{pick}
 use Rattle.text.specs.Answer.{Answer, says}
@@ -12,29 +12,9 @@ use Rattle.text.specs.Utf8.{isUtf8}
 use Rattle.text.specs.Place.{placed, fromPlace}
 use Rattle.text.specs.Verdict.{Verdict, fine, refused}
 use Rattle.pieces.specs.Pieces.{split, joined}
+use Rattle.record.specs.Ending.{Ending, nothing, feed, return-feed, endingBytes, endingNumber}
 
 -- ---- the line that an input begins with
-
--- how a line ended: by the end of the input, by LF, by CR LF
-pub data Ending : Type 0 where
-  nothing : Ending
-  feed : Ending
-  return-feed : Ending
-
-unfoldable pub endingBytes : Ending → List ℕ
-endingBytes nothing = []
-endingBytes feed = 10 ∷ []
-endingBytes return-feed = 13 ∷ 10 ∷ []
-
--- as an answer says it
-unfoldable pub endingNumber : Ending → ℕ
-endingNumber nothing = 0
-endingNumber feed = 1
-endingNumber return-feed = 2
-
--- the ending with this number; one above 2 is taken for 2
-unfoldable pub endingBy : ℕ → Ending
-endingBy n = getD (nothing ∷ feed ∷ []) n return-feed
 
 -- the line's text, its ending, and the rest of the input
 pub data Line : Type 0 where
@@ -90,16 +70,6 @@ leadingPlaces (suc n) from (c ∷ cs) = from ∷ length c ∷ leadingPlaces n (f
 -- eight columns, with FORMAT and the samples empty at the text's end; or nine, and the samples
 unfoldable pub fieldPlaces : ℕ → List (List ℕ) → ℕ → List ℕ
 fieldPlaces from cs end = pick (eqb (length cs) 8) (leadingPlaces 8 from cs ++ end ∷ 0 ∷ end ∷ 0 ∷ []) (leadingPlaces 9 from cs)
-
--- where each field ends, by starts and lengths
-unfoldable pub endsOf : List ℕ → List ℕ
-endsOf [] = []
-endsOf (start ∷ []) = []
-endsOf (start ∷ len ∷ places) = (start + len) ∷ endsOf places
-
--- the same places in fewer numbers: the line's start, and where each field ends; the samples end where the text does
-unfoldable pub numbersOf : List ℕ → List ℕ
-numbersOf places = getD places 0 0 ∷ endsOf places
 
 -- ---- the answer
 

@@ -2,24 +2,15 @@
 use Prim.Native.Nat.{ℕ}
 use mathlib.Core.Path.{_≡_}
 use mathlib.Core.List.{List}
-use lib.ListN.{length}
 use Rattle.text.specs.Outcome.{OneAnswer}
-use Rattle.text.specs.declared.range.Range.{Range}
-use Rattle.line.specs.Line.{endingBytes, endingBy, lineAtAnswer, numbersOf, readAnswer}
-use Rattle.line.specs.Place.{rangeOf}
-use Rattle.line.specs.Paper.{endingOf, linedPaper, recordPlaces, recordNumbers, readPaper}
-use Rattle.line.specs.declared.ending.Ending.{Ending}
+use Rattle.record.specs.Place.{numbersOf}
+use Rattle.record.specs.Paper.{recordPlaces, recordNumbers}
+use Rattle.record.specs.declared.place.Record.{Record}
+use Rattle.line.specs.Line.{lineAtAnswer, readAnswer}
+use Rattle.line.specs.Paper.{linedPaper, readPaper}
 use Rattle.line.specs.declared.extent.Lined.{Lined}
-use Rattle.line.specs.declared.read.Record.{Record}
 use Rattle.line.specs.declared.read.Read.{Read}
 use Rattle.line.specs.declared.read.Read.the-variants as R
-use Rattle.line.specs.declared.place.Name.{Name}
-
-abbrev pub SizesEnding : Ending → ℕ → Type 0
-SizesEnding ending r = r ≡ length (endingBytes (endingOf ending))
-
-abbrev pub NamesEnding : ℕ → Ending → Type 0
-NamesEnding n r = endingOf r ≡ endingBy n
 
 abbrev pub FindsLine : List ℕ → ℕ → Lined → Type 0
 FindsLine s at r = linedPaper r ≡ lineAtAnswer s at
@@ -31,24 +22,6 @@ ReadsLine s at r = readPaper r ≡ readAnswer s at
 abbrev pub KeepsNumbers : Read → Type 0
 KeepsNumbers x = (r : Record) (next : ℕ) → x ≡ R.Line r next → recordNumbers r ≡ numbersOf (recordPlaces r)
 
-abbrev pub GivesPlace : Record → Name → Range → Type 0
-GivesPlace line name r = r ≡ rangeOf line name
-
-abbrev pub GivesEnding : Record → Ending → Type 0
-GivesEnding line r = r ≡ line .ending
-
-abbrev pub GivesNumbers : Record → List ℕ → Type 0
-GivesNumbers line r = r ≡ recordNumbers line
-
-abbrev pub MakesRecord : Ending → List ℕ → Record → Type 0
-MakesRecord ending numbers r = (r .ending ≡ ending) × (recordNumbers r ≡ numbers)
-
 pub record Determined : Type 0 where
-  pub ending-size : (ending : Ending) → OneAnswer (SizesEnding ending)
-  pub ending-by : (n : ℕ) → OneAnswer (NamesEnding n)
   pub line-at : (s : List ℕ) (at : ℕ) → OneAnswer (FindsLine s at)
   pub read-line : (s : List ℕ) (at : ℕ) → OneAnswer (λ (r : Read). ReadsLine s at r × KeepsNumbers r)
-  pub place-of : (line : Record) (name : Name) → OneAnswer (GivesPlace line name)
-  pub ending-of : (line : Record) → OneAnswer (GivesEnding line)
-  pub numbers-of : (line : Record) → OneAnswer (GivesNumbers line)
-  pub make-record : (ending : Ending) (numbers : List ℕ) → OneAnswer (MakesRecord ending numbers)

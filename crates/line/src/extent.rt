@@ -1,8 +1,8 @@
 // The line at a place: where its text ends, how it ended, and where the next one starts.
-use crate::ending::Ending;
-use crate::ending::ending_by;
 use crate::ending::text_end;
 use pieces::either::find_either;
+use record::ending::Ending;
+use record::ending::ending_by;
 ghost use Rattle.line.specs.Promises.{FindsLine};
 
 // The line found at a place.

@@ -1,11 +1,13 @@
 // Reading a line: where its columns end, whether they are in order, and the places of its fields.
-use crate::ending::Ending;
-use crate::ending::ending_by;
 use crate::ending::text_end;
 use crate::scan::scan;
 use crate::scan::whole_end;
 use pieces::either::find_either;
 use pieces::either::near_end;
+use record::ending::Ending;
+use record::ending::ending_by;
+use record::place::Record;
+use record::place::make_record;
 use text::utf8::Utf8;
 use text::utf8::check_utf8;
 ghost use mathlib.Core.Path.{_≡_};
@@ -16,24 +18,6 @@ ghost use Rattle.line.specs.Paper.{readPaper};
 ghost use Rattle.line.specs.Promises.{ReadsLine, KeepsNumbers};
 ghost use Rattle.line.specs.Scan.{PlainIf};
 ghost use Rattle.line.specs.Inner.{StopsAt, Stopped, Clear, judgementOf, judgedPaper, Unset, Marks, Told, recordBy, Fields, InOrder};
-
-// A line's record: how it ended, where its text starts, where each of its first nine fields ends, and where its text ends. Each
-// field starts past one tab after the end before it. Without FORMAT the ninth end is INFO's, and no tab is passed. Others ask for
-// its ending by `ending_of` and for a field's place by `place_of`.
-pub struct Record {
-    pub(crate) ending: Ending,
-    pub(crate) start: usize,
-    pub(crate) chrom: usize,
-    pub(crate) pos: usize,
-    pub(crate) id: usize,
-    pub(crate) reference: usize,
-    pub(crate) alt: usize,
-    pub(crate) qual: usize,
-    pub(crate) filter: usize,
-    pub(crate) info: usize,
-    pub(crate) format: usize,
-    pub(crate) end: usize,
-}
 
 // What reading at a place finds. Each case has the next place.
 pub enum Read {
@@ -201,20 +185,20 @@ fn record_of(
     requires { ⌜ length (now tabs) ≡ 9 ⌝ }
     ensures { λ r. ⌜ r ≡ recordBy ending at (now (tabs .entry)) info format end ⌝ }
 {
-    Record {
-        ending,
-        start: at,
-        chrom: tabs[0],
-        pos: tabs[1],
-        id: tabs[2],
-        reference: tabs[3],
-        alt: tabs[4],
-        qual: tabs[5],
-        filter: tabs[6],
+    let numbers = [
+        at,
+        tabs[0],
+        tabs[1],
+        tabs[2],
+        tabs[3],
+        tabs[4],
+        tabs[5],
+        tabs[6],
         info,
         format,
         end,
-    }
+    ];
+    make_record(ending, numbers)
 }
 
 // The record of the line that starts at `at` in t and whose text ends where t ends, by its first tabs and its ending.

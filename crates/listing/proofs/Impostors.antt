@@ -8,7 +8,8 @@ use native.Mathlib.Omega.{arith}
 use lib.ListN.{length, getD}
 use borrow.Author.Tests.{le-ltb, ne-eqb}
 use Rattle.text.specs.Answer.{Answer, numberOf, nextOf}
-use Rattle.line.specs.Line.{Line, line, nothing, feed, return-feed, lineOf, readAnswer}
+use Rattle.record.specs.Ending.{nothing, feed, return-feed}
+use Rattle.line.specs.Line.{Line, line, lineOf, readAnswer}
 use Rattle.line.specs.Demands.{FirstFeed, past-feed, at-end, GoesOn, stays-1, stays-6, line-0, line-5, feed-2, tab-2, feed-3, end-4}
 use Rattle.line.proofs.LineLaws.{read-end}
 use Rattle.line.proofs.MovesOn.{read-moved}

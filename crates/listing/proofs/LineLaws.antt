@@ -8,10 +8,12 @@ use native.Mathlib.Omega.{arith}
 use lib.ListN.{length, drop, length-append, length-drop}
 use Rattle.pieces.specs.Demands.{Free}
 use Rattle.pieces.proofs.PieceLaws.{free-append}
-use Rattle.line.specs.Line.{Ending, nothing, feed, return-feed, line, lineOf}
+use Rattle.record.specs.Ending.{Ending, nothing, feed, return-feed}
+use Rattle.line.specs.Line.{line, lineOf}
 use Rattle.line.specs.Demands.{Window, to-end}
+use Rattle.record.proofs.EndingLaws.{nothing-bytes}
 use Rattle.line.proofs.LineLaws.{AtFeed, none, one, at-feed}
-use Rattle.line.proofs.ColumnLaws.{nothing-bytes, line-end, line-feed}
+use Rattle.line.proofs.ColumnLaws.{line-end, line-feed}
 use Rattle.line.proofs.WholeLaws.{fed-line, window-fed}
 use Rattle.listing.specs.Listing.{sizeOf, columnsOf}
 use Rattle.listing.specs.Turn.{isWhole}

@@ -8,13 +8,13 @@ use lib.ListN.{length, take, drop, length-drop}
 use Rattle.text.specs.Answer.{says, numberOf}
 use Rattle.text.specs.declared.range.Range.{Range}
 use Rattle.text.proofs.Lists.{cut-is}
+use Rattle.record.specs.Place.{rangeOf, columnOf}
+use Rattle.record.specs.declared.place.Record.{Record}
+use Rattle.record.specs.declared.place.Name.the-variants as N
 use Rattle.line.specs.Line.{lineOf, readAnswer}
-use Rattle.line.specs.Place.{rangeOf, columnOf}
 use Rattle.line.specs.Paper.{readPaper}
-use Rattle.line.specs.declared.read.Record.{Record}
 use Rattle.line.specs.declared.read.Read.{Read}
 use Rattle.line.specs.declared.read.Read.the-variants as R
-use Rattle.line.specs.declared.place.Name.the-variants as N
 use Rattle.line.proofs.CaseLaws.{read-record, read-end, read-empty, read-fed, read-cut, read-broken, read-beyond}
 use Rattle.line.proofs.RecordLaws.{Recorded, recorded, LiesIn, count, line-is, columns-split, placed, samples-back, columns-within}
 use Rattle.line.proofs.MovesOn.{six-beyond}

@@ -17,8 +17,8 @@ use Rattle.pieces.proofs.NumberLaws.{piece-within}
 use Rattle.decimal.proofs.Shortest.{length-20}
 use Rattle.info.specs.Info.{infoCount}
 use Rattle.info.proofs.Counts.{count-pieces}
+use Rattle.record.specs.Place.{columnOf}
 use Rattle.line.specs.Line.{Line, line}
-use Rattle.line.specs.Place.{columnOf}
 use Rattle.listing.specs.Output.{rowBytes, totalBytes}
 use Rattle.listing.specs.Listing.{sizeOf, columnsOf, infosOf, infosIn, countsOf, rowOf}
 use Rattle.listing.proofs.PrintLaws.{read-size, refused-size, total-size}

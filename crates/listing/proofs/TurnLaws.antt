@@ -13,11 +13,12 @@ use Rattle.text.specs.Answer.{says}
 use Rattle.text.proofs.Lists.{here}
 use Rattle.pieces.specs.Demands.{Free}
 use Rattle.pieces.proofs.PieceLaws.{free-left}
-use Rattle.line.specs.Line.{nothing, feed, return-feed, Line, line, lineOf, readAnswer}
-use Rattle.line.specs.Paper.{endingOf}
+use Rattle.record.specs.Ending.{nothing, feed, return-feed}
+use Rattle.record.specs.Paper.{endingOf}
+use Rattle.record.specs.declared.ending.Ending.{Ending}
+use Rattle.record.specs.declared.ending.Ending.the-variants as E
+use Rattle.line.specs.Line.{Line, line, lineOf, readAnswer}
 use Rattle.line.specs.Promises.{FindsLine}
-use Rattle.line.specs.declared.ending.Ending.{Ending}
-use Rattle.line.specs.declared.ending.Ending.the-variants as E
 use Rattle.line.specs.declared.extent.Lined.{Lined}
 use Rattle.line.specs.declared.extent.Lined.the-variants as L
 use Rattle.line.proofs.LineLaws.{AtFeed, none, one, at-feed}

@@ -9,9 +9,9 @@ use Rattle.text.specs.Over.{overAt}
 use Rattle.text.specs.declared.copy.Written.{Written}
 use Rattle.text.specs.declared.copy.Written.the-variants.{Done, Short}
 use Rattle.decimal.specs.Shortest.{shortest}
+use Rattle.record.specs.Paper.{recordValues}
+use Rattle.record.specs.declared.place.Record.{Record}
 use Rattle.line.specs.Line.{lineOf, readAnswer}
-use Rattle.line.specs.Paper.{recordValues}
-use Rattle.line.specs.declared.read.Record.{Record}
 use Rattle.listing.specs.Output.{rowBytes, readAfter, refusedAfter}
 use Rattle.listing.specs.Listing.{sizeOf}
 use Rattle.listing.specs.Turn.{on, gives, isWhole, turnMove}

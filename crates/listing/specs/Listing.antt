@@ -10,9 +10,10 @@ use lib.Dec.{ltb, eqb}
 use Rattle.text.specs.Pick.{pick}
 use Rattle.text.specs.Answer.{Answer, says, numberOf, nextOf}
 use Rattle.pieces.specs.Pieces.{split}
-use Rattle.line.specs.Line.{Line, line, endingBytes, lineOf, readAnswer}
-use Rattle.line.specs.Place.{columnOf}
-use Rattle.line.specs.declared.place.Name.the-variants as N
+use Rattle.record.specs.Ending.{endingBytes}
+use Rattle.record.specs.Place.{columnOf}
+use Rattle.record.specs.declared.place.Name.the-variants as N
+use Rattle.line.specs.Line.{Line, line, lineOf, readAnswer}
 use Rattle.fields.specs.Fields.{readText}
 use Rattle.info.specs.Info.{infoCount}
 

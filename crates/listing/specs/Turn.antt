@@ -8,7 +8,8 @@ use lib.ListN.{length, drop}
 use lib.Dec.{ltb, eqb}
 use Rattle.text.specs.Pick.{pick}
 use Rattle.text.specs.Answer.{Answer, says, numberOf, nextOf}
-use Rattle.line.specs.Line.{Line, line, nothing, feed, return-feed, lineOf, readAnswer}
+use Rattle.record.specs.Ending.{nothing, feed, return-feed}
+use Rattle.line.specs.Line.{Line, line, lineOf, readAnswer}
 use Rattle.listing.specs.Listing.{sizeOf, longest, rowOf, beginsHash}
 use Rattle.listing.specs.declared.turn.Phase.{Phase}
 use Rattle.listing.specs.declared.turn.Phase.the-variants as P

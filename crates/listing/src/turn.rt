@@ -2,14 +2,14 @@
 use fields::field::Text;
 use fields::field::field;
 use info::count::count as count_infos;
-use line::ending::Ending;
 use line::extent::Lined;
 use line::extent::line_at;
-use line::place::Name;
-use line::place::place_of;
 use line::read::Read;
-use line::read::Record;
 use line::read::read_line;
+use record::ending::Ending;
+use record::place::Name;
+use record::place::Record;
+use record::place::place_of;
 use samples::columns::count as count_samples;
 ghost use mathlib.Core.Path.{_≡_};
 ghost use mathlib.Core.Bool.{_||_};

@@ -20,15 +20,15 @@ use Rattle.text.proofs.CopyLaws.{room-fits, room-lacks}
 use Rattle.text.proofs.WrittenLaws.{Wrote, Lacked, writes-done, writes-short}
 use Rattle.text.proofs.Lists.{rest-all, rest-put, rest-back}
 use Rattle.pieces.specs.Pieces.{joined}
-use Rattle.pieces.specs.Entries.{rising, entryList}
-use Rattle.pieces.specs.Inner.{endsAnswer, JoinsList}
-use Rattle.pieces.specs.Paper.{endsPaper}
-use Rattle.pieces.specs.declared.entries.Ends.{Ends}
-use Rattle.pieces.specs.declared.entries.Ends.the-variants as N
-use Rattle.pieces.specs.declared.joined.Joined.{Joined}
-use Rattle.pieces.specs.declared.joined.Joined.the-variants as P
-use Rattle.pieces.proofs.EntryLaws.{entries-length, entry-here, entry-past, ends-tell}
-use Rattle.pieces.proofs.JoinedLaws.{joined-tells}
+use Rattle.entries.specs.Entries.{rising, entryList}
+use Rattle.entries.specs.Inner.{endsAnswer, JoinsList}
+use Rattle.entries.specs.Paper.{endsPaper}
+use Rattle.entries.specs.declared.entries.Ends.{Ends}
+use Rattle.entries.specs.declared.entries.Ends.the-variants as N
+use Rattle.entries.specs.declared.joined.Joined.{Joined}
+use Rattle.entries.specs.declared.joined.Joined.the-variants as P
+use Rattle.entries.proofs.EntryLaws.{entries-length, entry-here, entry-past, ends-tell}
+use Rattle.entries.proofs.JoinedLaws.{joined-tells}
 use Rattle.lists.specs.Kind.{separatorOf, invalidOf}
 use Rattle.lists.specs.Judge.{entryAnswer}
 use Rattle.lists.specs.Paper.{verdictPaper, writePaper}

@@ -3,7 +3,7 @@ use Prim.Native.Nat.{ℕ}
 use mathlib.Core.Path.{_≡_}
 use mathlib.Core.List.{List}
 use Rattle.text.specs.Over.{roomAnswer, laid, roomLeft}
-use Rattle.pieces.specs.Entries.{entryList}
+use Rattle.entries.specs.Entries.{entryList}
 use Rattle.lists.specs.Paper.{writePaper}
 use Rattle.lists.specs.Write.{listText, listAnswer}
 use Rattle.lists.specs.declared.write.Kind.{Kind}

@@ -11,7 +11,7 @@ use Rattle.text.specs.Over.{laidAt}
 use Rattle.text.specs.Place.{placed}
 use Rattle.text.specs.Verdict.{Verdict, fine, refused, fitted}
 use Rattle.pieces.specs.Pieces.{joined}
-use Rattle.pieces.specs.Entries.{entryList, ordered}
+use Rattle.entries.specs.Entries.{entryList, ordered}
 use Rattle.lists.specs.Kind.{separatorOf}
 use Rattle.lists.specs.Judge.{entryAnswer}
 use Rattle.lists.specs.Paper.{writePaper}

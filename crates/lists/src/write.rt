@@ -1,11 +1,11 @@
 // What the writers of filters and of ALT entries share: they differ in the separator and the judge alone.
 use crate::alternate_bases::judge_alt;
 use crate::filters::judge_filter;
-use pieces::entries::Ends;
-use pieces::entries::entry_text;
-use pieces::entries::judge_ends;
-use pieces::joined::Joined;
-use pieces::joined::put_joined;
+use entries::entries::Ends;
+use entries::entries::entry_text;
+use entries::entries::judge_ends;
+use entries::joined::Joined;
+use entries::joined::put_joined;
 use text::copy::Written;
 use text::copy::copy;
 ghost use mathlib.Core.Path.{_≡_};
@@ -13,7 +13,7 @@ ghost use mathlib.Core.Bool.{true};
 ghost use mathlib.Core.List.{[]};
 ghost use lib.ListN.{length};
 ghost use Rattle.text.specs.Verdict.{fitted};
-ghost use Rattle.pieces.specs.Entries.{rising, entryList};
+ghost use Rattle.entries.specs.Entries.{rising, entryList};
 ghost use Rattle.lists.specs.Kind.{separatorOf};
 ghost use Rattle.lists.specs.Paper.{writePaper};
 ghost use Rattle.lists.specs.Write.{entriesJudged, WritesListAt};

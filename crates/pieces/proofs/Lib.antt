@@ -3,14 +3,9 @@ pub mod PieceLaws
 pub mod CountLaws
 pub mod BlockLaws
 pub mod EitherLaws
-pub mod WordLaws
-pub mod FindLaws
 pub mod StepLaws
 pub mod NthLaws
 pub mod NumberLaws
-pub mod EntryLaws
-pub mod PlaceLaws
-pub mod JoinedLaws
 pub mod Demands
 pub mod Impostors
 pub mod Determined

@@ -3,17 +3,13 @@ use Prim.Native.Nat.{ℕ, _+_}
 use mathlib.Core.Path.{_≡_}
 use mathlib.Core.List.{List}
 use lib.ListN.{length, drop}
-use denote.Ref.{RefT, now}
-use Rattle.text.specs.Outcome.{OneAnswer, OneOutcome, OnePart}
-use Rattle.text.specs.Part.{Part}
-use Rattle.pieces.specs.Paper.{stepPaper, nthPaper, endsPaper, entryPaper}
+use Rattle.text.specs.Outcome.{OneAnswer}
+use Rattle.pieces.specs.Paper.{stepPaper, nthPaper}
 use Rattle.pieces.specs.Pieces.{pieces, countOf, stepAnswer}
 use Rattle.pieces.specs.Nth.{nthAnswer}
-use Rattle.pieces.specs.Inner.{endsAnswer, entryAnswer, entryRange, nearEnd, quietLength, JoinsList}
+use Rattle.pieces.specs.Inner.{nearEnd, quietLength}
 use Rattle.pieces.specs.declared.step.Step.{Step}
 use Rattle.pieces.specs.declared.nth.Nth.{Nth}
-use Rattle.pieces.specs.declared.entries.Ends.{Ends}
-use Rattle.pieces.specs.declared.entries.Entry.{Entry}
 
 abbrev pub CountsByte : ℕ → List ℕ → ℕ → Type 0
 CountsByte b s r = r ≡ countOf b s
@@ -33,16 +29,6 @@ FindsPiece separator s at r = stepPaper r ≡ stepAnswer separator s at
 abbrev pub FindsNth : ℕ → List ℕ → ℕ → Nth → Type 0
 FindsNth separator s n r = nthPaper r ≡ nthAnswer separator s n
 
-abbrev pub JudgesEnds : List ℕ → List ℕ → Ends → Type 0
-JudgesEnds t ends r = endsPaper r ≡ endsAnswer t ends
-
-abbrev pub FindsEntry : List ℕ → List ℕ → ℕ → Entry → Type 0
-FindsEntry t ends i r = entryPaper r ≡ entryAnswer t ends i
-
--- entry i, as a part of the text
-abbrev pub ShowsEntry : RefT (List ℕ) → List ℕ → ℕ → RefT (List ℕ) → Type 0
-ShowsEntry text ends i r = Part text (entryRange (now text) ends i) r
-
 pub record Determined : Type 0 where
   pub count-byte : (b : ℕ) (s : List ℕ) → OneAnswer (CountsByte b s)
   pub count-pieces : (separator : ℕ) (s : List ℕ) → OneAnswer (CountsPieces separator s)
@@ -50,7 +36,3 @@ pub record Determined : Type 0 where
   pub find-either : (a b : ℕ) (s : List ℕ) (from : ℕ) → OneAnswer (FindsEither a b s from)
   pub piece-at : (separator : ℕ) (s : List ℕ) (at : ℕ) → OneAnswer (FindsPiece separator s at)
   pub piece-nth : (separator : ℕ) (s : List ℕ) (n : ℕ) → OneAnswer (FindsNth separator s n)
-  pub judge-ends : (t ends : List ℕ) → OneAnswer (JudgesEnds t ends)
-  pub entry-at : (t ends : List ℕ) (i : ℕ) → OneAnswer (FindsEntry t ends i)
-  pub entry-text : (text : RefT (List ℕ)) (ends : List ℕ) (i : ℕ) → OnePart (ShowsEntry text ends i)
-  pub put-joined : (separator : ℕ) (t ends l : List ℕ) → OneOutcome (JoinsList separator t ends l)

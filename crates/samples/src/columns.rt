@@ -4,8 +4,8 @@ use pieces::nth::Nth;
 use pieces::nth::piece_nth;
 use pieces::step::Step;
 use pieces::step::piece_at;
-use pieces::word::find_byte;
 use text::range::Range;
+use words::word::find_byte;
 ghost use Rattle.samples.specs.Promises.{CountsSamples, VisitsSample, GivesSample, GivesSubfield};
 
 // How many samples there are.

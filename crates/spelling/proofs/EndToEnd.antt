@@ -9,18 +9,17 @@ use lib.ListN.{length, getD, take, drop}
 use Rattle.text.specs.Answer.{says, numberOf}
 use Rattle.text.specs.Over.{over}
 use Rattle.text.proofs.Lists.{take-over}
-use Rattle.genotype.specs.Row.{numbersOf, missingOf, phasedOf, alleleOf, rowOf}
-use Rattle.genotype.specs.Answers.{Parallel}
-use Rattle.genotype.specs.declared.allele.Allele.{Allele}
-use Rattle.genotype.proofs.MeansLaws.{reads-means}
-use Rattle.genotype.proofs.ColumnLaws.{numbersOf-length, missingOf-length, phasedOf-length}
+use Rattle.allele.specs.Row.{numbersOf, missingOf, phasedOf, alleleOf, rowOf, Parallel}
+use Rattle.allele.specs.declared.allele.Allele.{Allele}
+use Rattle.allele.proofs.MeansLaws.{reads-means}
+use Rattle.allele.proofs.ColumnLaws.{numbersOf-length, missingOf-length, phasedOf-length}
 use Rattle.genotype.proofs.AnswerLaws.{Holds, reads-list}
 use Rattle.spelling.specs.Permitted.{from44}
 use Rattle.spelling.specs.Paper.{writePaper}
 use Rattle.spelling.specs.Write.{rowAnswer, Small}
 use Rattle.spelling.specs.Demands.{writer, Fitting, RoundTrip, SlicesWriter}
 use Rattle.spelling.specs.EndToEnd.{Wrote, WrittenBack, ReadBack, ReadsBack}
-use Rattle.genotype.proofs.RowLaws.{row-length, row-append}
+use Rattle.allele.proofs.RowLaws.{row-length, row-append}
 use Rattle.spelling.proofs.WriteLaws.{row-parallel}
 use Rattle.spelling.proofs.Slices.{slices-writer}
 use Rattle.spelling.proofs.RoundTrip.{round-trip}

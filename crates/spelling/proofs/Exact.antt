@@ -10,7 +10,7 @@ use lib.ListN.{length, drop, length-drop}
 use borrow.Author.Tests.{eq-eqb}
 use Rattle.text.specs.Answer.{Answer, says, numberOf}
 use Rattle.text.proofs.CopyLaws.{room-fits, room-lacks, room-done, laidAt-refused}
-use Rattle.genotype.specs.declared.allele.Allele.{Allele}
+use Rattle.allele.specs.declared.allele.Allele.{Allele}
 use Rattle.spelling.specs.Spelling.{Spelled, text, bad, phasing, empty, spell}
 use Rattle.spelling.specs.Permitted.{from44, Permitted}
 use Rattle.spelling.specs.Write.{spelledAnswer, listAnswer, textOf}

@@ -10,12 +10,12 @@ use Rattle.text.specs.Answer.{Answer, says, numberOf}
 use Rattle.text.specs.Over.{overAt}
 use Rattle.text.proofs.Lists.{take-overAt}
 use Rattle.decimal.proofs.Shortest.{shortest-one}
-use Rattle.genotype.specs.declared.allele.Allele.{Allele}
-use Rattle.genotype.proofs.PhasedLaws.{phased-none}
+use Rattle.allele.specs.declared.allele.Allele.{Allele}
+use Rattle.allele.proofs.PhasedLaws.{phased-none}
 use Rattle.spelling.specs.Spelling.{shaped}
 use Rattle.spelling.specs.Permitted.{Permitted, TheShortest}
 use Rattle.spelling.specs.Demands.{Writer, WritesShortest, empty, beyond, unspelled, Refusals, Exact, RoundTrip}
-use Rattle.genotype.proofs.RowLaws.{sound-there, unsound-none, unsound-more}
+use Rattle.allele.proofs.RowLaws.{sound-there, unsound-none, unsound-more}
 use Rattle.spelling.proofs.SpellLaws.{body-number, list-none, list-bare, spell-sound}
 use Rattle.spelling.proofs.Shortest.{one-text, spelled-shortest}
 

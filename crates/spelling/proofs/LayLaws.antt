@@ -7,8 +7,8 @@ use native.Mathlib.Nat.{zero-add}
 use lib.ListN.{length, drop, length-append}
 use Rattle.text.specs.Over.{over, overAt}
 use Rattle.text.proofs.Lists.{over-nil, over-append, overAt-nil, overAt-append, length-overAt}
-use Rattle.genotype.specs.declared.allele.Allele.{Allele}
-use Rattle.genotype.proofs.RowLaws.{row-here, row-past}
+use Rattle.allele.specs.declared.allele.Allele.{Allele}
+use Rattle.allele.proofs.RowLaws.{row-here, row-past}
 use Rattle.spelling.specs.Inner.{oneText, textFrom, plannedText, PutsAt}
 use Rattle.spelling.specs.declared.tally.Plan.{Plan}
 use Rattle.spelling.proofs.PutLaws.{put-place, put-bytes}

@@ -12,7 +12,7 @@ use Rattle.text.specs.Pick.{pick}
 use Rattle.text.specs.Answer.{numberOf}
 use Rattle.text.specs.Over.{over, overAt}
 use Rattle.text.proofs.Lists.{rest-all, rest-put, rest-back}
-use Rattle.genotype.specs.declared.allele.Allele.{Allele}
+use Rattle.allele.specs.declared.allele.Allele.{Allele}
 use Rattle.spelling.specs.Spelling.{spell}
 use Rattle.spelling.specs.Permitted.{from44}
 use Rattle.spelling.specs.Inner.{WritesList}

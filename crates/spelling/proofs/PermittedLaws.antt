@@ -7,12 +7,12 @@ use mathlib.Core.List.{List, [], _∷_}
 use mathlib.Core.Option.{none}
 use borrow.Author.Tests.{eqb-true, eq-eqb}
 use Rattle.decimal.proofs.Lead.{plain-only, shortest-plain}
-use Rattle.genotype.specs.declared.allele.Allele.{Allele}
+use Rattle.allele.specs.declared.allele.Allele.{Allele}
 use Rattle.spelling.specs.Spelling.{bodyText, listText}
-use Rattle.genotype.specs.Row.{isSound, firstUnsound}
+use Rattle.allele.specs.Row.{isSound, firstUnsound}
 use Rattle.spelling.specs.Permitted as P
 use Rattle.spelling.specs.Permitted.{Plainly, dot, number, Following, more}
-use Rattle.genotype.proofs.RowLaws.{sound-missing, sound-there, unsound-none, unsound-more, sound-parts}
+use Rattle.allele.proofs.RowLaws.{sound-missing, sound-there, unsound-none, unsound-more, sound-parts}
 use Rattle.spelling.proofs.SpellLaws.{body-dot, body-number, list-none, list-marked}
 
 -- ---- one allele

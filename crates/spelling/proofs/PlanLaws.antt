@@ -11,16 +11,16 @@ use lib.ListN.{length}
 use lib.Dec.{leb, ltb}
 use borrow.Author.Tests.{lt-ltb, le-ltb, le-leb, lt-leb}
 use Rattle.text.specs.Pick.{pick}
-use Rattle.genotype.specs.Means.{allPhased}
-use Rattle.genotype.specs.declared.allele.Allele.{Allele}
-use Rattle.genotype.proofs.PhasedLaws.{phased-none, phased-more}
+use Rattle.allele.specs.Means.{allPhased}
+use Rattle.allele.specs.declared.allele.Allele.{Allele}
+use Rattle.allele.proofs.PhasedLaws.{phased-none, phased-more}
 use Rattle.spelling.specs.Spelling.{bodyText, alleleText, listText, text, bad, phasing, empty, shaped, spell}
-use Rattle.genotype.specs.Row.{isSound, firstUnsound}
+use Rattle.allele.specs.Row.{isSound, firstUnsound}
 use Rattle.spelling.specs.Inner.{begun, shortened, counted, tallied, tallyFrom, tallyOf, shapeOf, planOf}
 use Rattle.spelling.specs.declared.tally.Tally.{Tally}
 use Rattle.spelling.specs.declared.tally.Plan.{Plan}
 use Rattle.spelling.specs.declared.tally.Plan.the-variants as P
-use Rattle.genotype.proofs.RowLaws.{unsound-none, unsound-more, unsound-here, sound-parts}
+use Rattle.allele.proofs.RowLaws.{unsound-none, unsound-more, unsound-here, sound-parts}
 use Rattle.spelling.proofs.SpellLaws.{bare-text, marked-length, list-none, list-length, marked-longer, spell-none, spell-sound, spell-bad}
 use Rattle.spelling.proofs.TallyLaws.{begin-is, short-not, short-fits, firstly, stopped, tallied-stopped, tallied-unsound, tallied-sound, counted-first, counted-later, plan-empty, plan-sound, plan-stopped}
 

@@ -20,8 +20,8 @@ use Rattle.text.specs.declared.copy.Written.the-variants.{Done, Short}
 use Rattle.text.proofs.Lists.{length-rest, rest-put, rest-back, overAt-before, overAt-nil}
 use Rattle.text.proofs.WrittenLaws.{Wrote, writes-done, writes-short}
 use Rattle.decimal.specs.Shortest.{shortest}
-use Rattle.genotype.specs.Means.{markByte}
-use Rattle.genotype.specs.declared.allele.Allele.{Allele}
+use Rattle.allele.specs.Means.{markByte}
+use Rattle.allele.specs.declared.allele.Allele.{Allele}
 use Rattle.spelling.specs.Spelling.{bodyText, alleleText}
 use Rattle.spelling.specs.Inner.{oneText, fitsAt, PutsAt}
 use Rattle.spelling.specs.declared.tally.Plan.{Plan}

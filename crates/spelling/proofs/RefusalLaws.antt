@@ -6,10 +6,10 @@ use mathlib.Core.Bool.{Bool, true, false, Bool·beq, false≢true}
 use mathlib.Core.List.{List, [], _∷_}
 use mathlib.Core.Option.{Option, some, none}
 use Rattle.text.specs.Answer.{Answer, says}
-use Rattle.genotype.specs.Means.{allPhased}
-use Rattle.genotype.specs.Row.{firstUnsound}
-use Rattle.genotype.specs.declared.allele.Allele.{Allele}
-use Rattle.genotype.proofs.RowLaws.{unsound-first, first-unsound, none-unsound, sound-first}
+use Rattle.allele.specs.Means.{allPhased}
+use Rattle.allele.specs.Row.{firstUnsound}
+use Rattle.allele.specs.declared.allele.Allele.{Allele}
+use Rattle.allele.proofs.RowLaws.{unsound-first, first-unsound, none-unsound, sound-first}
 use Rattle.spelling.specs.Spelling.{listText, text, shaped, spell}
 use Rattle.spelling.specs.Permitted.{Permitted}
 use Rattle.spelling.specs.Write.{spelledAnswer}

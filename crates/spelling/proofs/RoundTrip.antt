@@ -10,9 +10,9 @@ use Rattle.text.specs.Answer.{numberOf}
 use Rattle.text.proofs.Lists.{take-overAt}
 use Rattle.decimal.specs.Demands as D
 use Rattle.decimal.specs.Demands.{Plain}
-use Rattle.genotype.specs.Means as M
-use Rattle.genotype.specs.Means.{Body, Later, Means}
-use Rattle.genotype.specs.declared.allele.Allele.{Allele}
+use Rattle.allele.specs.Means as M
+use Rattle.allele.specs.Means.{Body, Later, Means}
+use Rattle.allele.specs.declared.allele.Allele.{Allele}
 use Rattle.spelling.specs.Permitted.{Plainly, dot, number, Following, none, more, Permitted, bare, marked}
 use Rattle.spelling.specs.Demands.{Writer, writer, WritesShortest, Meets, Fitting, RoundTrip, Follow}
 use Rattle.spelling.proofs.Exact.{meets, exactly}

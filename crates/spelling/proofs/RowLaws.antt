@@ -3,8 +3,8 @@ use Prim.Native.Nat.{ℕ, _+_}
 use mathlib.Core.Path.{_≡_}
 use mathlib.Core.List.{List, [], _∷_}
 use lib.ListN.{drop}
-use Rattle.genotype.specs.declared.allele.Allele.{Allele}
-use Rattle.genotype.proofs.RowLaws.{row-here, row-past}
+use Rattle.allele.specs.declared.allele.Allele.{Allele}
+use Rattle.allele.proofs.RowLaws.{row-here, row-past}
 use Rattle.spelling.specs.Inner.{begun, tallied, tallyFrom, tallyOf}
 use Rattle.spelling.specs.declared.tally.Tally.{Tally}
 

@@ -9,12 +9,12 @@ use native.Mathlib.Omega.{arith}
 use lib.ListN.{length}
 use Rattle.text.specs.Same.{same}
 use Rattle.text.proofs.SameLaws.{same-is, same-other}
-use Rattle.genotype.specs.Means.{allPhased}
-use Rattle.genotype.specs.declared.allele.Allele.{Allele}
+use Rattle.allele.specs.Means.{allPhased}
+use Rattle.allele.specs.declared.allele.Allele.{Allele}
 use Rattle.spelling.specs.Spelling.{listText, text, shaped, spell}
-use Rattle.genotype.specs.Row.{firstUnsound}
+use Rattle.allele.specs.Row.{firstUnsound}
 use Rattle.spelling.specs.Permitted.{Permitted, bare, marked, TheShortest}
-use Rattle.genotype.proofs.RowLaws.{unsound-more, sound-parts}
+use Rattle.allele.proofs.RowLaws.{unsound-more, sound-parts}
 use Rattle.spelling.proofs.SpellLaws.{list-bare, list-marked, marked-longer, spell-none, spell-sound, spell-bad}
 use Rattle.spelling.proofs.PermittedLaws.{plainly-only, plainly-has, plainly-sound, following-only, following-has, following-sound}
 

@@ -1,7 +1,7 @@
 -- The writer of three slices answers and leaves what the writer of the demands does with the list that the slices stand for, so what
 -- is proved of that holds of it. Assumes nothing.
 use mathlib.Core.Path.{_∙_}
-use Rattle.genotype.specs.Row.{rowOf}
+use Rattle.allele.specs.Row.{rowOf}
 use Rattle.spelling.specs.Permitted.{from44}
 use Rattle.spelling.specs.Demands.{SlicesWriter}
 use Rattle.spelling.proofs.WriteLaws.{row-list}

@@ -11,11 +11,11 @@ use lib.Dec.{leb}
 use borrow.Author.Tests.{lt-ltb, le-ltb, eq-eqb, ne-eqb}
 use Rattle.decimal.specs.Shortest.{shortest}
 use Rattle.decimal.proofs.Shortest.{length-20}
-use Rattle.genotype.specs.Means.{markByte, allPhased}
-use Rattle.genotype.specs.declared.allele.Allele.{Allele}
+use Rattle.allele.specs.Means.{markByte, allPhased}
+use Rattle.allele.specs.declared.allele.Allele.{Allele}
 use Rattle.spelling.specs.Spelling.{bodyText, alleleText, listText, bad, empty, shaped, judged, spell}
 use Rattle.spelling.specs.Permitted.{from44}
-use Rattle.genotype.specs.Row.{firstUnsound}
+use Rattle.allele.specs.Row.{firstUnsound}
 
 -- ---- one allele
 

@@ -7,9 +7,9 @@ use mir.Syntax.{w64}
 use mir.Val.{Fits}
 use lib.ListN.{length}
 use borrow.Author.Tests.{lt-ltb, le-ltb, le-leb, lt-leb, eq-eqb, ne-eqb, not-true, not-false}
-use Rattle.genotype.specs.declared.allele.Allele.{Allele}
+use Rattle.allele.specs.declared.allele.Allele.{Allele}
 use Rattle.spelling.specs.Spelling.{bodyText}
-use Rattle.genotype.specs.Row.{isSound}
+use Rattle.allele.specs.Row.{isSound}
 use Rattle.spelling.specs.Inner.{begun, shortened, counted, tallied, shapeOf, planOf}
 use Rattle.spelling.specs.declared.tally.Tally.{Tally}
 use Rattle.spelling.specs.declared.tally.Plan.{Plan}

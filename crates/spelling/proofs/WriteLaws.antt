@@ -14,22 +14,20 @@ use Rattle.text.specs.Over.{over, overAt, laid}
 use Rattle.text.proofs.CopyLaws.{room-fits, room-lacks}
 use Rattle.text.proofs.Lists.{over-nil, rest-all, rest-put, rest-back}
 use Rattle.genotype.specs.Answers as G
-use Rattle.genotype.specs.declared.allele.Allele.{Allele}
+use Rattle.allele.specs.declared.allele.Allele.{Allele}
 use Rattle.genotype.proofs.AnswerLaws.{row-even, row-uneven-nm, row-uneven-np, row-done-nm, row-done-np}
-use Rattle.genotype.specs.Answers.{Parallel}
+use Rattle.allele.specs.Row.{Parallel, rowOf}
 use Rattle.spelling.specs.Spelling.{Spelled, bad, phasing, empty, spell}
 use Rattle.spelling.specs.Permitted.{from44}
 use Rattle.spelling.specs.Inner.{tallyOf, planOf, answerOf, plannedText, WritesList}
-use Rattle.spelling.specs.Write.{Small}
-use Rattle.genotype.specs.Row.{rowOf}
+use Rattle.spelling.specs.Write.{Small, spelledAnswer, textOf, listAnswer, rowAnswer, WritesRow, SmallWhereDone}
 use Rattle.spelling.specs.Paper.{writePaper}
-use Rattle.spelling.specs.Write.{spelledAnswer, textOf, listAnswer, rowAnswer, WritesRow, SmallWhereDone}
 use Rattle.spelling.specs.declared.tally.Tally.{Tally}
 use Rattle.spelling.specs.declared.tally.Plan.{Plan}
 use Rattle.spelling.specs.declared.tally.Plan.the-variants as P
 use Rattle.spelling.specs.declared.write.Write.{Write}
 use Rattle.spelling.specs.declared.write.Write.the-variants as W
-use Rattle.genotype.proofs.RowLaws.{row-length}
+use Rattle.allele.proofs.RowLaws.{row-length}
 use Rattle.spelling.proofs.TextLaws.{text-bare, text-marked, text-empty, text-bad, text-phasing, text-short}
 use Rattle.spelling.proofs.PlanLaws.{Spells, Overflows, Told, plan-told}
 

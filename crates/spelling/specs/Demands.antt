@@ -10,11 +10,10 @@ use Rattle.text.specs.Answer.{Answer, says, numberOf}
 use Rattle.text.specs.Over.{overAt}
 use Rattle.text.specs.Outcome.{Outcome}
 use Rattle.text.specs.First.{FirstOf}
-use Rattle.genotype.specs.Means.{Means, allPhased}
-use Rattle.genotype.specs.Row.{rowOf}
-use Rattle.genotype.specs.Answers.{Parallel}
+use Rattle.allele.specs.Means.{Means, allPhased}
+use Rattle.allele.specs.Row.{rowOf, Parallel}
 use Rattle.genotype.specs.Demands.{AtMost}
-use Rattle.genotype.specs.declared.allele.Allele.{Allele}
+use Rattle.allele.specs.declared.allele.Allele.{Allele}
 use Rattle.spelling.specs.Permitted.{from44, Permitted, TheShortest}
 use Rattle.spelling.specs.Paper.{writePaper}
 use Rattle.spelling.specs.Write.{listAnswer, listLeft, WritesRow}

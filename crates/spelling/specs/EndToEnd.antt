@@ -5,10 +5,10 @@ use mathlib.Core.Path.{_≡_}
 use mathlib.Core.List.{List, [], _∷_}
 use lib.ListN.{length, take, drop}
 use Rattle.text.specs.Answer.{says}
-use Rattle.genotype.specs.Row.{rowOf}
-use Rattle.genotype.specs.Means.{Means}
+use Rattle.allele.specs.Row.{rowOf, Parallel}
+use Rattle.allele.specs.Means.{Means}
 use Rattle.genotype.specs.Paper.{readPaper}
-use Rattle.genotype.specs.Answers.{Parallel, ReadsText}
+use Rattle.genotype.specs.Answers.{ReadsText}
 use Rattle.genotype.specs.declared.read.Read.{Read}
 use Rattle.spelling.specs.Paper.{writePaper}
 use Rattle.spelling.specs.Write.{WritesRow, SmallWhereDone}

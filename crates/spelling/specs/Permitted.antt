@@ -6,8 +6,8 @@ use mathlib.Core.List.{List, [], _∷_, _++_}
 use lib.ListN.{length}
 use lib.Dec.{leb, ltb, eqb}
 use Rattle.decimal.specs.Demands.{Plain}
-use Rattle.genotype.specs.Means.{markByte, allPhased}
-use Rattle.genotype.specs.declared.allele.Allele.{Allele}
+use Rattle.allele.specs.Means.{markByte, allPhased}
+use Rattle.allele.specs.declared.allele.Allele.{Allele}
 
 -- an allele without its mark: `.`, or its number without sign or leading zeros
 pub data Plainly (a : Allele) : List ℕ → Type 0 where

@@ -3,7 +3,7 @@ use Prim.Native.Nat.{ℕ}
 use mathlib.Core.Path.{_≡_}
 use mathlib.Core.List.{List}
 use Rattle.text.specs.Outcome.{OneAnswer, OneOutcome}
-use Rattle.genotype.specs.declared.allele.Allele.{Allele}
+use Rattle.allele.specs.declared.allele.Allele.{Allele}
 use Rattle.spelling.specs.Permitted.{from44}
 use Rattle.spelling.specs.Inner.{begun, tallied, planOf, answerOf, oneText, PutsAt}
 use Rattle.spelling.specs.Write.{WritesRow}

@@ -5,9 +5,9 @@ use mathlib.Core.List.{List, [], _∷_, _++_}
 use mathlib.Core.Option.{Option, some, none}
 use Rattle.text.specs.Pick.{pick}
 use Rattle.decimal.specs.Shortest.{shortest}
-use Rattle.genotype.specs.Means.{markByte, allPhased}
-use Rattle.genotype.specs.Row.{firstUnsound}
-use Rattle.genotype.specs.declared.allele.Allele.{Allele}
+use Rattle.allele.specs.Means.{markByte, allPhased}
+use Rattle.allele.specs.Row.{firstUnsound}
+use Rattle.allele.specs.declared.allele.Allele.{Allele}
 
 -- ---- the text
 

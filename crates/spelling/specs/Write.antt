@@ -8,8 +8,8 @@ use Rattle.text.specs.Answer.{Answer, says, numberOf}
 use Rattle.text.specs.Over.{roomAnswer, laidAt}
 use Rattle.text.specs.Place.{placed}
 use Rattle.genotype.specs.Answers as G
-use Rattle.genotype.specs.Row.{rowOf}
-use Rattle.genotype.specs.declared.allele.Allele.{Allele}
+use Rattle.allele.specs.Row.{rowOf}
+use Rattle.allele.specs.declared.allele.Allele.{Allele}
 use Rattle.spelling.specs.Spelling.{Spelled, text, bad, phasing, empty, spell}
 use Rattle.spelling.specs.Permitted.{from44}
 use Rattle.spelling.specs.Paper.{writePaper}

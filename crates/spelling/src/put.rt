@@ -1,12 +1,12 @@
 // Writing one allele at a place of the output.
 use crate::tally::Plan;
+use allele::allele::Allele;
 use decimal::print::print_decimal;
-use genotype::allele::Allele;
 use text::copy::Written;
 use text::copy::copy;
 ghost use mathlib.Core.Path.{_≡_};
 ghost use Rattle.text.specs.Over.{Writes};
-ghost use Rattle.genotype.specs.Means.{markByte};
+ghost use Rattle.allele.specs.Means.{markByte};
 ghost use Rattle.spelling.specs.Spelling.{bodyText, alleleText};
 ghost use Rattle.spelling.specs.Inner.{PutsAt};
 ghost use Rattle.spelling.specs.Promises.{PutsOne};

@@ -1,13 +1,13 @@
 // What is known of a list of alleles after some of them, so that one pass judges it: alleles come one by one, from slices or
 // from a row of records.
+use allele::allele::Allele;
 use decimal::print::decimal_len;
-use genotype::allele::Allele;
 ghost use mathlib.Core.Path.{_≡_};
 ghost use Prim.Native.Nat.{_-_, _≤_};
 ghost use lib.ListN.{length};
 ghost use Rattle.spelling.specs.Spelling.{bodyText};
 ghost use Rattle.spelling.specs.Permitted.{from44};
-ghost use Rattle.genotype.specs.Row.{isSound};
+ghost use Rattle.allele.specs.Row.{isSound};
 ghost use Rattle.spelling.specs.Inner.{shortened};
 ghost use Rattle.spelling.specs.Promises.{Begins, Adds, Plans};
 

@@ -5,17 +5,16 @@ use crate::tally::Tally;
 use crate::tally::add;
 use crate::tally::begin;
 use crate::tally::plan_for;
-use genotype::allele::Allele;
+use allele::allele::Allele;
 ghost use mathlib.Core.Path.{_≡_};
 ghost use Prim.Native.Nat.{_≤_, _<_};
 ghost use lib.ListN.{length};
-ghost use Rattle.genotype.specs.Answers.{Parallel};
+ghost use Rattle.allele.specs.Row.{Parallel, alleleAt, rowOf};
 ghost use Rattle.text.specs.Over.{over};
 ghost use Rattle.spelling.specs.Permitted.{from44};
 ghost use Rattle.spelling.specs.Inner.{tallyOf, plannedText, WritesList};
 ghost use Rattle.spelling.specs.Promises.{Answers};
 ghost use Rattle.spelling.specs.Write.{Small, WritesRow, SmallWhereDone};
-ghost use Rattle.genotype.specs.Row.{alleleAt, rowOf};
 
 // The answer of the writer.
 pub enum Write {

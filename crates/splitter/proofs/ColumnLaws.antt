@@ -16,7 +16,8 @@ use Rattle.text.proofs.ByteLaws.{empty-is, none-empty, some-empty}
 use Rattle.pieces.specs.Pieces.{split, joined}
 use Rattle.pieces.specs.Demands.{Free}
 use Rattle.pieces.proofs.PieceLaws.{free-head, free-tail, first-free, split-nil, joined-one, joined-more, one-text, more-text, more-rest}
-use Rattle.line.specs.Line.{Ending, lastVerdict, verdict}
+use Rattle.record.specs.Ending.{Ending}
+use Rattle.line.specs.Line.{lastVerdict, verdict}
 use Rattle.line.proofs.ColumnLaws.{verdict-last, verdict-more}
 use Rattle.splitter.specs.Inner.{tabsFrom, firstGap, lastStart}
 

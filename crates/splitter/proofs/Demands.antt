@@ -2,11 +2,11 @@
 use Prim.Native.Nat.{ℕ}
 use mathlib.Core.Path.{_≡_, sym, ap, _∙_, subst, fun-ext}
 use Rattle.text.specs.Answer.{numberOf}
+use Rattle.record.specs.Place.{rangeOf}
+use Rattle.record.specs.declared.place.Record.{Record}
 use Rattle.line.specs.Line.{readAnswer}
-use Rattle.line.specs.Place.{rangeOf}
 use Rattle.line.specs.Paper.{readPaper}
 use Rattle.line.specs.Demands.{Meets, OneReader}
-use Rattle.line.specs.declared.read.Record.{Record}
 use Rattle.line.specs.declared.read.Read.{Read}
 use Rattle.line.specs.declared.read.Read.the-variants as R
 use Rattle.line.proofs.Meets.{meets, one-reader}

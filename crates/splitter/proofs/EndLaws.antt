@@ -4,12 +4,12 @@ use mathlib.Core.Path.{_≡_}
 use mathlib.Core.List.{List}
 use native.Mathlib.Omega.{arith}
 use lib.ListN.{length, getD}
+use Rattle.record.specs.declared.ending.Ending.the-variants as E
 use Rattle.line.specs.Demands.{FirstFeed}
 use Rattle.line.specs.Promises.{FindsLine}
 use Rattle.line.specs.Inner.{none, bare, return}
-use Rattle.line.specs.declared.ending.Ending.the-variants as E
 use Rattle.line.specs.declared.extent.Lined.the-variants as L
-use Rattle.line.proofs.LineLaws.{named-feed, named-return-feed}
+use Rattle.record.proofs.EndingLaws.{named-feed, named-return-feed}
 use Rattle.line.proofs.ReadLaws.{none-more}
 use Rattle.line.proofs.ExtentLaws.{finds-beyond, found-unfed, found-fed}
 

@@ -20,19 +20,22 @@ use Rattle.text.proofs.ByteLaws.{none-empty, some-empty}
 use Rattle.pieces.specs.Pieces.{split, joined}
 use Rattle.pieces.proofs.PieceLaws.{split-some, split-joined, split-count}
 use Rattle.pieces.proofs.CountLaws.{count-most}
-use Rattle.line.specs.Line.{nothing, feed, return-feed, endingBytes, endingNumber, required, lastVerdict, verdict, fieldPlaces, lineAnswer, readAnswer}
-use Rattle.line.specs.Paper.{endingOf}
+use Rattle.record.specs.Ending.{nothing, feed, return-feed, endingBytes, endingNumber}
+use Rattle.record.specs.Paper.{endingOf}
+use Rattle.record.specs.declared.ending.Ending.{Ending as DeclaredEnding}
+use Rattle.record.specs.declared.ending.Ending.the-variants as E
+use Rattle.record.specs.declared.place.Record.{Record}
+use Rattle.line.specs.Line.{required, lastVerdict, verdict, fieldPlaces, lineAnswer, readAnswer}
 use Rattle.line.specs.Demands.{MayEnd}
 use Rattle.line.specs.Promises.{ReadsLine, KeepsNumbers}
-use Rattle.line.specs.declared.ending.Ending.{Ending as DeclaredEnding}
-use Rattle.line.specs.declared.ending.Ending.the-variants as E
-use Rattle.line.specs.declared.read.Record.{Record}
 use Rattle.line.specs.declared.read.Read.the-variants as R
+use Rattle.record.proofs.EndingLaws.{ending-numbered}
+use Rattle.record.proofs.NumberLaws.{record-values}
 use Rattle.line.proofs.ReadLaws.{required-low, required-high}
-use Rattle.line.proofs.LineLaws.{read-line, ending-numbered}
+use Rattle.line.proofs.LineLaws.{read-line}
 use Rattle.line.proofs.ColumnLaws.{line-whole, line-refused, line-fine, last-cut, last-fed, fine-last, fine-order, fine-count}
 use Rattle.line.proofs.AnswerLaws.{keeps-line, keeps-empty, keeps-fed, keeps-cut, keeps-broken}
-use Rattle.line.proofs.CaseLaws.{read-record, read-empty, read-fed, read-cut, read-broken, record-values}
+use Rattle.line.proofs.CaseLaws.{read-record, read-empty, read-fed, read-cut, read-broken}
 use Rattle.line.proofs.Extents.{Found, found}
 use Rattle.splitter.specs.Inner.{Keeps, Seen, HasEnds}
 use Rattle.splitter.specs.declared.split.Tabs.{Tabs}

@@ -10,15 +10,15 @@ use lib.Seq.{ext-getD, getD-take, getD-at, length-take-le}
 use Rattle.text.specs.Range.{rangePlaces}
 use Rattle.pieces.specs.Pieces.{joined}
 use Rattle.pieces.proofs.PieceLaws.{joined-one}
-use Rattle.line.specs.Line.{leadingPlaces, fieldPlaces, numbersOf}
-use Rattle.line.specs.Place.{span, passed}
-use Rattle.line.specs.Paper.{recordPlaces, recordNumbers}
+use Rattle.record.specs.Place.{numbersOf, span, passed}
+use Rattle.record.specs.Paper.{recordPlaces, recordNumbers}
+use Rattle.record.specs.Promises.{MakesRecord}
+use Rattle.record.specs.declared.ending.Ending.{Ending}
+use Rattle.record.specs.declared.place.Record.{Record}
+use Rattle.line.specs.Line.{leadingPlaces, fieldPlaces}
 use Rattle.line.specs.Demands.{MayEnd}
-use Rattle.line.specs.Promises.{MakesRecord}
-use Rattle.line.specs.declared.ending.Ending.{Ending}
-use Rattle.line.specs.declared.read.Record.{Record}
-use Rattle.line.proofs.NumberLaws.{eleven, recordEnds, record-numbers}
-use Rattle.line.proofs.SpanLaws.{span-real, passed-none, passed-one, spans, full-spans, bare-spans, rising, rising-numbers}
+use Rattle.record.proofs.NumberLaws.{eleven, recordEnds, record-numbers}
+use Rattle.record.proofs.SpanLaws.{span-real, passed-none, passed-one, spans, full-spans, bare-spans, rising, rising-numbers}
 use Rattle.line.proofs.TenPlaces.{leading-none, leading-rest, leading-more, eight-fields, ten-fields, places-lie}
 use Rattle.splitter.specs.Inner.{Nine, HasEnds}
 use Rattle.splitter.specs.declared.split.Tabs.{Tabs}

@@ -5,8 +5,8 @@ use mathlib.Core.List.{List}
 use native.Mathlib.Omega.{arith}
 use lib.ListN.{length, take, drop}
 use lib.Seq.{length-take-le}
+use Rattle.record.specs.declared.ending.Ending.{Ending}
 use Rattle.line.specs.Promises.{FindsLine, ReadsLine}
-use Rattle.line.specs.declared.ending.Ending.{Ending}
 use Rattle.line.specs.declared.extent.Lined.{Lined}
 use Rattle.line.specs.declared.extent.Lined.the-variants as L
 use Rattle.line.specs.declared.read.Read.the-variants as R

@@ -3,14 +3,14 @@ use Prim.Native.Nat.{ℕ}
 use mathlib.Core.Path.{_≡_}
 use mathlib.Core.List.{List}
 use Rattle.text.specs.Answer.{numberOf}
-use Rattle.line.specs.Place.{rangeOf}
+use Rattle.record.specs.Place.{rangeOf}
+use Rattle.record.specs.declared.place.Record.{Record}
+use Rattle.record.specs.declared.place.Name.{Name}
 use Rattle.line.specs.Paper.{readPaper}
 use Rattle.line.specs.Promises.{ReadsLine, KeepsNumbers}
 use Rattle.line.specs.Demands.{Reader, Meets}
-use Rattle.line.specs.declared.read.Record.{Record}
 use Rattle.line.specs.declared.read.Read.{Read}
 use Rattle.line.specs.declared.read.Read.the-variants as R
-use Rattle.line.specs.declared.place.Name.{Name}
 
 -- a function of an input and a place whose answers are of the line reader's type
 abbrev pub Splitter : Type 0

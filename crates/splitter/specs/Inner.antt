@@ -5,11 +5,11 @@ use mathlib.Core.List.{List, [], _∷_, _++_}
 use lib.ListN.{length, getD, take, drop}
 use lib.Dec.{eqb}
 use Rattle.text.specs.Pick.{pick}
-use Rattle.line.specs.Paper.{recordNumbers}
+use Rattle.record.specs.Paper.{recordNumbers}
+use Rattle.record.specs.declared.ending.Ending.{Ending}
+use Rattle.record.specs.declared.place.Record.{Record}
 use Rattle.line.specs.Promises.{FindsLine}
-use Rattle.line.specs.declared.ending.Ending.{Ending}
 use Rattle.line.specs.declared.extent.Lined.the-variants as L
-use Rattle.line.specs.declared.read.Record.{Record}
 use Rattle.splitter.specs.declared.split.Tabs.{Tabs}
 
 -- ---- the tabs of a line

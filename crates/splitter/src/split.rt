@@ -4,11 +4,11 @@
 //
 // A line is columns with one tab between each two: CHROM, POS, ID, REF, ALT, QUAL, FILTER, INFO, and then, if there are samples,
 // FORMAT and a column for each sample. It ends in LF, in CR LF, or where the input ends.
-use line::ending::Ending;
 use line::extent::Lined;
-use line::place::make_record;
 use line::read::Read;
-use line::read::Record;
+use record::ending::Ending;
+use record::place::Record;
+use record::place::make_record;
 use text::utf8::Utf8;
 use text::utf8::check_utf8;
 ghost use mathlib.Core.Path.{_≡_};

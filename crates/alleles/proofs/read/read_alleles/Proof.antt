@@ -39,7 +39,7 @@ use denote.Triple.Walked.{says, Stays, gave-slice, stay-none-slice, walkOf, goes
 use denote.Exit.{yes}
 use Rattle.genotype.specs.Answers.{textAnswer}
 use Rattle.genotype.specs.Paper.{readPaper}
-use Rattle.genotype.specs.declared.allele.Allele.{Allele}
+use Rattle.allele.specs.declared.allele.Allele.{Allele}
 use Rattle.genotype.specs.declared.read.Read.{Read}
 use Rattle.genotype.proofs.read.Read as N
 use Rattle.genotype.proofs.read.Read.Laws as N′

@@ -48,9 +48,9 @@ use denote.Triple.Table.{entered, cited}
 use denote.Triple.Walked.{says, Stays, stay-slice, stay-dropped, walkOf, goes-slice, goes-dropped, Walks, ends-at, walked, walk-meets}
 use denote.Exit.{yes}
 use borrow.Author.Needs.{scaled-fits}
-use Rattle.genotype.specs.declared.allele.Allele.{Allele}
-use Rattle.genotype.proofs.allele.Allele as T
-use Rattle.genotype.proofs.allele.Allele.Laws as T′
+use Rattle.allele.specs.declared.allele.Allele.{Allele}
+use Rattle.allele.proofs.allele.Allele as T
+use Rattle.allele.proofs.allele.Allele.Laws as T′
 use Rattle.spelling.specs.Promises.{PutsOne}
 use Rattle.spelling.specs.declared.tally.Plan.{Plan}
 use Rattle.spelling.proofs.tally.Plan as P

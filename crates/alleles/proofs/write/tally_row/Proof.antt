@@ -45,9 +45,9 @@ use denote.Triple.Table.{entered, cited}
 use denote.Triple.Walked.{says, Stays, stay-dropped, walkOf, goes-dropped, Walks, ends-at, walked, walk-meets}
 use denote.Exit.{yes}
 use borrow.Author.Needs.{scaled-fits}
-use Rattle.genotype.specs.declared.allele.Allele.{Allele}
-use Rattle.genotype.proofs.allele.Allele as T
-use Rattle.genotype.proofs.allele.Allele.Laws as T′
+use Rattle.allele.specs.declared.allele.Allele.{Allele}
+use Rattle.allele.proofs.allele.Allele as T
+use Rattle.allele.proofs.allele.Allele.Laws as T′
 use Rattle.spelling.specs.Inner.{begun, tallied, tallyOf}
 use Rattle.spelling.specs.declared.tally.Tally.{Tally}
 use Rattle.spelling.proofs.tally.Tally as TT

@@ -1,6 +1,6 @@
 -- Each arm tells what its answer says on paper. Assumes nothing.
 use borrow.Author.Needs.{needs}
-use Rattle.genotype.proofs.CaseLaws.{cases}
+use Rattle.allele.proofs.CaseLaws.{cases}
 use Rattle.exports.proofs.KnownLaws.{allele-known}
 use Rattle.exports.proofs.ToldLaws.{arms}
 use Rattle.exports.proofs.genotypes.tell_step.Statement.{statement}

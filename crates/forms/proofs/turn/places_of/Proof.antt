@@ -1,5 +1,5 @@
 -- `forms::turn::places_of` meets its contract: the ten places one by one. Assumes nothing.
-use Rattle.line.proofs.SpanLaws.{places-told}
+use Rattle.record.proofs.SpanLaws.{places-told}
 use borrow.Author.Needs.{needs}
 use Rattle.forms.proofs.turn.places_of.Statement.{statement}
 use Rattle.forms.proofs.turn.places_of.Tie as tie

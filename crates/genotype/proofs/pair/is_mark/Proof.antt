@@ -1,6 +1,6 @@
 -- `genotype::pair::is_mark` meets its contract, by its definition. Assumes nothing.
 use borrow.Author.Needs.{needs}
-use Rattle.genotype.specs.Reading.{isMark}
+use Rattle.allele.specs.Reading.{isMark}
 use Rattle.genotype.proofs.pair.is_mark.Statement.{statement}
 use Rattle.genotype.proofs.pair.is_mark.Tie as tie
 

@@ -2,8 +2,8 @@
 use Prim.Native.Nat.{_-_}
 use borrow.Author.Needs.{needs}
 use lib.ListN.{length}
-use Rattle.line.specs.Paper.{endingOf}
-use Rattle.pieces.proofs.PlaceLaws.{entry-shown}
+use Rattle.record.specs.Paper.{endingOf}
+use Rattle.entries.proofs.PlaceLaws.{entry-shown}
 use Rattle.join.proofs.JoinLaws.{Judging, laws}
 use Rattle.join.proofs.columns.judge_columns.Statement.{statement}
 use Rattle.join.proofs.columns.judge_columns.Tie as tie

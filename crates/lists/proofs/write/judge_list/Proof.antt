@@ -2,7 +2,7 @@
 use Prim.Native.Nat.{_-_}
 use borrow.Author.Needs.{needs}
 use lib.ListN.{length}
-use Rattle.pieces.proofs.PlaceLaws.{entry-shown}
+use Rattle.entries.proofs.PlaceLaws.{entry-shown}
 use Rattle.lists.proofs.WriteLaws.{Judging, laws}
 use Rattle.lists.proofs.write.judge_list.Statement.{statement}
 use Rattle.lists.proofs.write.judge_list.Tie as tie

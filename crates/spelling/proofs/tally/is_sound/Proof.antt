@@ -1,6 +1,6 @@
 -- `spelling::tally::is_sound` meets its contract: by whether the allele is missing. Assumes nothing.
 use borrow.Author.Needs.{needs}
-use Rattle.genotype.proofs.RowLaws.{sound-missing, sound-there}
+use Rattle.allele.proofs.RowLaws.{sound-missing, sound-there}
 use Rattle.spelling.proofs.tally.is_sound.Statement.{statement}
 use Rattle.spelling.proofs.tally.is_sound.Tie as tie
 

@@ -1,6 +1,6 @@
 -- `spelling::write::allele_at` meets its contract: the record is the definition. Assumes nothing.
 use borrow.Author.Needs.{needs}
-use Rattle.genotype.proofs.RowLaws.{at-is}
+use Rattle.allele.proofs.RowLaws.{at-is}
 use Rattle.spelling.proofs.write.allele_at.Statement.{statement}
 use Rattle.spelling.proofs.write.allele_at.Tie as tie
 

@@ -2,7 +2,7 @@
 use Prim.Native.Nat.{_-_}
 use lib.ListN.{length}
 use borrow.Author.Needs.{needs}
-use Rattle.genotype.specs.Row.{rowOf}
+use Rattle.allele.specs.Row.{rowOf}
 use Rattle.spelling.proofs.LayLaws.{Laying, laws}
 use Rattle.spelling.proofs.write.put_row.Statement.{statement}
 use Rattle.spelling.proofs.write.put_row.Tie as tie

@@ -4,7 +4,7 @@ use Prim.Native.Nat.{_-_}
 use native.Mathlib.Omega.{arith}
 use lib.ListN.{length}
 use borrow.Author.Needs.{needs}
-use Rattle.genotype.specs.Row.{rowOf}
+use Rattle.allele.specs.Row.{rowOf}
 use Rattle.spelling.proofs.RowLaws.{Tallying, laws}
 use Rattle.spelling.proofs.write.tally_row.Statement.{statement}
 use Rattle.spelling.proofs.write.tally_row.Tie as tie

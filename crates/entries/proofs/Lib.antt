@@ -1,0 +1,5 @@
+pub mod PaperLaws
+pub mod EntryLaws
+pub mod PlaceLaws
+pub mod JoinedLaws
+pub mod Determined

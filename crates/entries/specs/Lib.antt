@@ -1,0 +1,4 @@
+pub mod Paper
+pub mod Entries
+pub mod Promises
+pub mod Inner

@@ -1,0 +1,27 @@
+-- `record::ending::ending_size` meets its contract: one law for each ending. Assumes nothing.
+use Rattle.record.proofs.EndingLaws.{laws}
+use borrow.Author.Needs.{needs}
+use Rattle.record.proofs.ending.ending_size.Statement.{statement}
+use Rattle.record.proofs.ending.ending_size.Tie as tie
+
+enum-told : tie.Need-enum-told
+enum-told c = search (needs, laws)
+
+enum-told-2 : tie.Need-enum-told-2
+enum-told-2 c = search (needs, laws)
+
+enum-told-3 : tie.Need-enum-told-3
+enum-told-3 c = search (needs, laws)
+
+returns : tie.Need-returns
+returns c = search (needs, laws)
+
+returns-2 : tie.Need-returns-2
+returns-2 c = search (needs, laws)
+
+returns-3 : tie.Need-returns-3
+returns-3 c = search (needs, laws)
+
+pub ending-size-spec : {M : Type 1} → statement M
+ending-size-spec =
+    tie.close (tie.spec enum-told enum-told-2 enum-told-3 returns returns-2 returns-3)

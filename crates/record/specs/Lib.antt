@@ -1,0 +1,5 @@
+pub mod Ending
+pub mod Place
+pub mod Paper
+pub mod Promises
+pub mod Demands
