@@ -1,4 +1,4 @@
-// The verbs of the crate alleles, by rows of 64 records of which a case uses the last.
+// The verbs of rows of allele records, by the crate own: 64 records, of which a case uses the last.
 use crate::genotypes;
 use crate::genotypes::ROW;
 use crate::genotypes::then_record;
