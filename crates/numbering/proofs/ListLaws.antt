@@ -1,0 +1,258 @@
+-- All genotypes in a row: the blocks of each allele, one after the other. Assumes nothing.
+use Prim.Native.Nat.{ℕ, zero, suc, _+_, _-_, _*_, _^_, _<_, _≤_, zero-le}
+use mathlib.Core.Path.{_≡_, refl, sym, ap, _∙_, subst}
+use mathlib.Core.Bool.{Bool, true, false}
+use mathlib.Core.List.{List, [], _∷_, _++_, append-assoc, append-nil, flatten}
+use native.Mathlib.Omega.{arith}
+use native.Mathlib.Numerals.{add-one}
+use native.Mathlib.Nat.{le-refl, suc-mul, zero-mul, mul-le-mul-left}
+use lib.ListN.{length, getD, take, drop, set, length-set, length-append, drop-of-length-le}
+use lib.Seq.{length-take-le, sets, sets-eq, drop-cons, drop-drop, drop-set-lt, getD-set-same}
+use lib.Dec.{leb}
+use borrow.Author.Tests.{le-leb, lt-leb}
+use Rattle.text.specs.Over.{over, overAt}
+use Rattle.text.proofs.Lists.{here, overAt-nil, overAt-append, length-overAt}
+use Rattle.numbering.specs.Ordering.{followed, ordering}
+use Rattle.numbering.specs.Closed.{howMany}
+use Rattle.numbering.specs.Answers.{limits, listAnswer}
+use Rattle.numbering.specs.Promises.{ListsAll}
+use Rattle.numbering.specs.Inner.{spread, block, Room, Listed}
+use Rattle.numbering.specs.Paper.{filledPaper}
+use Rattle.numbering.specs.declared.genotype.Filled.the-variants as F
+use Rattle.numbering.proofs.OrderLaws.{length-ordering, listed, rises-ploidy}
+use Rattle.numbering.proofs.Demands.{added-to}
+use Rattle.numbering.proofs.CountLaws.{count-small}
+use Rattle.numbering.proofs.LimitLaws.{limited, limited-few, limited-alleles}
+
+-- ---- one genotype
+
+pub record Copying (cur row₀ row : List ℕ) (at i : ℕ) : Type 0 where
+  pub within : i ≤ length cur
+  pub long : length row ≡ length row₀
+  pub same : sets row (at + i) (drop i cur) ≡ sets row₀ at cur
+
+pub copy-first : {cur row : List ℕ} {at : ℕ} → Copying cur row row at 0
+copy-first {cur} {row} {at} = let e : at + 0 ≡ at = omega arith in record { within = zero-le; long = refl; same = rw e }
+
+module _ {cur row₀ row : List ℕ} {at i : ℕ} (g : Copying cur row₀ row at i) (room : at + length cur ≤ length row₀) where
+  pub copy-room : i < length cur → at + i < length row
+  copy-room h = let l = g .long in omega arith
+
+  pub copy-turn : i < length cur → Copying cur row₀ (set row (at + i) (getD cur i 0)) at (i + 1)
+  copy-turn h =
+      let e : at + (i + 1) ≡ suc (at + i) = omega arith in
+      record { within = omega arith; long = simp length-set (g .long); same = rw e (rw (here cur i h) at (g .same)) }
+
+  pub copy-end : length cur ≤ i → at + i ≡ at + length cur
+  copy-end h = let w = g .within in omega arith
+
+  pub copy-past : length cur ≤ i → row ≡ overAt at cur row₀
+  unfolding overAt over
+  copy-past h = rw (drop-of-length-le cur h) at (g .same) ∙ sets-eq cur row₀ at room ∙ rw (drop-drop (length cur) at row₀) (append-assoc (take at row₀) cur _)
+
+-- ---- blocks
+
+spread-append : (s : List ℕ) (xs ys : List (List ℕ)) → spread s (xs ++ ys) ≡ spread s xs ++ spread s ys
+unfolding spread
+spread-append s [] ys = refl
+spread-append s (g ∷ xs) ys = ap (λ (l : List ℕ). (g ++ s) ++ l) (spread-append s xs ys) ∙ sym (append-assoc (g ++ s) (spread s xs) (spread s ys))
+
+spread-followed : (s : List ℕ) (a : ℕ) (gs : List (List ℕ)) → spread s (followed a gs) ≡ spread (a ∷ s) gs
+unfolding spread followed
+spread-followed s a [] = refl
+spread-followed s a (g ∷ gs) = rw (append-assoc g (a ∷ []) s) (ap (λ (l : List ℕ). (g ++ (a ∷ s)) ++ l) (spread-followed s a gs))
+
+spread-flatten : (gs : List (List ℕ)) → spread [] gs ≡ flatten gs
+unfolding spread flatten
+spread-flatten [] = refl
+spread-flatten (g ∷ gs) = rw append-nil (ap (λ (l : List ℕ). g ++ l) (spread-flatten gs))
+
+-- no allele
+block-none : (p : ℕ) (cur : List ℕ) → (p ≡ 0 → ⊥) → block p 0 cur ≡ []
+unfolding block spread ordering
+block-none zero cur z = absurd (z refl)
+block-none (suc p) cur z = refl
+
+-- one allele more
+block-more : (p a : ℕ) (s : List ℕ) → spread s (ordering (suc p) (a + 1)) ≡ spread s (ordering (suc p) a) ++ spread (a ∷ s) (ordering p (a + 1))
+unfolding ordering
+block-more p a s = rw add-one (spread-append s (ordering (suc p) a) (followed a (ordering p (suc a))) ∙ ap (λ (l : List ℕ). spread s (ordering (suc p) a) ++ l) (spread-followed s a (ordering p (suc a))))
+
+-- the last allele stored in front of those behind it
+stored : (q a : ℕ) (cur : List ℕ) → q < length cur → drop q (set cur q a) ≡ a ∷ drop (q + 1) cur
+stored q a cur h =
+    let z : q < length (set cur q a) = simp length-set h in
+    drop-cons (set cur q a) q 0 z ∙ rw (getD-set-same cur q a 0 h, drop-set-lt (suc q) cur q a (le-refl _), add-one) refl
+
+behind : (q a : ℕ) (cur s : List ℕ) → drop q cur ≡ a ∷ s → drop (q + 1) cur ≡ s
+behind q a cur s e = sym (drop-drop 1 q cur) ∙ ap (drop 1) e
+
+module _ (p a : ℕ) (cur₀ cur : List ℕ) (z : p ≡ 0 → ⊥) (h : p ≤ length cur) (e : drop p cur ≡ drop p cur₀) where
+  up : p - 1 + 1 ≡ p
+  up = omega arith
+
+  stored-at : drop (p - 1) (set cur (p - 1) a) ≡ a ∷ drop p cur₀
+  stored-at = stored (p - 1) a cur (omega arith) ∙ rw up (ap (λ (l : List ℕ). a ∷ l) e)
+
+  block-next : block p (a + 1) cur₀ ≡ block p a cur₀ ++ block (p - 1) (a + 1) (set cur (p - 1) a)
+  unfolding block
+  block-next = rw stored-at (by p z)
+    where
+      by : (p : ℕ) → (p ≡ 0 → ⊥) → spread (drop p cur₀) (ordering p (a + 1)) ≡ spread (drop p cur₀) (ordering p a) ++ spread (a ∷ drop p cur₀) (ordering (p - 1) (a + 1))
+      by zero z = absurd (z refl)
+      by (suc q) z = let f : suc q - 1 ≡ q = omega arith in rw f (block-more q a (drop (suc q) cur₀))
+
+-- more alleles take more room
+block-longer : (p m n : ℕ) (cur : List ℕ) → m ≤ n → length (block p m cur) ≤ length (block p n cur)
+unfolding block
+block-longer p m n cur h =
+    let r = added-to p m n h in
+    let e : spread (drop p cur) (ordering p n) ≡ spread (drop p cur) (ordering p m) ++ spread (drop p cur) (r .0) = ap (spread (drop p cur)) (r .1) ∙ spread-append (drop p cur) (ordering p m) (r .0) in
+    rw (e, length-append) (omega arith)
+
+-- ---- the recursion
+
+-- the blocks of the alleles below a are written
+pub record Going (p n : ℕ) (cur₀ row₀ : List ℕ) (at a : ℕ) (cur row : List ℕ) (next : ℕ) : Type 0 where
+  pub within : a ≤ n
+  pub done : Listed p a cur₀ row₀ at next cur row
+
+pub go-first : {p n : ℕ} {cur row : List ℕ} {at : ℕ} → (p ≡ 0 → ⊥) → Going p n cur row at 0 cur row at
+go-first {p} {n} {cur} {row} {at} z =
+    let e = block-none p cur z in
+    record {
+      within = zero-le;
+      done = record { next = rw e (omega arith); rest = refl; size = refl; long = refl; rows = rw e (sym (overAt-nil at row)) };
+    }
+
+module _ {p n : ℕ} {cur₀ row₀ : List ℕ} {at a : ℕ} {cur row : List ℕ} {next : ℕ} (g : Going p n cur₀ row₀ at a cur row next) (z : p ≡ 0 → ⊥) (o : Room p n cur₀ row₀ at) where
+  pub go-store : p - 1 < length cur
+  go-store = let s = g .done .size in let w = o .ploidy in omega arith
+
+  private-next : block p (a + 1) cur₀ ≡ block p a cur₀ ++ block (p - 1) (a + 1) (set cur (p - 1) a)
+  private-next = let s = g .done .size in let w = o .ploidy in block-next p a cur₀ cur z (omega arith) (g .done .rest)
+
+  go-fits : a < n → at + length (block p a cur₀) + length (block (p - 1) (a + 1) (set cur (p - 1) a)) ≤ length row₀
+  go-fits h =
+      let l = block-longer p (a + 1) n cur₀ (omega arith) in
+      let e = ap length private-next ∙ length-append (block p a cur₀) (block (p - 1) (a + 1) (set cur (p - 1) a)) in
+      let w = o .room in
+      omega arith
+
+  pub go-room : a < n → Room (p - 1) (a + 1) (set cur (p - 1) a) row next
+  go-room h =
+      let s = go-store in
+      let f = go-fits h in
+      let l = g .done .long in
+      let x = g .done .next in
+      record { ploidy = simp length-set (omega arith); room = omega arith }
+
+  pub go-turn : {r : ℕ} {cur′ row′ : List ℕ} → a < n → Listed (p - 1) (a + 1) (set cur (p - 1) a) row next r cur′ row′ → Going p n cur₀ row₀ at (a + 1) cur′ row′ r
+  go-turn {r} {cur′} {row′} h d =
+      let e = ap length private-next ∙ length-append (block p a cur₀) (block (p - 1) (a + 1) (set cur (p - 1) a)) in
+      let f = go-fits h in
+      let x = g .done .next in
+      let y = d .next in
+      let s = g .done .size in
+      let w = o .ploidy in
+      let u : p - 1 + 1 ≡ p = omega arith in
+      let k : drop (p - 1) cur′ ≡ a ∷ drop p cur₀ = d .rest ∙ stored-at p a cur₀ cur z (omega arith) (g .done .rest) in
+      record {
+        within = omega arith;
+        done = record {
+          next = omega arith;
+          rest = rw u at (behind (p - 1) a cur′ (drop p cur₀) k);
+          size = d .size ∙ simp length-set s;
+          long = d .long ∙ g .done .long;
+          rows =
+              d .rows
+              ∙ ap (λ (l : List ℕ). overAt next (block (p - 1) (a + 1) (set cur (p - 1) a)) l) (g .done .rows)
+              ∙ ap (λ (k : ℕ). overAt k (block (p - 1) (a + 1) (set cur (p - 1) a)) (overAt at (block p a cur₀) row₀)) x
+              ∙ sym (overAt-append at (block p a cur₀) (block (p - 1) (a + 1) (set cur (p - 1) a)) row₀ (omega arith))
+              ∙ ap (λ (l : List ℕ). overAt at l row₀) (sym private-next);
+        };
+      }
+
+  pub go-past : n ≤ a → Listed p n cur₀ row₀ at next cur row
+  go-past h = let w = g .within in let e : a ≡ n = omega arith in subst (λ (k : ℕ). Listed p k cur₀ row₀ at next cur row) e (g .done)
+
+  pub go-size : length cur ≡ length cur₀
+  go-size = g .done .size
+
+  pub go-long : length row ≡ length row₀
+  go-long = g .done .long
+
+-- no allele is left: one genotype
+block-one : (p n : ℕ) (cur : List ℕ) → p ≡ 0 → block p n cur ≡ cur
+unfolding block spread ordering
+block-one zero n cur e = append-nil cur
+block-one (suc p) n cur e = absurd (omega arith)
+
+module _ {p n : ℕ} {cur row : List ℕ} {at : ℕ} (o : Room p n cur row at) (e : p ≡ 0) where
+  pub one-room : at + length cur ≤ length row
+  one-room = let w = o .room in let f = ap length (block-one p n cur e) in omega arith
+
+  pub one-listed : {r : ℕ} {row′ : List ℕ} → r ≡ at + length cur → row′ ≡ overAt at cur row → Listed p n cur row at r cur row′
+  one-listed x y = let f = block-one p n cur e in let w = one-room in record { next = rw f x; rest = refl; size = refl; long = rw y (length-overAt at cur row w); rows = rw f y }
+
+-- ---- the answer
+
+-- a list of genotypes of one ploidy
+length-spread : (p : ℕ) (gs : List (List ℕ)) → ((i : ℕ) → i < length gs → length (getD gs i []) ≡ p) → length (flatten gs) ≡ length gs * p
+unfolding flatten
+length-spread p [] h = sym (zero-mul p)
+length-spread p (g ∷ gs) h =
+    let x = h 0 (omega arith) in
+    let y = length-spread p gs (λ i l. h (suc i) (omega arith)) in
+    let z = suc-mul (length gs) p in
+    length-append g (flatten gs) ∙ omega arith
+
+pub length-all : (p n : ℕ) → length (flatten (ordering p n)) ≡ howMany p n * p
+length-all p n = length-spread p (ordering p n) (λ i l. rises-ploidy (listed p n i l)) ∙ ap (λ (c : ℕ). c * p) (length-ordering p n)
+
+product-small : (c p : ℕ) → c < 645753531245762 → p ≤ 8 → c * p < 2 ^ 64
+product-small c p h l = let m = mul-le-mul-left c l in omega arith
+
+block-all : (p n : ℕ) (x : List ℕ) → p ≤ length x → block p n (take p x) ≡ flatten (ordering p n)
+unfolding block
+block-all p n x h = rw (drop-of-length-le (take p x) {i = p} (let l = length-take-le p x h in omega arith)) (spread-flatten (ordering p n))
+
+pub scratch-length : (p : ℕ) (x : List ℕ) → p ≤ length x → p ≡ length (take p x)
+scratch-length p x h = sym (length-take-le p x h)
+
+module _ (p n : ℕ) {r : Bool} (e : r ≡ limits p n) where
+  pub list-limits : (l : List ℕ) → r ≡ false → ListsAll p n l F.Wrong l
+  unfolding filledPaper listAnswer
+  list-limits l t = let f : limits p n ≡ false = sym e ∙ t in record { answer = rw f; row = rw f }
+
+  module _ {c : ℕ} (t : r ≡ true) (d : c ≡ howMany p n) where
+    yes-limits : limits p n ≡ true
+    yes-limits = sym e ∙ t
+
+    pub list-product : c * p < 2 ^ 64
+    list-product = let m = limited e t in product-small c p (let b = count-small p n (m .few) (m .alleles) in omega arith) (m .few)
+
+    product : c * p ≡ howMany p n * p
+    product = ap (λ (k : ℕ). k * p) d
+
+    module _ (l : List ℕ) where
+      pub list-short : length l < c * p → ListsAll p n l F.Short l
+      unfolding filledPaper listAnswer
+      list-short h = let m = product in let f : leb (howMany p n * p) (length l) ≡ false = lt-leb (howMany p n * p) (length l) (omega arith) in record { answer = rw (yes-limits, f); row = rw (yes-limits, f) }
+
+      module _ (h : c * p ≤ length l) (x : List ℕ) (w : p ≤ length x) where
+        pub list-room : Room p n (take p x) l 0
+        list-room =
+            let m = product in
+            let k = length-take-le p x w in
+            let b = ap length (block-all p n x w) ∙ length-all p n in
+            record { ploidy = omega arith; room = omega arith }
+
+        pub list-done : {v : ℕ} {x′ l′ : List ℕ} → Listed p n (take p x) l 0 v x′ l′ → ListsAll p n l (F.Done c) l′
+        unfolding filledPaper listAnswer overAt
+        list-done g =
+            let m = product in
+            let f : leb (howMany p n * p) (length l) ≡ true = le-leb (howMany p n * p) (length l) (omega arith) in
+            record { answer = rw (yes-limits, f, d); row = rw (yes-limits, f) (g .rows ∙ rw (block-all p n x w)) }
+
+pub ruleset laws = (copy-first, copy-room, copy-turn, copy-end, copy-past, go-first, go-store, go-room, go-turn, go-past, one-room, one-listed, scratch-length, list-limits, list-product, list-short, list-room, list-done, limited-few, limited-alleles)

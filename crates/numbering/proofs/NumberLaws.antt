@@ -1,0 +1,166 @@
+-- The number of a genotype: its alleles judged, and their counts added up. Assumes nothing.
+use Prim.Native.Nat.{ℕ, zero, suc, _+_, _-_, _^_, _<_, _≤_, zero-le}
+use mathlib.Core.Path.{_≡_, refl, sym, ap, _∙_}
+use mathlib.Core.Bool.{Bool, true, false, _&&_, and-false, and-eq-true-iff}
+use mathlib.Core.Logic.{_↔_}
+use mathlib.Core.List.{List, [], _∷_}
+use native.Mathlib.Omega.{arith}
+use lib.ListN.{length, getD, take, drop, drop-of-length-le}
+use lib.Seq.{take-suc, length-take-le, getD-take, take-all}
+use lib.Dec.{leb, ltb}
+use borrow.Author.Tests.{le-leb, lt-leb, leb-true, lt-ltb, le-ltb, ltb-true}
+use Rattle.text.proofs.Lists.{here}
+use Rattle.numbering.specs.Closed.{howMany, closedSum}
+use Rattle.numbering.specs.Demands.{Genotype}
+use Rattle.numbering.specs.Answers.{limits, numberAnswer}
+use Rattle.numbering.specs.Inner.{rising}
+use Rattle.numbering.specs.Paper.{numberPaper}
+use Rattle.numbering.specs.declared.counts.Numbered.the-variants as N
+use Rattle.numbering.proofs.OrderLaws.{genotype-stands, number-none, number-snoc}
+use Rattle.numbering.proofs.CountLaws.{count-small}
+use Rattle.numbering.proofs.LimitLaws.{limited}
+
+-- ---- the judge
+
+-- the alleles from i on rise from low on, where all do from 0 on
+pub record Judging (n : ℕ) (g : List ℕ) (low i : ℕ) : Type 0 where
+  pub within : i ≤ length g
+  pub same : rising low n (drop i g) ≡ rising 0 n g
+
+pub judge-first : {n : ℕ} {g : List ℕ} → Judging n g 0 0
+judge-first = record { within = zero-le; same = refl }
+
+module _ {n : ℕ} {g : List ℕ} {low i : ℕ} (j : Judging n g low i) where
+  module _ (h : i < length g) where
+    judge-here : rising low n (getD g i 0 ∷ drop (i + 1) g) ≡ rising 0 n g
+    judge-here = rw (here g i h) at (j .same)
+
+    pub judge-falls : getD g i 0 < low → false ≡ rising 0 n g
+    unfolding rising
+    judge-falls l = rw (← judge-here, lt-leb _ _ l)
+
+    pub judge-high : n ≤ getD g i 0 → false ≡ rising 0 n g
+    unfolding rising
+    judge-high l = rw (← judge-here, le-ltb _ _ l, and-false)
+
+    pub judge-turn : low ≤ getD g i 0 → getD g i 0 < n → Judging n g (getD g i 0) (i + 1)
+    unfolding rising
+    judge-turn l w = record { within = omega arith; same = rw (le-leb _ _ l, lt-ltb _ _ w) at judge-here }
+
+  pub judge-past : length g ≤ i → true ≡ rising 0 n g
+  unfolding rising
+  judge-past h = rw (drop-of-length-le g h) at (j .same)
+
+-- ---- the test says what a genotype is
+
+record Up (low n : ℕ) (g : List ℕ) : Type 0 where
+  floor : (i : ℕ) → i < length g → low ≤ getD g i 0
+  below : (i : ℕ) → i < length g → getD g i 0 < n
+  order : (i : ℕ) → suc i < length g → getD g i 0 ≤ getD g (suc i) 0
+
+up-cons : {low n k : ℕ} {g : List ℕ} → low ≤ k → k < n → Up k n g → Up low n (k ∷ g)
+up-cons {low} {n} {k} {g} l h u = record { floor = floor′; below = below′; order = order′ }
+  where
+    floor′ : (i : ℕ) → i < suc (length g) → low ≤ getD (k ∷ g) i 0
+    floor′ zero w = l
+    floor′ (suc i) w = let z = u .floor i (omega arith) in omega arith
+
+    below′ : (i : ℕ) → i < suc (length g) → getD (k ∷ g) i 0 < n
+    below′ zero w = h
+    below′ (suc i) w = u .below i (omega arith)
+
+    order′ : (i : ℕ) → suc i < suc (length g) → getD (k ∷ g) i 0 ≤ getD g i 0
+    order′ zero w = u .floor 0 (omega arith)
+    order′ (suc i) w = u .order i (omega arith)
+
+rising-up : (low n : ℕ) (g : List ℕ) → rising low n g ≡ true → Up low n g
+unfolding rising
+rising-up low n [] r = record { floor = λ i h. absurd (omega arith); below = λ i h. absurd (omega arith); order = λ i h. absurd (omega arith) }
+rising-up low n (k ∷ g) r =
+    let a = and-eq-true-iff (leb low k) (ltb k n && rising k n g) .0 r in
+    let b = and-eq-true-iff (ltb k n) (rising k n g) .0 (a .1) in
+    up-cons (leb-true _ _ (a .0)) (ltb-true _ _ (b .0)) (rising-up k n g (b .1))
+
+up-rising : (low n : ℕ) (g : List ℕ) → Up low n g → rising low n g ≡ true
+unfolding rising
+up-rising low n [] u = refl
+up-rising low n (k ∷ g) u =
+    let r = up-rising k n g (record { floor = low-of; below = λ i h. u .below (suc i) (omega arith); order = λ i h. u .order (suc i) (omega arith) }) in
+    rw (le-leb low k (u .floor 0 (omega arith)), lt-ltb k n (u .below 0 (omega arith))) r
+  where
+    low-of : (i : ℕ) → i < length g → k ≤ getD g i 0
+    low-of zero h = u .order 0 (omega arith)
+    low-of (suc i) h = let x = low-of i (omega arith) in let y = u .order (suc i) (omega arith) in omega arith
+
+pub rising-is : (n : ℕ) (g : List ℕ) → (rising 0 n g ≡ true) ↔ Genotype (length g) n g
+rising-is n g = (
+  (λ r. let u = rising-up 0 n g r in record { ploidy = refl; below = u .below; order = u .order }),
+  (λ f. up-rising 0 n g (record { floor = λ i h. zero-le; below = f .below; order = f .order })),
+)
+
+-- ---- the sum
+
+-- fewer alleles, from the first on
+genotype-take : {p n : ℕ} (q : ℕ) (g : List ℕ) → q ≤ length g → Genotype p n g → Genotype q n (take q g)
+genotype-take q g h f =
+    let l = length-take-le q g h in
+    record {
+      ploidy = l;
+      below = λ i w. rw (getD-take q g i 0 (omega arith)) (f .below i (omega arith));
+      order = λ i w. rw (getD-take q g i 0 (omega arith), getD-take q g (suc i) 0 (omega arith)) (f .order i (omega arith));
+    }
+
+number-take : (p : ℕ) (g : List ℕ) → 0 < p → p ≤ length g → closedSum (take p g) ≡ closedSum (take (p - 1) g) + howMany p (getD g (p - 1) 0)
+number-take zero g z h = absurd (omega arith)
+number-take (suc q) g z h =
+    let e : suc q - 1 ≡ q = omega arith in
+    let l = length-take-le q g (omega arith) in
+    rw (e, take-suc g q 0 h) (number-snoc (take q g) (getD g q 0) ∙ rw l refl)
+
+module _ {g : List ℕ} (f : Genotype (length g) 64 g) (short : length g ≤ 8) where
+  pub number-small : (p : ℕ) → p ≤ length g → closedSum (take p g) < 645753531245762
+  number-small p h = let s = genotype-stands (genotype-take p g h f) in let b = count-small p 64 (omega arith) (omega arith) in omega arith
+
+  pub number-last : {p : ℕ} → (p ≡ 0 → ⊥) → p ≤ length g → getD g (p - 1) 0 ≤ 64
+  number-last {p} z h = let b = f .below (p - 1) (omega arith) in omega arith
+
+  module _ {p r c : ℕ} (z : p ≡ 0 → ⊥) (h : p ≤ length g) (e : r ≡ closedSum (take (p - 1) g)) (d : c ≡ howMany p (getD g (p - 1) 0)) where
+    pub number-more : r + c ≡ closedSum (take p g)
+    number-more = let t = number-take p g (omega arith) h in omega arith
+
+    pub number-fits : r + c < 2 ^ 64
+    number-fits = let t = number-more in let s = number-small p h in omega arith
+
+pub number-zero : {p : ℕ} (g : List ℕ) → p ≡ 0 → 0 ≡ closedSum (take p g)
+number-zero g e = rw e (sym number-none)
+
+-- ---- the answer
+
+module _ (n : ℕ) (g : List ℕ) {r : Bool} (e : r ≡ limits (length g) n) where
+  pub number-limits : r ≡ false → numberPaper N.Wrong ≡ numberAnswer n g
+  unfolding numberPaper numberAnswer
+  number-limits t = let f : limits (length g) n ≡ false = sym e ∙ t in rw f
+
+  pub number-short : r ≡ true → length g ≤ 8
+  number-short t = limited e t .few
+
+  module _ {s : Bool} (d : s ≡ rising 0 n g) (t : r ≡ true) where
+    pub number-falls : s ≡ false → numberPaper N.Wrong ≡ numberAnswer n g
+    unfolding numberPaper numberAnswer
+    number-falls u = let f : rising 0 n g ≡ false = sym d ∙ u in rw (f, and-false)
+
+    pub number-genotype : s ≡ true → Genotype (length g) 64 g
+    number-genotype u =
+        let k = rising-is n g .0 (sym d ∙ u) in
+        let l = limited e t in
+        record { ploidy = refl; below = λ i h. (let z = k .below i h in omega arith); order = k .order }
+
+    pub number-right : {v : ℕ} → s ≡ true → v ≡ closedSum (take (length g) g) → numberPaper (N.Is v) ≡ numberAnswer n g
+    unfolding numberPaper numberAnswer
+    number-right {v} u w =
+        let a : limits (length g) n ≡ true = sym e ∙ t in
+        let b : rising 0 n g ≡ true = sym d ∙ u in
+        let x : v ≡ closedSum g = w ∙ ap closedSum (take-all (length g) g (omega arith)) in
+        rw (a, b, x)
+
+pub ruleset laws = (judge-first, judge-falls, judge-high, judge-turn, judge-past, number-last, number-more, number-fits, number-zero, number-limits, number-short, number-falls, number-genotype, number-right)
