@@ -9,8 +9,7 @@ use lib.ListN.{length, getD, List·getD-append}
 use lib.Seq.{take-append-seam}
 use Rattle.numbering.specs.Ordering.{followed, ordering}
 use Rattle.numbering.specs.Closed.{choose, howMany, sumFrom, closedSum}
-use Rattle.numbering.specs.Demands.{Genotype}
-use Rattle.numbering.specs.Demands.{ListsGenotypes, ListsOnce, Counted, StandsAtNumber, InNumberOrder, Begins, OfOne, OfTwo}
+use Rattle.numbering.specs.Demands.{Genotype, ListsGenotypes, ListsOnce, Counted, InNumberOrder, Begins, OfOne, OfTwo}
 use Rattle.numbering.proofs.OrderLaws.{length-ordering, listed, numbered, stands, none, more, rises-genotype, genotype-stands}
 
 mem-at : (gs : List (List ℕ)) (i : ℕ) → i < length gs → List·Memᴰ (getD gs i []) gs
@@ -23,14 +22,10 @@ at-mem [] m = absurd (List·Memᴰ·not-nil m)
 at-mem {g} (x ∷ gs) m = ⊎-elim (λ e. (0, (omega arith, sym e))) (λ w. let r = at-mem gs w in (suc (r .0), (let l = r .1 .0 in omega arith, r .1 .1))) (List·Memᴰ·cases-cons m)
 
 pub counted : Counted ordering
-unfolding howMany
 counted p n = length-ordering p n
 
-pub in-number-order : InNumberOrder ordering closedSum
-in-number-order p n i h = numbered p n i h
-
-pub stands-at-number : StandsAtNumber ordering closedSum
-stands-at-number p n g f = let s = genotype-stands f in let e = length-ordering p n in (omega arith, s .there)
+pub in-number-order : InNumberOrder ordering
+in-number-order = record { under = λ p n g f. (let u = genotype-stands f .under in let e = length-ordering p n in omega arith); there = λ p n g f. genotype-stands f .there; back = numbered }
 
 pub lists-once : ListsOnce ordering
 lists-once p n i j h l e = sym (numbered p n i h) ∙ ap closedSum e ∙ numbered p n j l
@@ -42,7 +37,7 @@ lists-genotypes p n g = (to, from)
     to m = let r = at-mem (ordering p n) m in subst (Genotype p n) (r .1 .1) (rises-genotype (listed p n (r .0) (r .1 .0)))
 
     from : Genotype p n g → List·Memᴰ g (ordering p n)
-    from f = let s = stands-at-number p n g f in Memᴰ·cast (sym (s .1)) (mem-at (ordering p n) (closedSum g) (s .0))
+    from f = Memᴰ·cast (sym (in-number-order .there p n g f)) (mem-at (ordering p n) (closedSum g) (in-number-order .under p n g f))
 
 -- what more alleles add
 pub Added : ℕ → ℕ → ℕ → Type 0

@@ -2,15 +2,15 @@
 use Prim.Native.Nat.{ℕ, zero, suc, _+_, _-_, _<_, _≤_}
 use mathlib.Core.Path.{_≡_, refl, sym, ap, _∙_}
 use mathlib.Core.Bool.{Bool, true, false, _&&_, and-false}
-use mathlib.Core.List.{List, [], _∷_, _++_}
+use mathlib.Core.List.{List, [], _∷_, _++_, append-assoc}
 use native.Mathlib.Omega.{arith}
 use native.Mathlib.Numerals.{add-one}
-use lib.ListN.{length, getD, set, length-set}
+use lib.ListN.{length, getD, drop, set, length-set, length-append}
 use lib.Seq.{getD-append-add}
 use lib.Dec.{leb, ltb}
 use borrow.Author.Tests.{le-leb, lt-leb, lt-ltb, le-ltb}
 use Rattle.text.specs.Over.{over}
-use Rattle.text.proofs.Lists.{over-nil, over-set}
+use Rattle.text.proofs.Lists.{over-nil}
 use Rattle.numbering.specs.Ordering.{followed, ordering}
 use Rattle.numbering.specs.Closed.{howMany}
 use Rattle.numbering.specs.Answers.{limits, genotypeAnswer}
@@ -20,6 +20,7 @@ use Rattle.numbering.specs.declared.genotype.Filled.the-variants as F
 use Rattle.numbering.proofs.OrderLaws.{count-none, count-empty, count-more, length-ordering, getD-followed, listed, rises-ploidy}
 use Rattle.numbering.proofs.Demands.{fewer-at}
 use Rattle.numbering.proofs.LimitLaws.{limited-few, limited-alleles}
+use Rattle.numbering.proofs.StoreLaws.{stored}
 
 -- ---- the last allele
 
@@ -62,6 +63,13 @@ module _ {i p n a c : ℕ} (s : Seeking i p n a) (e : c ≡ howMany p a) where
   seek-under h l = s .under (seek-within h l)
 
 -- ---- a genotype by its last allele
+
+-- an element stored behind what lies over a list
+over-set : (vs l : List ℕ) (k a : ℕ) → length vs ≡ k → k < length l → over (vs ++ a ∷ []) l ≡ over vs (set l k a)
+unfolding over
+over-set vs l k a e h =
+    let f : length (vs ++ a ∷ []) ≡ k + 1 = length-append vs (a ∷ []) ∙ omega arith in
+    rw (f, e) (append-assoc vs (a ∷ []) (drop (k + 1) l) ∙ ap (λ (r : List ℕ). vs ++ r) (sym (stored k a l h)))
 
 module _ (i p n : ℕ) {a c : ℕ} (h : a < n) (e : c ≡ howMany p a) (l : howMany p a ≤ i) (u : i < howMany p (a + 1)) where
   pub rest-under : (p ≡ 0 → ⊥) → i - c < howMany (p - 1) (a + 1)
@@ -126,11 +134,14 @@ module _ (i p n : ℕ) (l : List ℕ) {r : Bool} (e : r ≡ limits p n) where
   module _ {c : ℕ} (d : c ≡ howMany p n) (t : r ≡ true) where
     pub place-past : c ≤ i → PlacesGenotype i p n l F.Wrong l
     unfolding filledPaper genotypeAnswer
-    place-past h = let f : ltb i (howMany p n) ≡ false = le-ltb i (howMany p n) (omega arith) in record { answer = rw (f, and-false); row = rw (f, and-false) }
+    place-past h = let f : ltb i (length (ordering p n)) ≡ false = le-ltb i (length (ordering p n)) (let k = length-ordering p n in omega arith) in record { answer = rw (f, and-false); row = rw (f, and-false) }
 
     module _ (h : i < c) where
-      good : (limits p n && ltb i (howMany p n)) ≡ true
-      good = let f : limits p n ≡ true = sym e ∙ t in let g : ltb i (howMany p n) ≡ true = lt-ltb i (howMany p n) (omega arith) in rw (f, g)
+      good : (limits p n && ltb i (length (ordering p n))) ≡ true
+      good =
+          let f : limits p n ≡ true = sym e ∙ t in
+          let g : ltb i (length (ordering p n)) ≡ true = lt-ltb i (length (ordering p n)) (let k = length-ordering p n in omega arith) in
+          rw (f, g)
 
       pub place-short : length l < p → PlacesGenotype i p n l F.Short l
       unfolding filledPaper genotypeAnswer

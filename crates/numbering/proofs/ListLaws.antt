@@ -22,6 +22,7 @@ use Rattle.numbering.specs.declared.genotype.Filled.the-variants as F
 use Rattle.numbering.proofs.OrderLaws.{length-ordering, listed, rises-ploidy}
 use Rattle.numbering.proofs.Demands.{added-to}
 use Rattle.numbering.proofs.CountLaws.{count-small}
+use Rattle.numbering.proofs.StoreLaws.{stored}
 use Rattle.numbering.proofs.LimitLaws.{limited, limited-few, limited-alleles}
 
 -- ---- one genotype
@@ -77,12 +78,6 @@ block-none (suc p) cur z = refl
 block-more : (p a : ℕ) (s : List ℕ) → spread s (ordering (suc p) (a + 1)) ≡ spread s (ordering (suc p) a) ++ spread (a ∷ s) (ordering p (a + 1))
 unfolding ordering
 block-more p a s = rw add-one (spread-append s (ordering (suc p) a) (followed a (ordering p (suc a))) ∙ ap (λ (l : List ℕ). spread s (ordering (suc p) a) ++ l) (spread-followed s a (ordering p (suc a))))
-
--- the last allele stored in front of those behind it
-stored : (q a : ℕ) (cur : List ℕ) → q < length cur → drop q (set cur q a) ≡ a ∷ drop (q + 1) cur
-stored q a cur h =
-    let z : q < length (set cur q a) = simp length-set h in
-    drop-cons (set cur q a) q 0 z ∙ rw (getD-set-same cur q a 0 h, drop-set-lt (suc q) cur q a (le-refl _), add-one) refl
 
 behind : (q a : ℕ) (cur s : List ℕ) → drop q cur ≡ a ∷ s → drop (q + 1) cur ≡ s
 behind q a cur s e = sym (drop-drop 1 q cur) ∙ ap (drop 1) e
@@ -230,29 +225,31 @@ module _ (p n : ℕ) {r : Bool} (e : r ≡ limits p n) where
     yes-limits = sym e ∙ t
 
     pub list-product : c * p < 2 ^ 64
-    list-product = let m = limited e t in product-small c p (let b = count-small p n (m .few) (m .alleles) in omega arith) (m .few)
+    list-product = let m = limited e t in product-small c p (let b = count-small p n (m .eight) (m .most) in omega arith) (m .eight)
 
-    product : c * p ≡ howMany p n * p
-    product = ap (λ (k : ℕ). k * p) d
+    room : c * p ≡ length (flatten (ordering p n))
+    room = ap (λ (k : ℕ). k * p) d ∙ sym (length-all p n)
 
     module _ (l : List ℕ) where
       pub list-short : length l < c * p → ListsAll p n l F.Short l
       unfolding filledPaper listAnswer
-      list-short h = let m = product in let f : leb (howMany p n * p) (length l) ≡ false = lt-leb (howMany p n * p) (length l) (omega arith) in record { answer = rw (yes-limits, f); row = rw (yes-limits, f) }
+      list-short h =
+          let f : leb (length (flatten (ordering p n))) (length l) ≡ false = lt-leb (length (flatten (ordering p n))) (length l) (let m = room in omega arith) in
+          record { answer = rw (yes-limits, f); row = rw (yes-limits, f) }
 
       module _ (h : c * p ≤ length l) (x : List ℕ) (w : p ≤ length x) where
         pub list-room : Room p n (take p x) l 0
         list-room =
-            let m = product in
+            let m = room in
             let k = length-take-le p x w in
-            let b = ap length (block-all p n x w) ∙ length-all p n in
+            let b = ap length (block-all p n x w) in
             record { ploidy = omega arith; room = omega arith }
 
         pub list-done : {v : ℕ} {x′ l′ : List ℕ} → Listed p n (take p x) l 0 v x′ l′ → ListsAll p n l (F.Done c) l′
         unfolding filledPaper listAnswer overAt
         list-done g =
-            let m = product in
-            let f : leb (howMany p n * p) (length l) ≡ true = le-leb (howMany p n * p) (length l) (omega arith) in
-            record { answer = rw (yes-limits, f, d); row = rw (yes-limits, f) (g .rows ∙ rw (block-all p n x w)) }
+            let f : leb (length (flatten (ordering p n))) (length l) ≡ true = le-leb (length (flatten (ordering p n))) (length l) (let m = room in omega arith) in
+            let k : c ≡ length (ordering p n) = d ∙ sym (length-ordering p n) in
+            record { answer = rw (yes-limits, f, k); row = rw (yes-limits, f) (g .rows ∙ rw (block-all p n x w)) }
 
 pub ruleset laws = (copy-first, copy-room, copy-turn, copy-end, copy-past, go-first, go-store, go-room, go-turn, go-past, one-room, one-listed, scratch-length, list-limits, list-product, list-short, list-room, list-done, limited-few, limited-alleles)

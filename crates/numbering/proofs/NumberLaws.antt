@@ -1,7 +1,7 @@
 -- The number of a genotype: its alleles judged, and their counts added up. Assumes nothing.
 use Prim.Native.Nat.{ℕ, zero, suc, _+_, _-_, _^_, _<_, _≤_, zero-le}
 use mathlib.Core.Path.{_≡_, refl, sym, ap, _∙_}
-use mathlib.Core.Bool.{Bool, true, false, _&&_, and-false, and-eq-true-iff}
+use mathlib.Core.Bool.{Bool, true, false, _&&_, and-false, and-eq-true-iff, false≢true}
 use mathlib.Core.Logic.{_↔_}
 use mathlib.Core.List.{List, [], _∷_}
 use native.Mathlib.Omega.{arith}
@@ -9,16 +9,22 @@ use lib.ListN.{length, getD, take, drop, drop-of-length-le}
 use lib.Seq.{take-suc, length-take-le, getD-take, take-all}
 use lib.Dec.{leb, ltb}
 use borrow.Author.Tests.{le-leb, lt-leb, leb-true, lt-ltb, le-ltb, ltb-true}
+use Rattle.text.specs.Pick.{pick}
+use Rattle.text.specs.Answer.{says}
+use Rattle.text.specs.First.{firstWhere}
+use Rattle.text.specs.Same.{same}
 use Rattle.text.proofs.Lists.{here}
+use Rattle.numbering.specs.Ordering.{ordering}
 use Rattle.numbering.specs.Closed.{howMany, closedSum}
 use Rattle.numbering.specs.Demands.{Genotype}
-use Rattle.numbering.specs.Answers.{limits, numberAnswer}
+use Rattle.numbering.specs.Answers.{limits, indexed, numberAnswer}
 use Rattle.numbering.specs.Inner.{rising}
 use Rattle.numbering.specs.Paper.{numberPaper}
 use Rattle.numbering.specs.declared.counts.Numbered.the-variants as N
 use Rattle.numbering.proofs.OrderLaws.{genotype-stands, number-none, number-snoc}
 use Rattle.numbering.proofs.CountLaws.{count-small}
 use Rattle.numbering.proofs.LimitLaws.{limited}
+use Rattle.numbering.proofs.IndexLaws.{index-is, index-none}
 
 -- ---- the judge
 
@@ -136,31 +142,45 @@ number-zero g e = rw e (sym number-none)
 
 -- ---- the answer
 
+pub answer-is : (n : ℕ) (g : List ℕ) → limits (length g) n ≡ true → Genotype (length g) n g → numberAnswer n g ≡ says 0 (closedSum g ∷ [])
+unfolding numberAnswer indexed
+answer-is n g l f = rw (l, index-is g (length g) n f)
+
+pub answer-none : (n : ℕ) (g : List ℕ) → (Genotype (length g) n g → ⊥) → numberAnswer n g ≡ says 23 []
+unfolding numberAnswer indexed
+answer-none n g z = by (limits (length g) n)
+  where
+    by : (b : Bool) → pick b (indexed (firstWhere (λ (h : List ℕ). same h g) 0 (ordering (length g) n))) (says 23 []) ≡ says 23 []
+    by true = rw (index-none g (length g) n z)
+    by false = refl
+
+pub answer-limits : (n : ℕ) (g : List ℕ) → limits (length g) n ≡ false → numberAnswer n g ≡ says 23 []
+unfolding numberAnswer
+answer-limits n g l = rw l
+
 module _ (n : ℕ) (g : List ℕ) {r : Bool} (e : r ≡ limits (length g) n) where
   pub number-limits : r ≡ false → numberPaper N.Wrong ≡ numberAnswer n g
-  unfolding numberPaper numberAnswer
-  number-limits t = let f : limits (length g) n ≡ false = sym e ∙ t in rw f
+  unfolding numberPaper
+  number-limits t = sym (answer-limits n g (sym e ∙ t))
 
   pub number-short : r ≡ true → length g ≤ 8
-  number-short t = limited e t .few
+  number-short t = limited e t .eight
 
   module _ {s : Bool} (d : s ≡ rising 0 n g) (t : r ≡ true) where
     pub number-falls : s ≡ false → numberPaper N.Wrong ≡ numberAnswer n g
-    unfolding numberPaper numberAnswer
-    number-falls u = let f : rising 0 n g ≡ false = sym d ∙ u in rw (f, and-false)
+    unfolding numberPaper
+    number-falls u = sym (answer-none n g (λ f. false≢true (sym u ∙ d ∙ rising-is n g .1 f)))
 
     pub number-genotype : s ≡ true → Genotype (length g) 64 g
     number-genotype u =
         let k = rising-is n g .0 (sym d ∙ u) in
         let l = limited e t in
-        record { ploidy = refl; below = λ i h. (let z = k .below i h in omega arith); order = k .order }
+        record { ploidy = refl; below = λ i h. (let z = k .below i h in let m = l .most in omega arith); order = k .order }
 
     pub number-right : {v : ℕ} → s ≡ true → v ≡ closedSum (take (length g) g) → numberPaper (N.Is v) ≡ numberAnswer n g
-    unfolding numberPaper numberAnswer
+    unfolding numberPaper
     number-right {v} u w =
-        let a : limits (length g) n ≡ true = sym e ∙ t in
-        let b : rising 0 n g ≡ true = sym d ∙ u in
         let x : v ≡ closedSum g = w ∙ ap closedSum (take-all (length g) g (omega arith)) in
-        rw (a, b, x)
+        rw x (sym (answer-is n g (sym e ∙ t) (rising-is n g .0 (sym d ∙ u))))
 
 pub ruleset laws = (judge-first, judge-falls, judge-high, judge-turn, judge-past, number-last, number-more, number-fits, number-zero, number-limits, number-short, number-falls, number-genotype, number-right)
