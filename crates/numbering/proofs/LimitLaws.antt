@@ -48,6 +48,9 @@ limits-no {p} {n} z = by (limits p n) refl
     by false e = e
 
 module _ (p n : ℕ) {r : Bool} (e : r ≡ limits p n) where
+  pub limited-one : r ≡ true → 0 < p
+  limited-one t = limited e t .one
+
   pub limited-few : r ≡ true → p ≤ 8
   limited-few t = limited e t .eight
 

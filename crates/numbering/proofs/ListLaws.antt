@@ -23,7 +23,7 @@ use Rattle.numbering.proofs.OrderLaws.{length-ordering, listed, rises-p
 use Rattle.numbering.proofs.Demands.{added-to}
 use Rattle.numbering.proofs.CountLaws.{count-small}
 use Rattle.numbering.proofs.StoreLaws.{stored}
-use Rattle.numbering.proofs.LimitLaws.{limited, limited-few, limited-alleles}
+use Rattle.numbering.proofs.LimitLaws.{limited, limited-one, limited-few, limited-alleles}
 
 -- ---- one genotype
 
@@ -69,9 +69,9 @@ spread-flatten [] = refl
 spread-flatten (g ∷ gs) = rw append-nil (ap (λ (l : List ℕ). g ++ l) (spread-flatten gs))
 
 -- no allele
-block-none : (p : ℕ) (cur : List ℕ) → (p ≡ 0 → ⊥) → block p 0 cur ≡ []
+block-none : (p : ℕ) (cur : List ℕ) → 0 < p → block p 0 cur ≡ []
 unfolding block spread ordering
-block-none zero cur z = absurd (z refl)
+block-none zero cur z = absurd (omega arith)
 block-none (suc p) cur z = refl
 
 -- one allele more
@@ -82,7 +82,7 @@ block-more p a s = rw add-one (spread-append s (ordering (suc p) a) (followed a 
 behind : (q a : ℕ) (cur s : List ℕ) → drop q cur ≡ a ∷ s → drop (q + 1) cur ≡ s
 behind q a cur s e = sym (drop-drop 1 q cur) ∙ ap (drop 1) e
 
-module _ (p a : ℕ) (cur₀ cur : List ℕ) (z : p ≡ 0 → ⊥) (h : p ≤ length cur) (e : drop p cur ≡ drop p cur₀) where
+module _ (p a : ℕ) (cur₀ cur : List ℕ) (z : 0 < p) (h : p ≤ length cur) (e : drop p cur ≡ drop p cur₀) where
   up : p - 1 + 1 ≡ p
   up = omega arith
 
@@ -93,8 +93,8 @@ module _ (p a : ℕ) (cur₀ cur : List ℕ) (z : p ≡ 0 → ⊥) (h : p ≤ le
   unfolding block
   block-next = rw stored-at (by p z)
     where
-      by : (p : ℕ) → (p ≡ 0 → ⊥) → spread (drop p cur₀) (ordering p (a + 1)) ≡ spread (drop p cur₀) (ordering p a) ++ spread (a ∷ drop p cur₀) (ordering (p - 1) (a + 1))
-      by zero z = absurd (z refl)
+      by : (p : ℕ) → 0 < p → spread (drop p cur₀) (ordering p (a + 1)) ≡ spread (drop p cur₀) (ordering p a) ++ spread (a ∷ drop p cur₀) (ordering (p - 1) (a + 1))
+      by zero z = absurd (omega arith)
       by (suc q) z = let f : suc q - 1 ≡ q = omega arith in rw f (block-more q a (drop (suc q) cur₀))
 
 -- more alleles take more room
@@ -112,7 +112,7 @@ pub record Going (p n : ℕ) (cur₀ row₀ : List ℕ) (at a : ℕ) (cur row : 
   pub within : a ≤ n
   pub done : Listed p a cur₀ row₀ at next cur row
 
-pub go-first : {p n : ℕ} {cur row : List ℕ} {at : ℕ} → (p ≡ 0 → ⊥) → Going p n cur row at 0 cur row at
+pub go-first : {p n : ℕ} {cur row : List ℕ} {at : ℕ} → 0 < p → Going p n cur row at 0 cur row at
 go-first {p} {n} {cur} {row} {at} z =
     let e = block-none p cur z in
     record {
@@ -120,17 +120,17 @@ go-first {p} {n} {cur} {row} {at} z =
       done = record { next = rw e (omega arith); rest = refl; size = refl; long = refl; rows = rw e (sym (overAt-nil at row)) };
     }
 
-module _ {p n : ℕ} {cur₀ row₀ : List ℕ} {at a : ℕ} {cur row : List ℕ} {next : ℕ} (g : Going p n cur₀ row₀ at a cur row next) (z : p ≡ 0 → ⊥) (o : Room p n cur₀ row₀ at) where
+module _ {p n : ℕ} {cur₀ row₀ : List ℕ} {at a : ℕ} {cur row : List ℕ} {next : ℕ} (g : Going p n cur₀ row₀ at a cur row next) (z : 0 < p) (o : Room p n cur₀ row₀ at) where
   pub go-store : p - 1 < length cur
   go-store = let s = g .done .size in let w = o .ploidy in omega arith
 
-  private-next : block p (a + 1) cur₀ ≡ block p a cur₀ ++ block (p - 1) (a + 1) (set cur (p - 1) a)
-  private-next = let s = g .done .size in let w = o .ploidy in block-next p a cur₀ cur z (omega arith) (g .done .rest)
+  block-here : block p (a + 1) cur₀ ≡ block p a cur₀ ++ block (p - 1) (a + 1) (set cur (p - 1) a)
+  block-here = let s = g .done .size in let w = o .ploidy in block-next p a cur₀ cur z (omega arith) (g .done .rest)
 
   go-fits : a < n → at + length (block p a cur₀) + length (block (p - 1) (a + 1) (set cur (p - 1) a)) ≤ length row₀
   go-fits h =
       let l = block-longer p (a + 1) n cur₀ (omega arith) in
-      let e = ap length private-next ∙ length-append (block p a cur₀) (block (p - 1) (a + 1) (set cur (p - 1) a)) in
+      let e = ap length block-here ∙ length-append (block p a cur₀) (block (p - 1) (a + 1) (set cur (p - 1) a)) in
       let w = o .room in
       omega arith
 
@@ -144,7 +144,7 @@ module _ {p n : ℕ} {cur₀ row₀ : List ℕ} {at a : ℕ} {cur row : List ℕ
 
   pub go-turn : {r : ℕ} {cur′ row′ : List ℕ} → a < n → Listed (p - 1) (a + 1) (set cur (p - 1) a) row next r cur′ row′ → Going p n cur₀ row₀ at (a + 1) cur′ row′ r
   go-turn {r} {cur′} {row′} h d =
-      let e = ap length private-next ∙ length-append (block p a cur₀) (block (p - 1) (a + 1) (set cur (p - 1) a)) in
+      let e = ap length block-here ∙ length-append (block p a cur₀) (block (p - 1) (a + 1) (set cur (p - 1) a)) in
       let f = go-fits h in
       let x = g .done .next in
       let y = d .next in
@@ -164,7 +164,7 @@ module _ {p n : ℕ} {cur₀ row₀ : List ℕ} {at a : ℕ} {cur row : List ℕ
               ∙ ap (λ (l : List ℕ). overAt next (block (p - 1) (a + 1) (set cur (p - 1) a)) l) (g .done .rows)
               ∙ ap (λ (k : ℕ). overAt k (block (p - 1) (a + 1) (set cur (p - 1) a)) (overAt at (block p a cur₀) row₀)) x
               ∙ sym (overAt-append at (block p a cur₀) (block (p - 1) (a + 1) (set cur (p - 1) a)) row₀ (omega arith))
-              ∙ ap (λ (l : List ℕ). overAt at l row₀) (sym private-next);
+              ∙ ap (λ (l : List ℕ). overAt at l row₀) (sym block-here);
         };
       }
 
@@ -177,18 +177,28 @@ module _ {p n : ℕ} {cur₀ row₀ : List ℕ} {at a : ℕ} {cur row : List ℕ
   pub go-long : length row ≡ length row₀
   go-long = g .done .long
 
+-- ---- ploidy 1
+
 -- no allele is left: one genotype
-block-one : (p n : ℕ) (cur : List ℕ) → p ≡ 0 → block p n cur ≡ cur
+block-one : (n : ℕ) (cur : List ℕ) → block 0 n cur ≡ cur
 unfolding block spread ordering
-block-one zero n cur e = append-nil cur
-block-one (suc p) n cur e = absurd (omega arith)
+block-one n cur = append-nil cur
 
-module _ {p n : ℕ} {cur row : List ℕ} {at : ℕ} (o : Room p n cur row at) (e : p ≡ 0) where
-  pub one-room : at + length cur ≤ length row
-  one-room = let w = o .room in let f = ap length (block-one p n cur e) in omega arith
+module _ {n : ℕ} {cur₀ row₀ : List ℕ} {at a : ℕ} {cur row : List ℕ} {next : ℕ} (g : Going 1 n cur₀ row₀ at a cur row next) (o : Room 1 n cur₀ row₀ at) (h : a < n) where
+  pub first-room : next + length (set cur 0 a) ≤ length row
+  first-room = let w = go-room g (omega arith) o h .room in let f = ap length (block-one (a + 1) (set cur 0 a)) in omega arith
 
-  pub one-listed : {r : ℕ} {row′ : List ℕ} → r ≡ at + length cur → row′ ≡ overAt at cur row → Listed p n cur row at r cur row′
-  one-listed x y = let f = block-one p n cur e in let w = one-room in record { next = rw f x; rest = refl; size = refl; long = rw y (length-overAt at cur row w); rows = rw f y }
+  pub first-turn : {r : ℕ} {row′ : List ℕ} → r ≡ next + length (set cur 0 a) → row′ ≡ overAt next (set cur 0 a) row → Going 1 n cur₀ row₀ at (a + 1) (set cur 0 a) row′ r
+  first-turn x y =
+      let f = block-one (a + 1) (set cur 0 a) in
+      go-turn g (omega arith) o h (record { next = rw f x; rest = refl; size = refl; long = rw y (length-overAt next (set cur 0 a) row first-room); rows = rw f y })
+
+module _ {p n : ℕ} {cur row : List ℕ} {at : ℕ} (e : p ≡ 1) where
+  pub base-room : Room p n cur row at → Room 1 n cur row at
+  base-room o = rw e at o
+
+  pub base-listed : {r : ℕ} {cur′ row′ : List ℕ} → Listed 1 n cur row at r cur′ row′ → Listed p n cur row at r cur′ row′
+  base-listed d = rw e d
 
 -- ---- the answer
 
@@ -252,4 +262,4 @@ module _ (p n : ℕ) {r : Bool} (e : r ≡ limits p n) where
             let k : c ≡ length (ordering p n) = d ∙ sym (length-ordering p n) in
             record { answer = rw (yes-limits, f, k); row = rw (yes-limits, f) (g .rows ∙ rw (block-all p n x w)) }
 
-pub ruleset laws = (copy-first, copy-room, copy-turn, copy-end, copy-past, go-first, go-store, go-room, go-turn, go-past, one-room, one-listed, scratch-length, list-limits, list-product, list-short, list-room, list-done, limited-few, limited-alleles)
+pub ruleset laws = (copy-first, copy-room, copy-turn, copy-end, copy-past, go-first, go-store, go-room, go-turn, go-past, first-room, first-turn, base-room, base-listed, scratch-length, list-limits, list-product, list-short, list-room, list-done, limited-one, limited-few, limited-alleles)

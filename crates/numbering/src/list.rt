@@ -23,15 +23,31 @@ fn put_one(current: &[u64], row: &mut [u64], at: usize) -> usize
     at + i
 }
 
+// Writes from the place `at` on each allele in turn, followed by what stands behind it in `current`, and returns the place past them.
+fn put_first(alleles: usize, current: &mut [u64], row: &mut [u64], at: usize) -> usize
+    requires { ⌜ Room 1 alleles (now current) (now row) at ⌝ }
+    ensures { λ r. ⌜ Listed 1 alleles (now (current .entry)) (now (row .entry)) at r (now (current .exit)) (now (row .exit)) ⌝ }
+{
+    let mut next = at;
+    let mut a = 0;
+    while a < alleles {
+        current[0] = a as u64;
+        next = put_one(current, row, next);
+        a += 1;
+    }
+    next
+}
+
 // Writes from the place `at` on, for each allele in turn, the genotypes of one ploidy less over the alleles up to it, each followed by it
 // and by what stands behind it in `current`. Returns the place past them.
 fn put_all(ploidy: usize, alleles: usize, current: &mut [u64], row: &mut [u64], at: usize) -> usize
+    requires { ⌜ 0 < ploidy ⌝ }
     requires { ⌜ alleles ≤ 64 ⌝ }
     requires { ⌜ Room ploidy alleles (now current) (now row) at ⌝ }
     ensures { λ r. ⌜ Listed ploidy alleles (now (current .entry)) (now (row .entry)) at r (now (current .exit)) (now (row .exit)) ⌝ }
 {
-    if ploidy == 0 {
-        return put_one(current, row, at);
+    if ploidy == 1 {
+        return put_first(alleles, current, row, at);
     }
     let mut next = at;
     let mut a = 0;
