@@ -5,9 +5,9 @@ use mathlib.Core.Bool.{Bool, true, false}
 use mathlib.Core.List.{List, [], _∷_, _++_, append-assoc, append-nil, flatten}
 use native.Mathlib.Omega.{arith}
 use native.Mathlib.Numerals.{add-one}
-use native.Mathlib.Nat.{le-refl, suc-mul, zero-mul, mul-le-mul-left}
+use native.Mathlib.Nat.{mul-le-mul-left}
 use lib.ListN.{length, getD, take, drop, set, length-set, length-append, drop-of-length-le}
-use lib.Seq.{length-take-le, sets, sets-eq, drop-cons, drop-drop, drop-set-lt, getD-set-same}
+use lib.Seq.{length-take-le, sets, sets-eq, drop-drop}
 use lib.Dec.{leb}
 use borrow.Author.Tests.{le-leb, lt-leb}
 use Rattle.text.specs.Over.{over, overAt}
@@ -23,6 +23,7 @@ use Rattle.numbering.proofs.OrderLaws.{length-ordering, listed, rises-p
 use Rattle.numbering.proofs.Demands.{added-to}
 use Rattle.numbering.proofs.CountLaws.{count-small}
 use Rattle.numbering.proofs.StoreLaws.{stored}
+use Rattle.numbering.proofs.FlatLaws.{length-flat}
 use Rattle.numbering.proofs.LimitLaws.{limited, limited-one, limited-few, limited-alleles}
 
 -- ---- one genotype
@@ -202,18 +203,8 @@ module _ {p n : ℕ} {cur row : List ℕ} {at : ℕ} (e : p ≡ 1) where
 
 -- ---- the answer
 
--- a list of genotypes of one ploidy
-length-spread : (p : ℕ) (gs : List (List ℕ)) → ((i : ℕ) → i < length gs → length (getD gs i []) ≡ p) → length (flatten gs) ≡ length gs * p
-unfolding flatten
-length-spread p [] h = sym (zero-mul p)
-length-spread p (g ∷ gs) h =
-    let x = h 0 (omega arith) in
-    let y = length-spread p gs (λ i l. h (suc i) (omega arith)) in
-    let z = suc-mul (length gs) p in
-    length-append g (flatten gs) ∙ omega arith
-
 pub length-all : (p n : ℕ) → length (flatten (ordering p n)) ≡ howMany p n * p
-length-all p n = length-spread p (ordering p n) (λ i l. rises-ploidy (listed p n i l)) ∙ ap (λ (c : ℕ). c * p) (length-ordering p n)
+length-all p n = length-flat p (ordering p n) (λ i l. rises-ploidy (listed p n i l)) ∙ ap (λ (c : ℕ). c * p) (length-ordering p n)
 
 product-small : (c p : ℕ) → c < 645753531245762 → p ≤ 8 → c * p < 2 ^ 64
 product-small c p h l = let m = mul-le-mul-left c l in omega arith

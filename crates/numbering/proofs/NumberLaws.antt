@@ -18,7 +18,7 @@ use Rattle.numbering.specs.Ordering.{ordering}
 use Rattle.numbering.specs.Closed.{howMany, closedSum}
 use Rattle.numbering.specs.Demands.{Genotype}
 use Rattle.numbering.specs.Answers.{limits, indexed, numberAnswer}
-use Rattle.numbering.specs.Inner.{rising}
+use Rattle.numbering.specs.Inner.{neverFalls}
 use Rattle.numbering.specs.Paper.{numberPaper}
 use Rattle.numbering.specs.declared.counts.Numbered.the-variants as N
 use Rattle.numbering.proofs.OrderLaws.{genotype-stands, number-none, number-snoc}
@@ -31,30 +31,30 @@ use Rattle.numbering.proofs.IndexLaws.{index-is, index-none}
 -- the alleles from i on rise from low on, where all do from 0 on
 pub record Judging (n : ℕ) (g : List ℕ) (low i : ℕ) : Type 0 where
   pub within : i ≤ length g
-  pub same : rising low n (drop i g) ≡ rising 0 n g
+  pub same : neverFalls low n (drop i g) ≡ neverFalls 0 n g
 
 pub judge-first : {n : ℕ} {g : List ℕ} → Judging n g 0 0
 judge-first = record { within = zero-le; same = refl }
 
 module _ {n : ℕ} {g : List ℕ} {low i : ℕ} (j : Judging n g low i) where
   module _ (h : i < length g) where
-    judge-here : rising low n (getD g i 0 ∷ drop (i + 1) g) ≡ rising 0 n g
+    judge-here : neverFalls low n (getD g i 0 ∷ drop (i + 1) g) ≡ neverFalls 0 n g
     judge-here = rw (here g i h) at (j .same)
 
-    pub judge-falls : getD g i 0 < low → false ≡ rising 0 n g
-    unfolding rising
+    pub judge-falls : getD g i 0 < low → false ≡ neverFalls 0 n g
+    unfolding neverFalls
     judge-falls l = rw (← judge-here, lt-leb _ _ l)
 
-    pub judge-high : n ≤ getD g i 0 → false ≡ rising 0 n g
-    unfolding rising
+    pub judge-high : n ≤ getD g i 0 → false ≡ neverFalls 0 n g
+    unfolding neverFalls
     judge-high l = rw (← judge-here, le-ltb _ _ l, and-false)
 
     pub judge-turn : low ≤ getD g i 0 → getD g i 0 < n → Judging n g (getD g i 0) (i + 1)
-    unfolding rising
+    unfolding neverFalls
     judge-turn l w = record { within = omega arith; same = rw (le-leb _ _ l, lt-ltb _ _ w) at judge-here }
 
-  pub judge-past : length g ≤ i → true ≡ rising 0 n g
-  unfolding rising
+  pub judge-past : length g ≤ i → true ≡ neverFalls 0 n g
+  unfolding neverFalls
   judge-past h = rw (drop-of-length-le g h) at (j .same)
 
 -- ---- the test says what a genotype is
@@ -79,29 +79,29 @@ up-cons {low} {n} {k} {g} l h u = record { floor = floor′; below = below′; o
     order′ zero w = u .floor 0 (omega arith)
     order′ (suc i) w = u .order i (omega arith)
 
-rising-up : (low n : ℕ) (g : List ℕ) → rising low n g ≡ true → Up low n g
-unfolding rising
-rising-up low n [] r = record { floor = λ i h. absurd (omega arith); below = λ i h. absurd (omega arith); order = λ i h. absurd (omega arith) }
-rising-up low n (k ∷ g) r =
-    let a = and-eq-true-iff (leb low k) (ltb k n && rising k n g) .0 r in
-    let b = and-eq-true-iff (ltb k n) (rising k n g) .0 (a .1) in
-    up-cons (leb-true _ _ (a .0)) (ltb-true _ _ (b .0)) (rising-up k n g (b .1))
+never-falls-up : (low n : ℕ) (g : List ℕ) → neverFalls low n g ≡ true → Up low n g
+unfolding neverFalls
+never-falls-up low n [] r = record { floor = λ i h. absurd (omega arith); below = λ i h. absurd (omega arith); order = λ i h. absurd (omega arith) }
+never-falls-up low n (k ∷ g) r =
+    let a = and-eq-true-iff (leb low k) (ltb k n && neverFalls k n g) .0 r in
+    let b = and-eq-true-iff (ltb k n) (neverFalls k n g) .0 (a .1) in
+    up-cons (leb-true _ _ (a .0)) (ltb-true _ _ (b .0)) (never-falls-up k n g (b .1))
 
-up-rising : (low n : ℕ) (g : List ℕ) → Up low n g → rising low n g ≡ true
-unfolding rising
-up-rising low n [] u = refl
-up-rising low n (k ∷ g) u =
-    let r = up-rising k n g (record { floor = low-of; below = λ i h. u .below (suc i) (omega arith); order = λ i h. u .order (suc i) (omega arith) }) in
+up-never-falls : (low n : ℕ) (g : List ℕ) → Up low n g → neverFalls low n g ≡ true
+unfolding neverFalls
+up-never-falls low n [] u = refl
+up-never-falls low n (k ∷ g) u =
+    let r = up-never-falls k n g (record { floor = low-of; below = λ i h. u .below (suc i) (omega arith); order = λ i h. u .order (suc i) (omega arith) }) in
     rw (le-leb low k (u .floor 0 (omega arith)), lt-ltb k n (u .below 0 (omega arith))) r
   where
     low-of : (i : ℕ) → i < length g → k ≤ getD g i 0
     low-of zero h = u .order 0 (omega arith)
     low-of (suc i) h = let x = low-of i (omega arith) in let y = u .order (suc i) (omega arith) in omega arith
 
-pub rising-is : (n : ℕ) (g : List ℕ) → (rising 0 n g ≡ true) ↔ Genotype (length g) n g
-rising-is n g = (
-  (λ r. let u = rising-up 0 n g r in record { ploidy = refl; below = u .below; order = u .order }),
-  (λ f. up-rising 0 n g (record { floor = λ i h. zero-le; below = f .below; order = f .order })),
+pub never-falls-is : (n : ℕ) (g : List ℕ) → (neverFalls 0 n g ≡ true) ↔ Genotype (length g) n g
+never-falls-is n g = (
+  (λ r. let u = never-falls-up 0 n g r in record { ploidy = refl; below = u .below; order = u .order }),
+  (λ f. up-never-falls 0 n g (record { floor = λ i h. zero-le; below = f .below; order = f .order })),
 )
 
 -- ---- the sum
@@ -166,14 +166,14 @@ module _ (n : ℕ) (g : List ℕ) {r : Bool} (e : r ≡ limits (length g) n) whe
   pub number-short : r ≡ true → length g ≤ 8
   number-short t = limited e t .eight
 
-  module _ {s : Bool} (d : s ≡ rising 0 n g) (t : r ≡ true) where
+  module _ {s : Bool} (d : s ≡ neverFalls 0 n g) (t : r ≡ true) where
     pub number-falls : s ≡ false → numberPaper N.Wrong ≡ numberAnswer n g
     unfolding numberPaper
-    number-falls u = sym (answer-none n g (λ f. false≢true (sym u ∙ d ∙ rising-is n g .1 f)))
+    number-falls u = sym (answer-none n g (λ f. false≢true (sym u ∙ d ∙ never-falls-is n g .1 f)))
 
     pub number-genotype : s ≡ true → Genotype (length g) 64 g
     number-genotype u =
-        let k = rising-is n g .0 (sym d ∙ u) in
+        let k = never-falls-is n g .0 (sym d ∙ u) in
         let l = limited e t in
         record { ploidy = refl; below = λ i h. (let z = k .below i h in let m = l .most in omega arith); order = k .order }
 
@@ -181,6 +181,6 @@ module _ (n : ℕ) (g : List ℕ) {r : Bool} (e : r ≡ limits (length g) n) whe
     unfolding numberPaper
     number-right {v} u w =
         let x : v ≡ closedSum g = w ∙ ap closedSum (take-all (length g) g (omega arith)) in
-        rw x (sym (answer-is n g (sym e ∙ t) (rising-is n g .0 (sym d ∙ u))))
+        rw x (sym (answer-is n g (sym e ∙ t) (never-falls-is n g .0 (sym d ∙ u))))
 
 pub ruleset laws = (judge-first, judge-falls, judge-high, judge-turn, judge-past, number-last, number-more, number-fits, number-zero, number-limits, number-short, number-falls, number-genotype, number-right)

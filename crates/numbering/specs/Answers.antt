@@ -3,10 +3,12 @@ use Prim.Native.Nat.{ℕ}
 use mathlib.Core.Bool.{Bool, _&&_}
 use mathlib.Core.List.{List, [], _∷_, flatten}
 use mathlib.Core.Option.{Option, some, none}
-use lib.ListN.{length}
+use lib.ListN.{length, getD}
 use lib.Dec.{leb, ltb}
 use Rattle.text.specs.Pick.{pick, within}
 use Rattle.text.specs.Answer.{Answer, says}
+use Rattle.text.specs.Outcome.{Outcome}
+use Rattle.text.specs.Over.{laid}
 use Rattle.text.specs.First.{firstWhere}
 use Rattle.text.specs.Same.{same}
 use Rattle.numbering.specs.Ordering.{ordering}
@@ -40,3 +42,13 @@ genotypeAnswer i p n room = filling (limits p n && ltb i (length (ordering p n))
 -- all of them, one after the other
 unfoldable pub listAnswer : ℕ → ℕ → ℕ → Answer
 listAnswer p n room = filling (limits p n) (length (flatten (ordering p n))) room (length (ordering p n))
+
+-- ---- with the row
+
+-- genotype i over the row's first numbers, where there is one and it fits
+unfoldable pub genotypeOutcome : ℕ → ℕ → ℕ → List ℕ → Outcome
+genotypeOutcome i p n row = record { answer = genotypeAnswer i p n (length row); output = laid (genotypeAnswer i p n (length row)) (getD (ordering p n) i []) row }
+
+-- all genotypes over them, one after the other
+unfoldable pub listOutcome : ℕ → ℕ → List ℕ → Outcome
+listOutcome p n row = record { answer = listAnswer p n (length row); output = laid (listAnswer p n (length row)) (flatten (ordering p n)) row }

@@ -9,9 +9,9 @@ use Rattle.text.specs.Over.{overAt}
 use Rattle.numbering.specs.Ordering.{ordering}
 
 -- alleles that never fall, from low on, each one of the n
-unfoldable pub rising : ℕ → ℕ → List ℕ → Bool
-rising low n [] = true
-rising low n (k ∷ g) = leb low k && (ltb k n && rising k n g)
+unfoldable pub neverFalls : ℕ → ℕ → List ℕ → Bool
+neverFalls low n [] = true
+neverFalls low n (k ∷ g) = leb low k && (ltb k n && neverFalls k n g)
 
 -- genotypes one after the other, each with the same last alleles s
 unfoldable pub spread : List ℕ → List (List ℕ) → List ℕ

@@ -7,12 +7,12 @@ ghost use Prim.Native.Nat.{_≤_};
 ghost use lib.ListN.{length, take};
 ghost use Rattle.numbering.specs.Closed.{closedSum};
 ghost use Rattle.numbering.specs.Demands.{Genotype};
-ghost use Rattle.numbering.specs.Inner.{rising};
+ghost use Rattle.numbering.specs.Inner.{neverFalls};
 ghost use Rattle.numbering.specs.Promises.{NumbersGenotype};
 
 // Whether the alleles never fall, and are each one of so many.
-fn is_rising(genotype: &[u64], alleles: u64) -> bool
-    ensures { λ r. ⌜ r ≡ rising 0 alleles (now (genotype .entry)) ⌝ }
+fn never_falls(genotype: &[u64], alleles: u64) -> bool
+    ensures { λ r. ⌜ r ≡ neverFalls 0 alleles (now (genotype .entry)) ⌝ }
 {
     let mut low = 0;
     let mut i = 0;
@@ -50,7 +50,7 @@ pub fn number_of(genotype: &[u64], alleles: u64) -> Numbered
 {
     let ploidy = genotype.len();
     if within_limits(ploidy as u64, alleles) {
-        if is_rising(genotype, alleles) {
+        if never_falls(genotype, alleles) {
             return Numbered::Is(number_to(genotype, ploidy));
         }
     }
