@@ -8,7 +8,7 @@ use native.Mathlib.Nat.{le-of-suc-le-suc, suc-mul, mul-suc}
 use lib.ListN.{length, getD, List·getD-append}
 use lib.Seq.{take-append-seam}
 use Rattle.numbering.specs.Ordering.{followed, ordering}
-use Rattle.numbering.specs.Closed.{choose, howMany, sumFrom, closedSum}
+use Rattle.numbering.specs.Closed.{choose, sumFrom, closedSum}
 use Rattle.numbering.specs.Demands.{Genotype, ListsGenotypes, ListsOnce, Counted, InNumberOrder, Begins, OfOne, OfTwo}
 use Rattle.numbering.proofs.OrderLaws.{length-ordering, listed, numbered, stands, none, more, rises-genotype, genotype-stands}
 

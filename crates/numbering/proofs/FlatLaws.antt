@@ -42,5 +42,5 @@ module _ (p : ℕ) where
   flat-back (g ∷ gs) x b =
       let h : take p x ≡ g = rw zero-mul at (b 0 (omega arith)) in
       let t : take (length gs * p) (drop p x) ≡ flatten gs =
-          flat-back gs (drop p x) (λ i l. ap (take p) (drop-drop (i * p) p x ∙ ap (λ (k : ℕ). drop k x) (sym (one-more i))) ∙ b (suc i) (omega arith)) in
+      flat-back gs (drop p x) (λ i l. ap (take p) (drop-drop (i * p) p x ∙ ap (λ (k : ℕ). drop k x) (sym (one-more i))) ∙ b (suc i) (omega arith)) in
       rw (one-more (length gs)) (take-add p (length gs * p) x ∙ ap₂ (λ (u v : List ℕ). u ++ v) h t)

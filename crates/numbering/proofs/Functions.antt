@@ -8,7 +8,7 @@ use native.Mathlib.Omega.{arith}
 use lib.ListN.{length, getD, take, drop, take-append-drop, length-append, length-drop}
 use lib.Seq.{drop-at}
 use lib.Dec.{leb, ltb}
-use borrow.Author.Tests.{lt-ltb, le-leb, lt-leb, leb-true, leb-false, ltb-true, ltb-false}
+use borrow.Author.Tests.{lt-ltb, le-leb, lt-leb, leb-true, leb-false, ltb-true}
 use Rattle.text.specs.Answer.{Answer, says}
 use Rattle.text.specs.Outcome.{Outcome}
 use Rattle.text.specs.Over.{over}
@@ -16,7 +16,7 @@ use Rattle.text.proofs.Lists.{over-is}
 use Rattle.text.proofs.OutcomeLaws.{same-outcome}
 use Rattle.numbering.specs.Ordering.{ordering}
 use Rattle.numbering.specs.Closed.{howMany, closedSum}
-use Rattle.numbering.specs.Demands.{Genotype, Limits, Counts, Numbers, Refused, Places, Holds, Lists, Four, Alike, OneEach}
+use Rattle.numbering.specs.Demands.{Genotype, Limits, Counts, Numbers, Refused, Places, Holds, Lists, Four, OneEach}
 use Rattle.numbering.specs.Answers.{limits, countAnswer, numberAnswer, genotypeAnswer, listAnswer, genotypeOutcome, listOutcome}
 use Rattle.numbering.specs.Inner.{neverFalls}
 use Rattle.numbering.proofs.OrderLaws.{length-ordering, listed, numbered, rises-ploidy, rises-genotype, genotype-stands}
@@ -39,10 +39,10 @@ numbers = record { is = λ n g l f. answer-is n g (limits-yes l) f; other = λ n
     by n g z false e = answer-limits n g e
 
 -- the number i is given to g: it is a genotype within the limits, and i its closed sum
-record Told (n i : ℕ) (g : List ℕ) : Type 0 where
-  limits : Limits (length g) n
-  genotype : Genotype (length g) n g
-  sum : closedSum g ≡ i
+pub record Told (n i : ℕ) (g : List ℕ) : Type 0 where
+  pub limits : Limits (length g) n
+  pub genotype : Genotype (length g) n g
+  pub sum : closedSum g ≡ i
 
 -- a genotype is told from what is none
 data Judged (n : ℕ) (g : List ℕ) : Type 0 where
@@ -58,7 +58,7 @@ judged n g = by (limits (length g) n) refl (neverFalls 0 n g) refl
     by true e true d = fine (limited (sym e) refl) (never-falls-is n g .0 d)
 
 module _ {number : ℕ → List ℕ → Answer} (m : Numbers number) where
-  told : (n i : ℕ) (g : List ℕ) → number n g ≡ says 0 (i ∷ []) → Told n i g
+  pub told : (n i : ℕ) (g : List ℕ) → number n g ≡ says 0 (i ∷ []) → Told n i g
   told n i g e = by (judged n g)
     where
       by : Judged n g → Told n i g
@@ -77,12 +77,12 @@ each-long : (p n i : ℕ) → i < length (ordering p n) → length (getD (orderi
 each-long p n i h = rises-ploidy (listed p n i h)
 
 -- where g is given i, it stands there
-record Stood (p n i : ℕ) (g : List ℕ) : Type 0 where
-  limits : Limits p n
-  under : i < length (ordering p n)
-  here : getD (ordering p n) i [] ≡ g
+pub record Stood (p n i : ℕ) (g : List ℕ) : Type 0 where
+  pub limits : Limits p n
+  pub under : i < length (ordering p n)
+  pub here : getD (ordering p n) i [] ≡ g
 
-stood : {number : ℕ → List ℕ → Answer} → Numbers number → (p n i : ℕ) (g : List ℕ) → length g ≡ p → number n g ≡ says 0 (i ∷ []) → Stood p n i g
+pub stood : {number : ℕ → List ℕ → Answer} → Numbers number → (p n i : ℕ) (g : List ℕ) → length g ≡ p → number n g ≡ says 0 (i ∷ []) → Stood p n i g
 stood m p n i g e t =
     let k = told m n i g t in
     let f : Genotype p n g = rw e at (k .genotype) in
@@ -205,7 +205,7 @@ held : {number : ℕ → List ℕ → Answer} → Numbers number → (p n : ℕ)
 held m p n row x l h =
     let e = length-ordering p n in
     let t : take (howMany p n * p) x ≡ flatten (ordering p n) =
-        rw e at (flat-back p (ordering p n) x (λ i u. h .each i (getD (ordering p n) i []) (each-long p n i u) (there m p n i l (omega arith)))) in
+    rw e at (flat-back p (ordering p n) x (λ i u. h .each i (getD (ordering p n) i []) (each-long p n i u) (there m p n i l (omega arith)))) in
     sym (take-append-drop (howMany p n * p) x) ∙ ap₂ (λ (y z : List ℕ). y ++ z) t (h .rest)
 
 both-refused : {k : ℕ} {row : List ℕ} {o o′ : Outcome} → Refused k row o → Refused k row o′ → o ≡ o′
