@@ -2,6 +2,7 @@
 use mathlib.Core.Path.{_≡_, refl}
 use mathlib.Core.List.{[], _∷_}
 use Rattle.numbering.specs.Ordering.{followed, ordering}
+use Rattle.numbering.specs.Closed.{choose, sumFrom, closedSum}
 
 pub two-of-two : ordering 2 2 ≡ (0 ∷ 0 ∷ []) ∷ (0 ∷ 1 ∷ []) ∷ (1 ∷ 1 ∷ []) ∷ []
 unfolding ordering followed
