@@ -1,10 +1,12 @@
 //! bench DIR MEGABYTES [ROW]: the Rust and ours, on the same bytes, in turn; prints a table. DIR has the files of `gen`,
 //! of so many megabytes. ROW: that row alone, to look where its time goes.
+mod clock;
 mod inputs;
 mod ours;
 mod side;
 mod theirs;
 
+use clock::{median, now};
 use inputs::{Input, Place};
 use side::{Room, Tally};
 use std::hint::black_box;
@@ -77,24 +79,6 @@ fn plain_read(bytes: &[u8]) -> u64 {
     bytes.chunks_exact(8).fold(0, |sum, eight| sum.wrapping_add(word(eight)))
 }
 
-#[repr(C)]
-struct Timespec {
-    seconds: i64,
-    nanoseconds: i64,
-}
-
-unsafe extern "C" {
-    fn clock_gettime(clock: i32, time: *mut Timespec) -> i32;
-}
-
-/// The time that this thread has had of a processor: what others take of it does not count.
-fn now() -> f64 {
-    const THREAD_TIME: i32 = 3;
-    let mut time = Timespec { seconds: 0, nanoseconds: 0 };
-    assert_eq!(unsafe { clock_gettime(THREAD_TIME, &mut time) }, 0, "a clock");
-    time.seconds as f64 + time.nanoseconds as f64 / 1e9
-}
-
 /// The seconds of one pass over bytes that were read just before, whatever ran between.
 fn seconds<T>(bytes: &[u8], mut pass: impl FnMut() -> T) -> f64 {
     let passes = 1 + LEAST / bytes.len();
@@ -104,11 +88,6 @@ fn seconds<T>(bytes: &[u8], mut pass: impl FnMut() -> T) -> f64 {
         black_box(pass());
     }
     (now() - start) / passes as f64
-}
-
-fn median(mut times: Vec<f64>) -> f64 {
-    times.sort_by(f64::total_cmp);
-    times[times.len() / 2]
 }
 
 /// Both sides of a row once, their findings and what they wrote held to each other.
