@@ -17,13 +17,21 @@ use Rattle.text.proofs.OutcomeLaws.{same-outcome}
 use Rattle.numbering.specs.Ordering.{ordering}
 use Rattle.numbering.specs.Closed.{howMany, closedSum}
 use Rattle.numbering.specs.Demands.{Genotype, Limits, Counts, Numbers, Refused, Places, Holds, Lists, Four, OneEach}
-use Rattle.numbering.specs.Answers.{limits, countAnswer, numberAnswer, genotypeAnswer, listAnswer, genotypeOutcome, listOutcome}
+use Rattle.numbering.specs.Answers.{limits, countAnswer, numberAnswer, genotypeAnswer, listAnswer, genotypeLeft, allLeft}
 use Rattle.numbering.specs.Inner.{neverFalls}
 use Rattle.numbering.proofs.OrderLaws.{length-ordering, listed, numbered, rises-ploidy, rises-genotype, genotype-stands}
 use Rattle.numbering.proofs.LimitLaws.{limited, limits-yes, limits-no}
 use Rattle.numbering.proofs.NumberLaws.{never-falls-is, answer-is, answer-none, answer-limits}
 use Rattle.numbering.proofs.FlatLaws.{flat-at, flat-back}
 use Rattle.numbering.proofs.ListLaws.{length-all}
+
+-- ---- answers with the row that is left
+
+abbrev genotypeOutcome : ℕ → ℕ → ℕ → List ℕ → Outcome
+genotypeOutcome i p n row = record { answer = genotypeAnswer i p n (length row); output = genotypeLeft i p n row }
+
+abbrev listOutcome : ℕ → ℕ → List ℕ → Outcome
+listOutcome p n row = record { answer = listAnswer p n (length row); output = allLeft p n row }
 
 -- ---- what is known of a genotype, a number and the limits
 
@@ -115,19 +123,19 @@ module _ {number : ℕ → List ℕ → Answer} (m : Numbers number) where
     good = stood-at (stood m p n i g e t)
 
     place-done : p ≤ length row → genotypeOutcome i p n row .answer ≡ says 0 (p ∷ [])
-    unfolding genotypeOutcome genotypeAnswer
+    unfolding genotypeAnswer
     place-done h = rw (good, le-leb p (length row) h)
 
     place-written : p ≤ length row → genotypeOutcome i p n row .output ≡ over g row
-    unfolding genotypeOutcome genotypeAnswer
+    unfolding genotypeAnswer
     place-written h = rw (good, le-leb p (length row) h, stood m p n i g e t .here) refl
 
     place-short : length row < p → Refused 17 row (genotypeOutcome i p n row)
-    unfolding genotypeOutcome genotypeAnswer
+    unfolding genotypeAnswer
     place-short h = let f = lt-leb p (length row) h in record { answer = rw (good, f); left = rw (good, f) }
 
   place-other : (i p n : ℕ) (row : List ℕ) → ((g : List ℕ) → length g ≡ p → number n g ≡ says 0 (i ∷ []) → ⊥) → Refused 23 row (genotypeOutcome i p n row)
-  unfolding genotypeOutcome genotypeAnswer
+  unfolding genotypeAnswer
   place-other i p n row z = by (isAt p n i) refl
     where
       by : (b : Bool) → isAt p n i ≡ b → Refused 23 row (genotypeOutcome i p n row)
@@ -165,11 +173,11 @@ module _ {count : ℕ → ℕ → Answer} (k : Counts count) {number : ℕ → L
     room = flat-long p n ∙ ap (λ (j : ℕ). j * p) (sym (counted k p n c e .1))
 
     list-done : c * p ≤ length row → listOutcome p n row .answer ≡ says 0 (c ∷ [])
-    unfolding listOutcome listAnswer
+    unfolding listAnswer
     list-done h = let q = counted k p n c e in rw (q .0, le-leb (length (flatten (ordering p n))) (length row) (let r = room in omega arith), q .1)
 
     written : c * p ≤ length row → listOutcome p n row .output ≡ flatten (ordering p n) ++ drop (c * p) row
-    unfolding listOutcome listAnswer
+    unfolding listAnswer
     written h = rw (counted k p n c e .0, le-leb (length (flatten (ordering p n))) (length row) (let r = room in omega arith)) (over-is (flatten (ordering p n)) row ∙ rw room refl)
 
     list-holds : c * p ≤ length row → Holds number c p n row (listOutcome p n row .output)
@@ -184,14 +192,14 @@ module _ {count : ℕ → ℕ → Answer} (k : Counts count) {number : ℕ → L
         })
 
     list-short : length row < c * p → Refused 17 row (listOutcome p n row)
-    unfolding listOutcome listAnswer
+    unfolding listAnswer
     list-short h =
         let f = lt-leb (length (flatten (ordering p n))) (length row) (let r = room in omega arith) in
         let q = counted k p n c e .0 in
         record { answer = rw (q, f); left = rw (q, f) }
 
   list-other : (p n : ℕ) (row : List ℕ) → count p n ≡ says 23 [] → Refused 23 row (listOutcome p n row)
-  unfolding listOutcome listAnswer
+  unfolding listAnswer
   list-other p n row e = let f = uncounted k p n e in record { answer = rw f; left = rw f }
 
   pub lists : Lists count number listOutcome

@@ -7,7 +7,6 @@ use lib.ListN.{length, getD}
 use lib.Dec.{leb, ltb}
 use Rattle.text.specs.Pick.{pick, within}
 use Rattle.text.specs.Answer.{Answer, says}
-use Rattle.text.specs.Outcome.{Outcome}
 use Rattle.text.specs.Over.{laid}
 use Rattle.text.specs.First.{firstWhere}
 use Rattle.text.specs.Same.{same}
@@ -43,12 +42,12 @@ genotypeAnswer i p n room = filling (limits p n && ltb i (length (ordering p n))
 unfoldable pub listAnswer : ℕ → ℕ → ℕ → Answer
 listAnswer p n room = filling (limits p n) (length (flatten (ordering p n))) room (length (ordering p n))
 
--- ---- with the row
+-- ---- the row
 
--- genotype i over the row's first numbers, where there is one and it fits
-unfoldable pub genotypeOutcome : ℕ → ℕ → ℕ → List ℕ → Outcome
-genotypeOutcome i p n row = record { answer = genotypeAnswer i p n (length row); output = laid (genotypeAnswer i p n (length row)) (getD (ordering p n) i []) row }
+-- genotype i over its first numbers, if the answer is 0
+abbrev pub genotypeLeft : ℕ → ℕ → ℕ → List ℕ → List ℕ
+genotypeLeft i p n row = laid (genotypeAnswer i p n (length row)) (getD (ordering p n) i []) row
 
 -- all genotypes over them, one after the other
-unfoldable pub listOutcome : ℕ → ℕ → List ℕ → Outcome
-listOutcome p n row = record { answer = listAnswer p n (length row); output = laid (listAnswer p n (length row)) (flatten (ordering p n)) row }
+abbrev pub allLeft : ℕ → ℕ → List ℕ → List ℕ
+allLeft p n row = laid (listAnswer p n (length row)) (flatten (ordering p n)) row

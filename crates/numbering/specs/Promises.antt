@@ -1,12 +1,10 @@
 -- The promise of each public function of this crate, by its name, and that each determines the outcome. Assumes nothing.
 use Prim.Native.Nat.{ℕ}
 use mathlib.Core.Path.{_≡_}
-use mathlib.Core.List.{List, [], flatten}
-use lib.ListN.{length, getD}
+use mathlib.Core.List.{List}
+use lib.ListN.{length}
 use Rattle.text.specs.Outcome.{OneAnswer, OneOutcome}
-use Rattle.text.specs.Over.{laid}
-use Rattle.numbering.specs.Ordering.{ordering}
-use Rattle.numbering.specs.Answers.{countAnswer, numberAnswer, genotypeAnswer, listAnswer}
+use Rattle.numbering.specs.Answers.{countAnswer, numberAnswer, genotypeAnswer, listAnswer, genotypeLeft, allLeft}
 use Rattle.numbering.specs.Paper.{numberPaper, filledPaper}
 use Rattle.numbering.specs.declared.counts.Numbered.{Numbered}
 use Rattle.numbering.specs.declared.genotype.Filled.{Filled}
@@ -17,15 +15,13 @@ CountsGenotypes p n r = numberPaper r ≡ countAnswer p n
 abbrev pub NumbersGenotype : List ℕ → ℕ → Numbered → Type 0
 NumbersGenotype g n r = numberPaper r ≡ numberAnswer n g
 
--- genotype i is written over the start of l, if the answer is 0
 pub record PlacesGenotype (i p n : ℕ) (l : List ℕ) (r : Filled) (l′ : List ℕ) : Type 0 where
   pub answer : filledPaper r ≡ genotypeAnswer i p n (length l)
-  pub row : l′ ≡ laid (genotypeAnswer i p n (length l)) (getD (ordering p n) i []) l
+  pub row : l′ ≡ genotypeLeft i p n l
 
--- all genotypes are, one after the other
 pub record ListsAll (p n : ℕ) (l : List ℕ) (r : Filled) (l′ : List ℕ) : Type 0 where
   pub answer : filledPaper r ≡ listAnswer p n (length l)
-  pub row : l′ ≡ laid (listAnswer p n (length l)) (flatten (ordering p n)) l
+  pub row : l′ ≡ allLeft p n l
 
 pub record Determined : Type 0 where
   pub count-of : (p n : ℕ) → OneAnswer (CountsGenotypes p n)
