@@ -68,6 +68,7 @@ enum bruncadorza_number {
     BRUNCADORZA_FEW_COLUMNS = 19,     /* joiner: fewer than eight columns, or nine */
     BRUNCADORZA_ABOVE_ALT = 20,       /* checked reader: an allele number is above the ALT count */
     BRUNCADORZA_BAD_POS = 21,         /* POS is bad */
+    BRUNCADORZA_OUT_OF_RANGE = 23,    /* a ploidy, allele count, allele or genotype number out of range */
     BRUNCADORZA_NOT_MADE = 32         /* a form of a line's record that bruncadorza_read_line makes on no input */
 };
 
@@ -243,6 +244,31 @@ uint64_t bruncadorza_read_genotype_checked(const uint8_t *text, size_t text_n, c
 uint64_t bruncadorza_write_genotype(const uint64_t *numbers, size_t numbers_n, const uint8_t *missing, size_t missing_n,
                                     const uint8_t *phased, size_t phased_n, uint32_t major, uint32_t minor,
                                     uint8_t *out, size_t out_n, size_t at,
+                                    uint64_t values[BRUNCADORZA_VALUES]);
+
+/* Genotype numbers. A genotype here is its alleles alone, as numbers in an order that never falls; how many there are is its
+   ploidy, 1 to 8. The alleles are 0 to alleles - 1, for an allele count `alleles` of 1 to 64. The genotypes of one ploidy are
+   numbered from 0 in the order in which VCF 4.4 lists the likelihoods of a sample: 0/0, 0/1, 1/1, 0/2, .. for ploidy 2. Anything
+   out of range answers 23, whatever the length of `row`: 23 comes before 17. Only 0 changes `row`, and a longer one keeps its
+   rest. */
+
+/* How many genotypes there are, which is how many likelihoods a sample has. 0: how many. Or 23. */
+uint64_t bruncadorza_count_genotypes(uint64_t ploidy, uint64_t alleles,
+                                     uint64_t values[BRUNCADORZA_VALUES]);
+
+/* The number of a genotype, whose ploidy is genotype_n. 0: the number. 23 also where the alleles fall, or one is no allele. */
+uint64_t bruncadorza_genotype_number(const uint64_t *genotype, size_t genotype_n, uint64_t alleles,
+                                     uint64_t values[BRUNCADORZA_VALUES]);
+
+/* Writes the genotype with the number `number` at the start of `row`. 0: the ploidy, which is how many were written. 23 also where
+   no genotype has that number. 17 where row_n is below the ploidy. */
+uint64_t bruncadorza_genotype_at(uint64_t number, uint64_t ploidy, uint64_t alleles, uint64_t *row, size_t row_n,
+                                 uint64_t values[BRUNCADORZA_VALUES]);
+
+/* Writes all genotypes at the start of `row`, one after the other in the order of their numbers, so that genotype i starts at
+   row[i * ploidy]. 0: how many genotypes. Or 23; 17 where row_n is below their count (bruncadorza_count_genotypes) times the
+   ploidy. */
+uint64_t bruncadorza_list_genotypes(uint64_t ploidy, uint64_t alleles, uint64_t *row, size_t row_n,
                                     uint64_t values[BRUNCADORZA_VALUES]);
 
 /* Filters, ALT and joining. A list is one text and the end of each entry: the first entry starts at 0, each later one at the end

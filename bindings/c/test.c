@@ -475,6 +475,141 @@ static void written_genotypes(void) {
     CHECK(memcmp(out, "e|./12e", 8) == 0);
 }
 
+/* How many genotypes there are, at each limit and one past it. */
+static void counted_genotypes(void) {
+    uint64_t values[BRUNCADORZA_VALUES];
+
+    CHECK(bruncadorza_count_genotypes(2, 3, values) == BRUNCADORZA_DONE && one(values, 6));
+    CHECK(bruncadorza_count_genotypes(1, 1, values) == BRUNCADORZA_DONE && one(values, 1));
+    CHECK(bruncadorza_count_genotypes(1, 64, values) == BRUNCADORZA_DONE && one(values, 64));
+    CHECK(bruncadorza_count_genotypes(8, 1, values) == BRUNCADORZA_DONE && one(values, 1));
+    CHECK(bruncadorza_count_genotypes(8, 64, values) == BRUNCADORZA_DONE && one(values, UINT64_C(10639125640)));
+    CHECK(bruncadorza_count_genotypes(0, 2, values) == BRUNCADORZA_OUT_OF_RANGE && none(values));
+    CHECK(bruncadorza_count_genotypes(9, 2, values) == BRUNCADORZA_OUT_OF_RANGE && none(values));
+    CHECK(bruncadorza_count_genotypes(2, 0, values) == BRUNCADORZA_OUT_OF_RANGE && none(values));
+    CHECK(bruncadorza_count_genotypes(2, 65, values) == BRUNCADORZA_OUT_OF_RANGE && none(values));
+    CHECK(bruncadorza_count_genotypes((UINT64_C(1) << 32) + 1, 2, values) == BRUNCADORZA_OUT_OF_RANGE && none(values));
+    CHECK(bruncadorza_count_genotypes(UINT64_MAX, UINT64_MAX, values) == BRUNCADORZA_OUT_OF_RANGE && none(values));
+}
+
+static void numbered_genotypes(void) {
+    const uint64_t zeros[9] = {0, 0, 0, 0, 0, 0, 0, 0, 0};
+    const uint64_t last[8] = {63, 63, 63, 63, 63, 63, 63, 63};
+    const uint64_t rising[3] = {0, 1, 1};
+    const uint64_t falling[3] = {1, 1, 0};
+    const uint64_t far[2] = {0, UINT64_MAX};
+    uint64_t values[BRUNCADORZA_VALUES];
+
+    CHECK(bruncadorza_genotype_number(zeros, 1, 1, values) == BRUNCADORZA_DONE && one(values, 0));
+    CHECK(bruncadorza_genotype_number(zeros, 8, 64, values) == BRUNCADORZA_DONE && one(values, 0));
+    CHECK(bruncadorza_genotype_number(rising, 2, 2, values) == BRUNCADORZA_DONE && one(values, 1));
+    CHECK(bruncadorza_genotype_number(rising, 3, 2, values) == BRUNCADORZA_DONE && one(values, 2));
+    CHECK(bruncadorza_genotype_number(rising, 3, 64, values) == BRUNCADORZA_DONE && one(values, 2));
+    CHECK(bruncadorza_genotype_number(last, 1, 64, values) == BRUNCADORZA_DONE && one(values, 63));
+    CHECK(bruncadorza_genotype_number(last, 8, 64, values) == BRUNCADORZA_DONE && one(values, UINT64_C(10639125639)));
+    CHECK(bruncadorza_genotype_number(falling, 3, 2, values) == BRUNCADORZA_OUT_OF_RANGE && none(values));
+    CHECK(bruncadorza_genotype_number(rising, 3, 1, values) == BRUNCADORZA_OUT_OF_RANGE && none(values));
+    CHECK(bruncadorza_genotype_number(last, 8, 63, values) == BRUNCADORZA_OUT_OF_RANGE && none(values));
+    CHECK(bruncadorza_genotype_number(far, 2, 64, values) == BRUNCADORZA_OUT_OF_RANGE && none(values));
+    CHECK(bruncadorza_genotype_number(zeros, 0, 2, values) == BRUNCADORZA_OUT_OF_RANGE && none(values));
+    CHECK(bruncadorza_genotype_number(zeros, 9, 2, values) == BRUNCADORZA_OUT_OF_RANGE && none(values));
+    CHECK(bruncadorza_genotype_number(zeros, 2, 0, values) == BRUNCADORZA_OUT_OF_RANGE && none(values));
+    CHECK(bruncadorza_genotype_number(zeros, 2, 65, values) == BRUNCADORZA_OUT_OF_RANGE && none(values));
+}
+
+/* Whether a row holds these numbers, and then so many times 77. */
+static int row_is(const uint64_t *row, size_t count, const uint64_t *expected, size_t rest) {
+    size_t i;
+    for (i = 0; i < count + rest; i += 1) {
+        if (row[i] != (i < count ? expected[i] : 77)) {
+            return 0;
+        }
+    }
+    return 1;
+}
+
+static void placed_genotypes(void) {
+    const uint64_t second[2] = {0, 1};
+    const uint64_t last[8] = {63, 63, 63, 63, 63, 63, 63, 63};
+    uint64_t row[9] = {77, 77, 77, 77, 77, 77, 77, 77, 77};
+    uint64_t values[BRUNCADORZA_VALUES];
+
+    CHECK(bruncadorza_genotype_at(3, 2, 2, row, 9, values) == BRUNCADORZA_OUT_OF_RANGE && none(values));
+    CHECK(bruncadorza_genotype_at(UINT64_MAX, 2, 2, row, 9, values) == BRUNCADORZA_OUT_OF_RANGE && none(values));
+    CHECK(bruncadorza_genotype_at(UINT64_C(10639125640), 8, 64, row, 9, values) == BRUNCADORZA_OUT_OF_RANGE && none(values));
+    CHECK(bruncadorza_genotype_at(0, 0, 2, row, 9, values) == BRUNCADORZA_OUT_OF_RANGE && none(values));
+    CHECK(bruncadorza_genotype_at(0, 9, 2, row, 9, values) == BRUNCADORZA_OUT_OF_RANGE && none(values));
+    CHECK(bruncadorza_genotype_at(0, 2, 0, row, 9, values) == BRUNCADORZA_OUT_OF_RANGE && none(values));
+    CHECK(bruncadorza_genotype_at(0, 2, 65, row, 9, values) == BRUNCADORZA_OUT_OF_RANGE && none(values));
+    CHECK(bruncadorza_genotype_at(2, 2, 2, row, 1, values) == BRUNCADORZA_SHORT && none(values));
+    CHECK(bruncadorza_genotype_at(0, 8, 64, row, 7, values) == BRUNCADORZA_SHORT && none(values));
+    /* What is out of range goes before a short row. */
+    CHECK(bruncadorza_genotype_at(3, 2, 2, row, 1, values) == BRUNCADORZA_OUT_OF_RANGE && none(values));
+    CHECK(bruncadorza_genotype_at(0, 9, 2, row, 1, values) == BRUNCADORZA_OUT_OF_RANGE && none(values));
+    CHECK(row_is(row, 0, NULL, 9));
+    CHECK(bruncadorza_genotype_at(1, 2, 2, row, 2, values) == BRUNCADORZA_DONE && one(values, 2));
+    CHECK(row_is(row, 2, second, 7));
+    CHECK(bruncadorza_genotype_at(UINT64_C(10639125639), 8, 64, row, 9, values) == BRUNCADORZA_DONE && one(values, 8));
+    CHECK(row_is(row, 8, last, 1));
+}
+
+static void listed_genotypes(void) {
+    const uint64_t one_each[3] = {0, 1, 2};
+    const uint64_t pairs[12] = {0, 0, 0, 1, 1, 1, 0, 2, 1, 2, 2, 2};
+    const uint64_t triples[12] = {0, 0, 0, 0, 0, 1, 0, 1, 1, 1, 1, 1};
+    uint64_t row[14];
+    uint64_t values[BRUNCADORZA_VALUES];
+    size_t i;
+
+    for (i = 0; i < 14; i += 1) {
+        row[i] = 77;
+    }
+    CHECK(bruncadorza_list_genotypes(0, 2, row, 14, values) == BRUNCADORZA_OUT_OF_RANGE && none(values));
+    CHECK(bruncadorza_list_genotypes(9, 2, row, 14, values) == BRUNCADORZA_OUT_OF_RANGE && none(values));
+    CHECK(bruncadorza_list_genotypes(2, 0, row, 14, values) == BRUNCADORZA_OUT_OF_RANGE && none(values));
+    CHECK(bruncadorza_list_genotypes(2, 65, row, 14, values) == BRUNCADORZA_OUT_OF_RANGE && none(values));
+    CHECK(bruncadorza_list_genotypes(UINT64_MAX, UINT64_MAX, row, 14, values) == BRUNCADORZA_OUT_OF_RANGE && none(values));
+    CHECK(bruncadorza_list_genotypes(1, 3, row, 2, values) == BRUNCADORZA_SHORT && none(values));
+    CHECK(bruncadorza_list_genotypes(2, 3, row, 11, values) == BRUNCADORZA_SHORT && none(values));
+    CHECK(bruncadorza_list_genotypes(3, 2, row, 11, values) == BRUNCADORZA_SHORT && none(values));
+    CHECK(bruncadorza_list_genotypes(8, 64, row, 14, values) == BRUNCADORZA_SHORT && none(values));
+    /* What is out of range goes before a short row. */
+    CHECK(bruncadorza_list_genotypes(9, 2, row, 0, values) == BRUNCADORZA_OUT_OF_RANGE && none(values));
+    CHECK(row_is(row, 0, NULL, 14));
+    CHECK(bruncadorza_list_genotypes(1, 3, row, 14, values) == BRUNCADORZA_DONE && one(values, 3));
+    CHECK(row_is(row, 3, one_each, 11));
+    CHECK(bruncadorza_list_genotypes(2, 3, row, 12, values) == BRUNCADORZA_DONE && one(values, 6));
+    CHECK(row_is(row, 12, pairs, 2));
+    CHECK(bruncadorza_list_genotypes(3, 2, row, 14, values) == BRUNCADORZA_DONE && one(values, 4));
+    CHECK(row_is(row, 12, triples, 2));
+    CHECK(bruncadorza_list_genotypes(8, 1, row, 7, values) == BRUNCADORZA_SHORT && none(values));
+    CHECK(row_is(row, 12, triples, 2));
+}
+
+/* Each ploidy with 1 to 4 alleles: every genotype of the list has its place as its number, and is what its number gives. */
+static void genotypes_there_and_back(void) {
+    uint64_t row[165 * 8];
+    uint64_t genotype[8];
+    uint64_t values[BRUNCADORZA_VALUES];
+    uint64_t ploidy;
+    uint64_t alleles;
+    uint64_t count;
+    uint64_t i;
+
+    for (ploidy = 1; ploidy <= 8; ploidy += 1) {
+        for (alleles = 1; alleles <= 4; alleles += 1) {
+            CHECK(bruncadorza_list_genotypes(ploidy, alleles, row, 165 * 8, values) == BRUNCADORZA_DONE && values[0] == 1);
+            count = values[1];
+            CHECK(bruncadorza_count_genotypes(ploidy, alleles, values) == BRUNCADORZA_DONE && one(values, count));
+            for (i = 0; i < count; i += 1) {
+                CHECK(bruncadorza_genotype_number(&row[i * ploidy], ploidy, alleles, values) == BRUNCADORZA_DONE && one(values, i));
+                CHECK(bruncadorza_genotype_at(i, ploidy, alleles, genotype, 8, values) == BRUNCADORZA_DONE && one(values, ploidy));
+                CHECK(memcmp(genotype, &row[i * ploidy], ploidy * sizeof(uint64_t)) == 0);
+            }
+        }
+    }
+}
+
 static void written_lists(void) {
     const size_t ends[2] = {2, 4};
     const size_t fallen[2] = {2, 1};
@@ -573,6 +708,26 @@ static void behind_values(void) {
     CHECK(values[1] == 1 && values[2] == 2 && values[3] == 77 && values[7] == 77);
 }
 
+/* Nor behind those of the four functions on genotype numbers. */
+static void behind_numbers(void) {
+    const uint64_t genotype[2] = {0, 1};
+    uint64_t row[4];
+    uint64_t values[BRUNCADORZA_VALUES] = {77, 77, 77, 77, 77, 77, 77, 77};
+
+    CHECK(bruncadorza_count_genotypes(0, 2, values) == BRUNCADORZA_OUT_OF_RANGE && none(values));
+    CHECK(bruncadorza_genotype_number(genotype, 2, 1, values) == BRUNCADORZA_OUT_OF_RANGE && none(values));
+    CHECK(bruncadorza_genotype_at(3, 2, 2, row, 4, values) == BRUNCADORZA_OUT_OF_RANGE && none(values));
+    CHECK(bruncadorza_genotype_at(2, 2, 2, row, 1, values) == BRUNCADORZA_SHORT && none(values));
+    CHECK(bruncadorza_list_genotypes(2, 65, row, 4, values) == BRUNCADORZA_OUT_OF_RANGE && none(values));
+    CHECK(bruncadorza_list_genotypes(2, 2, row, 4, values) == BRUNCADORZA_SHORT && none(values));
+    CHECK(row_is(&values[1], 0, NULL, 7));
+    CHECK(bruncadorza_count_genotypes(2, 2, values) == BRUNCADORZA_DONE && one(values, 3));
+    CHECK(bruncadorza_genotype_number(genotype, 2, 2, values) == BRUNCADORZA_DONE && one(values, 1));
+    CHECK(bruncadorza_genotype_at(2, 2, 2, row, 4, values) == BRUNCADORZA_DONE && one(values, 2));
+    CHECK(bruncadorza_list_genotypes(1, 4, row, 4, values) == BRUNCADORZA_DONE && one(values, 4));
+    CHECK(row_is(&values[2], 0, NULL, 6));
+}
+
 /* A place beyond the output is refused first and missing room last, whatever else is wrong. Only the joiner has a refusal before
    these: of a number that is no ending. */
 static void order_of_writers(void) {
@@ -642,6 +797,9 @@ static void empty_slices(void) {
     CHECK(bruncadorza_read_genotype(BYTES("0"), NULL, 0, NULL, 0, NULL, 0, values) == BRUNCADORZA_SHORT && none(values));
     CHECK(bruncadorza_read_genotype_checked(BYTES("1"), NULL, 0, NULL, 0, NULL, 0, NULL, 0, values) == BRUNCADORZA_ABOVE_ALT && one(values, 0));
     CHECK(bruncadorza_write_genotype(NULL, 0, NULL, 0, NULL, 0, 4, 4, NULL, 0, 0, values) == BRUNCADORZA_GENOTYPE_EMPTY && none(values));
+    CHECK(bruncadorza_genotype_number(NULL, 0, 2, values) == BRUNCADORZA_OUT_OF_RANGE && none(values));
+    CHECK(bruncadorza_genotype_at(0, 1, 1, NULL, 0, values) == BRUNCADORZA_SHORT && none(values));
+    CHECK(bruncadorza_list_genotypes(1, 1, NULL, 0, values) == BRUNCADORZA_SHORT && none(values));
     CHECK(bruncadorza_judge_filter(NULL, 0) == BRUNCADORZA_BAD_FILTER);
     CHECK(bruncadorza_judge_alt(NULL, 0) == BRUNCADORZA_BAD_ALT);
     CHECK(bruncadorza_alt_count(NULL, 0) == 0);
@@ -666,10 +824,16 @@ int main(void) {
     judged_genotypes();
     read_genotypes();
     written_genotypes();
+    counted_genotypes();
+    numbered_genotypes();
+    placed_genotypes();
+    listed_genotypes();
+    genotypes_there_and_back();
     written_lists();
     joined_columns();
     joined_endings();
     behind_values();
+    behind_numbers();
     order_of_writers();
     empty_slices();
     printf("%d of %d checks hold\n", checks - wrong, checks);

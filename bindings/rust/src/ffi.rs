@@ -80,6 +80,20 @@ extern "C" {
         values: &mut [u64; VALUES],
     ) -> u64;
 
+    fn bruncadorza_count_genotypes(ploidy: u64, alleles: u64, values: &mut [u64; VALUES]) -> u64;
+    fn bruncadorza_genotype_number(
+        genotype: *const u64, genotype_n: usize, alleles: u64,
+        values: &mut [u64; VALUES],
+    ) -> u64;
+    fn bruncadorza_genotype_at(
+        number: u64, ploidy: u64, alleles: u64, row: *mut u64, row_n: usize,
+        values: &mut [u64; VALUES],
+    ) -> u64;
+    fn bruncadorza_list_genotypes(
+        ploidy: u64, alleles: u64, row: *mut u64, row_n: usize,
+        values: &mut [u64; VALUES],
+    ) -> u64;
+
     fn bruncadorza_judge_filter(filter: *const u8, filter_n: usize) -> u64;
     fn bruncadorza_judge_alt(alt: *const u8, alt_n: usize) -> u64;
     fn bruncadorza_alt_count(column: *const u8, column_n: usize) -> u64;
@@ -350,6 +364,28 @@ pub(crate) fn write_genotype(
             at,
             values,
         )
+    })
+}
+
+pub(crate) fn count_genotypes(ploidy: u64, alleles: u64) -> Told {
+    Told::by(|values| unsafe { bruncadorza_count_genotypes(ploidy, alleles, values) })
+}
+
+pub(crate) fn genotype_number(genotype: &[u64], alleles: u64) -> Told {
+    Told::by(|values| unsafe {
+        bruncadorza_genotype_number(genotype.as_ptr(), genotype.len(), alleles, values)
+    })
+}
+
+pub(crate) fn genotype_at(number: u64, ploidy: u64, alleles: u64, row: &mut [u64]) -> Told {
+    Told::by(|values| unsafe {
+        bruncadorza_genotype_at(number, ploidy, alleles, row.as_mut_ptr(), row.len(), values)
+    })
+}
+
+pub(crate) fn list_genotypes(ploidy: u64, alleles: u64, row: &mut [u64]) -> Told {
+    Told::by(|values| unsafe {
+        bruncadorza_list_genotypes(ploidy, alleles, row.as_mut_ptr(), row.len(), values)
     })
 }
 

@@ -46,6 +46,7 @@ pub mod info;
 pub mod join;
 pub mod line;
 pub mod lists;
+pub mod numbering;
 pub mod samples;
 pub mod spelling;
 pub mod splitter;

@@ -3,7 +3,7 @@
 //!
 //! Functions that no verb asks for (the judges of a genotype and of an entry, the iterators) are held to the answers of the verbs
 //! beside them, and so are all steps over a genotype together. The line reader and the joiner are held to each other, and so are the
-//! two line readers and the ways between the two forms of a line's record.
+//! two line readers, the ways between the two forms of a line's record, and the four functions on the numbers of genotypes.
 
 use std::collections::BTreeMap;
 use std::fmt::Write as _;
@@ -13,15 +13,16 @@ use std::path::Path;
 
 use bruncadorza::text::Range;
 use bruncadorza::{
-    alleles, decimal, fields, forms, genotype, info, join, line, lists, samples, spelling,
-    splitter, text,
+    alleles, decimal, fields, forms, genotype, info, join, line, lists, numbering, samples,
+    spelling, splitter, text,
 };
 use forms::{Narrowed, SmallRecord, Wide, Widened};
 use genotype::Allele;
 use line::Ending;
+use numbering::{Filled, Numbered};
 
 /// Every verb that a case can have.
-const VERBS: [&str; 35] = [
+const VERBS: [&str; 39] = [
     "utf8",
     "space",
     "decimal",
@@ -53,6 +54,10 @@ const VERBS: [&str; 35] = [
     "write",
     "writeunequal",
     "writealleles",
+    "number",
+    "genotype",
+    "genotypes",
+    "genotypecount",
     "filters",
     "alts",
     "altcount",
@@ -174,6 +179,18 @@ fn a_wrong_answer_is_seen() {
         ("write 4 4 1 0 1:1:1", "12 0 0 ee"),
         ("writeunequal 1 1 0 1", "16 ef"),
         ("writealleles 4 4 1 0 1:0:1", "17 ee"),
+        ("number 2 0,1", "0 2"),
+        ("number 2 1,0", "0 1"),
+        ("number 2 -", "0 0"),
+        ("genotype 1 2 2 3", "0 2 0,1"),
+        ("genotype 1 2 2 3", "0 2 1,0,7"),
+        ("genotype 3 2 2 1", "17 7"),
+        ("genotype 2 2 2 1", "17 1"),
+        ("genotypes 2 2 6", "0 3 0,0,1,0,1,1"),
+        ("genotypes 2 2 7", "0 6 0,0,0,1,1,1,7"),
+        ("genotypes 9 1 0", "17 -"),
+        ("genotypecount 2 3", "0 5"),
+        ("genotypecount 9 1", "0 1"),
         ("filters 1 0 - -", "0 1 2f"),
         ("alts 1 0 2c 1", "15 1 ee"),
         ("altcount -", "1"),
@@ -344,6 +361,14 @@ fn answer(words: &[&str]) -> String {
         ["writealleles", major, minor, room, at, ref list @ ..] => {
             write_alleles((half(major), half(minor)), size(room), size(at), list)
         }
+        ["number", alleles, genotype] => number_of(number(alleles), &joined(genotype, number)),
+        ["genotype", n, ploidy, alleles, row] => {
+            genotype_of(number(n), number(ploidy), number(alleles), size(row))
+        }
+        ["genotypes", ploidy, alleles, row] => list_all(number(ploidy), number(alleles), size(row)),
+        ["genotypecount", ploidy, alleles] => {
+            said_numbered(numbering::count_of(number(ploidy), number(alleles)))
+        }
         ["filters", room, at, s, e] => filters(size(room), size(at), &bytes(s), &ends(e)),
         ["alts", room, at, s, e] => alts(size(room), size(at), &bytes(s), &ends(e)),
         ["altcount", s] => lists::alt_count(&bytes(s)).to_string(),
@@ -396,11 +421,15 @@ fn sizes(words: &[&str]) -> Vec<usize> {
 }
 
 /// Numbers joined by commas, `-` for none.
-fn ends(word: &str) -> Vec<usize> {
+fn joined<T>(word: &str, of: fn(&str) -> T) -> Vec<T> {
     match word {
         "-" => Vec::new(),
-        _ => word.split(',').map(size).collect(),
+        _ => word.split(',').map(of).collect(),
     }
+}
+
+fn ends(word: &str) -> Vec<usize> {
+    joined(word, size)
 }
 
 /// `number:missing:phased` each, or `-` for none.
@@ -867,6 +896,61 @@ fn write_alleles(file_format: (u32, u32), room: usize, at: usize, words: &[&str]
     let mut out = vec![0xEE; room];
     let written = alleles::write_alleles(&list, file_format, &mut out, at);
     said_write(written, &out)
+}
+
+// Genotypes by number
+
+fn said_numbered(numbered: Numbered) -> String {
+    match numbered {
+        Numbered::Is(n) => format!("{} {n}", numbered.number()),
+        Numbered::Wrong => said(numbered.number(), None),
+    }
+}
+
+fn said_filled(filled: Filled, row: &[u64]) -> String {
+    let said = match filled {
+        Filled::Done(n) => format!("{} {n}", filled.number()),
+        Filled::Wrong | Filled::Short => said(filled.number(), None),
+    };
+    format!("{said} {}", row_of(row))
+}
+
+fn number_of(alleles: u64, genotype: &[u64]) -> String {
+    let numbered = numbering::number_of(genotype, alleles);
+    if let Numbered::Is(n) = numbered {
+        let mut row = vec![7; genotype.len()];
+        let ploidy = row.len() as u64;
+        let filled = numbering::genotype_of(n, ploidy, alleles, &mut row);
+        assert_eq!((filled, &row[..]), (Filled::Done(ploidy), genotype));
+    }
+    said_numbered(numbered)
+}
+
+fn genotype_of(n: u64, ploidy: u64, alleles: u64, room: usize) -> String {
+    let mut row = vec![7; room];
+    let filled = numbering::genotype_of(n, ploidy, alleles, &mut row);
+    if let Filled::Done(count) = filled {
+        let genotype = &row[..count as usize];
+        assert_eq!(numbering::number_of(genotype, alleles), Numbered::Is(n));
+    }
+    said_filled(filled, &row)
+}
+
+fn list_all(ploidy: u64, alleles: u64, room: usize) -> String {
+    let mut row = vec![7; room];
+    let filled = numbering::list_all(ploidy, alleles, &mut row);
+    let count = numbering::count_of(ploidy, alleles);
+    match filled {
+        Filled::Done(n) => {
+            assert_eq!(count, Numbered::Is(n));
+            for (i, genotype) in (0..n).zip(row.chunks(ploidy as usize)) {
+                assert_eq!(numbering::number_of(genotype, alleles), Numbered::Is(i));
+            }
+        }
+        Filled::Wrong => assert_eq!(count, Numbered::Wrong),
+        Filled::Short => assert!(matches!(count, Numbered::Is(n) if n * ploidy > room as u64)),
+    }
+    said_filled(filled, &row)
 }
 
 // Lists and columns

@@ -28,6 +28,7 @@ use Rattle.allele.specs.Reading as Genotype
 use Rattle.genotype.specs.Answers.{textAnswer, checkedText, slicesAnswer, checkedSlices}
 use Rattle.spelling.specs.Permitted.{from44}
 use Rattle.spelling.specs.Write as Spelling
+use Rattle.numbering.specs.Answers.{countAnswer, numberAnswer, genotypeAnswer, listAnswer, genotypeLeft, allLeft}
 use Rattle.exports.specs.Told.{Judges, Tells, TellsWriting, TellsReading}
 use Rattle.exports.specs.Places.{namedAnswer, endedAnswer, endedLeft, widenedAnswer, narrowedAnswer}
 
@@ -118,6 +119,20 @@ abbrev pub WritesGenotype : List ℕ → List ℕ → List ℕ → ℕ → ℕ �
 WritesGenotype n m p major minor out at l r out′ l′ =
     TellsWriting (Spelling.rowAnswer n m p (from44 major minor) out at) (Spelling.rowLeft n m p (from44 major minor) out at) l r out′ l′
 
+-- ---- genotypes by number
+
+abbrev pub CountsGenotypes : ℕ → ℕ → List ℕ → ℕ → List ℕ → Type 0
+CountsGenotypes p n l r l′ = Tells (countAnswer p n) l r l′
+
+abbrev pub NumbersGenotype : List ℕ → ℕ → List ℕ → ℕ → List ℕ → Type 0
+NumbersGenotype g n l r l′ = Tells (numberAnswer n g) l r l′
+
+abbrev pub PlacesGenotype : ℕ → ℕ → ℕ → List ℕ → List ℕ → ℕ → List ℕ → List ℕ → Type 0
+PlacesGenotype i p n row l r row′ l′ = TellsWriting (genotypeAnswer i p n (length row)) (genotypeLeft i p n row) l r row′ l′
+
+abbrev pub ListsGenotypes : ℕ → ℕ → List ℕ → List ℕ → ℕ → List ℕ → List ℕ → Type 0
+ListsGenotypes p n row l r row′ l′ = TellsWriting (listAnswer p n (length row)) (allLeft p n row) l r row′ l′
+
 -- ---- filters, ALT and joining
 
 abbrev pub JudgesFilter : List ℕ → ℕ → Type 0
@@ -176,6 +191,10 @@ pub record Determined : Type 0 where
   pub read-genotype : (t n m p l : List ℕ) → OneReading (ReadsGenotype t n m p l)
   pub read-genotype-checked : (t alt n m p l : List ℕ) → OneReading (ReadsChecked t alt n m p l)
   pub write-genotype : (n m p : List ℕ) (major minor : ℕ) (out : List ℕ) (at : ℕ) (l : List ℕ) → OneWriting (WritesGenotype n m p major minor out at l)
+  pub count-genotypes : (p n : ℕ) (l : List ℕ) → OneOutcome (CountsGenotypes p n l)
+  pub genotype-number : (g : List ℕ) (n : ℕ) (l : List ℕ) → OneOutcome (NumbersGenotype g n l)
+  pub genotype-at : (i p n : ℕ) (row l : List ℕ) → OneWriting (PlacesGenotype i p n row l)
+  pub list-genotypes : (p n : ℕ) (row l : List ℕ) → OneWriting (ListsGenotypes p n row l)
   pub judge-filter : (filter : List ℕ) → OneAnswer (JudgesFilter filter)
   pub judge-alt : (alt : List ℕ) → OneAnswer (JudgesAlt alt)
   pub alt-count : (column : List ℕ) → OneAnswer (CountsAlts column)

@@ -6,6 +6,7 @@ pub mod genotypes;
 pub mod infos;
 pub mod leaves;
 pub mod lines;
+pub mod numbers;
 pub mod plain;
 pub mod records;
 pub mod sampling;
