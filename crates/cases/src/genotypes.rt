@@ -8,6 +8,7 @@ use crate::output::put_number;
 use crate::output::put_said;
 use crate::output::then_bytes;
 use crate::output::then_number;
+use crate::output::then_numbers;
 use crate::parts::byte_at;
 use crate::parts::front;
 use crate::parts::front_numbers;
@@ -222,7 +223,7 @@ fn put_apart(
 ) -> Place {
     let read = read_genotype(s, numbers, missing, phased);
     let next = put_said(out, at, said(read));
-    let next = then_numbers(numbers, out, next);
+    let next = then_numbers(out, next, numbers);
     let next = then_marks(missing, out, next);
     then_marks(phased, out, next)
 }
@@ -231,21 +232,7 @@ fn wide(b: u8) -> u64 {
     b as u64
 }
 
-// A space and numbers joined by commas, or a space and `-` for none.
-fn then_numbers(numbers: &[u64], out: &mut Buffer, at: Place) -> Place {
-    if numbers.len() == 0 {
-        return then_bytes(out, at, b"-");
-    }
-    let mut next = then_number(out, at, numbers[0]);
-    let mut k = 1;
-    while k < numbers.len() {
-        next = put_byte(out, next, b',');
-        next = put_number(out, next, numbers[k]);
-        k += 1;
-    }
-    next
-}
-
+// A space and marks joined by commas, or a space and `-` for none.
 fn then_marks(marks: &[u8], out: &mut Buffer, at: Place) -> Place {
     if marks.len() == 0 {
         return then_bytes(out, at, b"-");

@@ -5,6 +5,7 @@ mod input;
 mod joining;
 mod leaves;
 mod lines;
+mod numbers;
 mod output;
 mod parts;
 mod rows;

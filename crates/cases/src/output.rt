@@ -107,6 +107,21 @@ pub fn then_each(out: &mut Buffer, at: Place, numbers: &[usize]) -> Place {
     next
 }
 
+// A space and numbers joined by commas, or a space and `-` for none.
+pub fn then_numbers(out: &mut Buffer, at: Place, numbers: &[u64]) -> Place {
+    if numbers.len() == 0 {
+        return then_bytes(out, at, b"-");
+    }
+    let mut next = then_number(out, at, numbers[0]);
+    let mut k = 1;
+    while k < numbers.len() {
+        next = put_byte(out, next, b',');
+        next = put_number(out, next, numbers[k]);
+        k += 1;
+    }
+    next
+}
+
 // What stands between two answers of one case.
 pub fn put_comma(out: &mut Buffer, at: Place) -> Place {
     let next = put_byte(out, at, b',');

@@ -5,6 +5,7 @@ use crate::infos;
 use crate::joining;
 use crate::leaves;
 use crate::lines;
+use crate::numbers;
 use crate::output::Answer;
 use crate::output::Buffer;
 use crate::output::Place;
@@ -52,6 +53,10 @@ fn ask(case: &[u8], text: &mut Text, out: &mut Buffer, at: Place) -> Answer {
         return given;
     }
     let given = genotypes::answer(case, arguments, text, out, at);
+    if let Answer::Given(_) = given {
+        return given;
+    }
+    let given = numbers::answer(case, arguments, out, at);
     if let Answer::Given(_) = given {
         return given;
     }

@@ -1,15 +1,15 @@
--- `cases::genotypes::then_numbers` is safe and ends: the measure is how many numbers are left. Assumes nothing.
+-- `cases::output::then_numbers` is safe and ends: the measure is how many numbers are left. Assumes nothing.
 use Prim.Native.Nat.{_-_}
 use lib.ListN.{length}
 use borrow.Author.Needs.{needs}
-use Rattle.cases.proofs.genotypes.then_numbers.Statement.{statement}
-use Rattle.cases.proofs.genotypes.then_numbers.Tie as tie
+use Rattle.cases.proofs.output.then_numbers.Statement.{statement}
+use Rattle.cases.proofs.output.then_numbers.Tie as tie
 
 abbrev Inv-loop : tie.InvT-loop
-Inv-loop numbers out₀ at next₀ k₀ out next k = Unit {0}
+Inv-loop out₀ at numbers next₀ k₀ out next k = Unit {0}
 
 abbrev μ-loop : tie.MeasureT-loop
-μ-loop numbers out₀ at next₀ k₀ out next k = length numbers - k
+μ-loop out₀ at numbers next₀ k₀ out next k = length numbers - k
 
 slice-aggregate-then-bytes : tie.Need-slice-aggregate-then-bytes Inv-loop μ-loop
 slice-aggregate-then-bytes c = search needs
