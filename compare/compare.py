@@ -206,8 +206,17 @@ def hold_all(oracle, program):
 # ---- the stored cases
 
 
+def hold_model():
+    """The model numbers genotypes in two ways, which must agree. The Rust has no such question."""
+    try:
+        model.hold_binomials_to_orders()
+    except AssertionError as where:
+        raise Failed(f"the model's two ways to number genotypes differ at {where}") from None
+
+
 def stored(oracle):
     """The stored cases and their answers, as bytes. No answer is from the program under test."""
+    hold_model()
     cases = list(generate.stored())
     lines = [line for line, _ in cases]
     answers = []

@@ -6,6 +6,7 @@ repository, true for many more, for a comparison at scale.
 """
 
 import itertools
+import math
 
 LARGEST = 2**64 - 1
 LONGEST_LINE = 65_536
@@ -1973,6 +1974,185 @@ def asked_of_plain(cases):
             yield again, len(again) <= LONGEST_LINE
 
 
+# ---- number, genotype, genotypes and genotypecount
+
+PLOIDIES = range(1, 9)
+ALLELE_COUNTS = range(1, 65)
+LONGEST_ROW = 4_096
+# About the limits, and numbers that would be within them without their higher bits.
+ODD_PLOIDIES = (0, 1, 2, 7, 8, 9, 16, 64, 2**8 + 2, 2**32, 2**32 + 2, LARGEST)
+ODD_ALLELE_COUNTS = (0, 1, 2, 63, 64, 65, 66, 128, 2**8 + 2, 2**32, 2**32 + 2, LARGEST)
+ODD_NUMBERS = (2**31, 2**32 - 1, 2**32, 2**32 + 1, 2**33, 2**63, LARGEST - 1, LARGEST)
+
+
+def how_many(ploidy, alleles):
+    """How many genotypes there are, so that questions can be asked about the last."""
+    return math.comb(alleles + ploidy - 1, ploidy)
+
+
+def list_length(ploidy, alleles):
+    return ploidy * how_many(ploidy, alleles)
+
+
+def with_genotypes(ploidy, alleles):
+    """Each genotype, and each number to one past the last, into a row that it fills."""
+    for genotype in itertools.combinations_with_replacement(range(alleles), ploidy):
+        yield ask("number", alleles, genotype)
+    for value in range(how_many(ploidy, alleles) + 1):
+        yield ask("genotype", value, ploidy, alleles, ploidy)
+
+
+def whole_orders(large):
+    """All ploidies over few alleles, the specification's own tables among them: two of 2 and of 3 alleles, three of 2.
+    Lists into no row, one that is short by one or filled, and longer ones."""
+    for ploidy, alleles in itertools.product(PLOIDIES, range(1, 8 if large else 5)):
+        yield ask("genotypecount", ploidy, alleles)
+        yield from with_genotypes(ploidy, alleles)
+        need = list_length(ploidy, alleles)
+        for row in (0, need - 1, need, need + 1, need + 5):
+            if row <= LONGEST_ROW:
+                yield ask("genotypes", ploidy, alleles, row)
+
+
+def long_lists(large):
+    """The longest list of each ploidy that a row of a case can hold, and the next."""
+    for ploidy in PLOIDIES:
+        alleles = max(count for count in ALLELE_COUNTS if list_length(ploidy, count) <= LONGEST_ROW)
+        need = list_length(ploidy, alleles)
+        for row in (need - 1, need, need + 1, LONGEST_ROW - 1, LONGEST_ROW) if large else (need,):
+            yield ask("genotypes", ploidy, alleles, row)
+        for row in (need, LONGEST_ROW) if large else (9,):
+            yield ask("genotypes", ploidy, alleles + 1, row)
+    yield ask("genotypes", 2, 63, 63 * 64 - 1)
+    for ploidy, alleles in ((2, 63), (2, 64), (8, 5), (8, 64), (9, 1)):
+        yield ask("genotypes", ploidy, alleles, LONGEST_ROW)
+    for value in (how_many(8, 64) - 1, how_many(8, 64)):
+        yield ask("genotype", value, 8, 64, LONGEST_ROW)
+
+
+def order_edges(large):
+    """The last genotypes over so many alleles and the first ones with one more, as genotypes and by their numbers: over
+    so many, over one more, and over 64."""
+    for ploidy, alleles in itertools.product(PLOIDIES, ALLELE_COUNTS if large else (5, 8, 16, 17, 33, 62, 63, 64)):
+        count, last, first = how_many(ploidy, alleles), [alleles - 1] * ploidy, [*[0] * (ploidy - 1), alleles]
+        edges = [last, replaced(last, {0: max(0, alleles - 2)}), first]
+        if ploidy > 1:
+            edges.append(replaced(first, {ploidy - 2: 1}))
+        for limit in sorted({alleles, alleles + 1, 64}):
+            yield ask("genotypecount", ploidy, limit)
+            for genotype in edges:
+                yield ask("number", limit, tuple(genotype))
+            for value in range(max(0, count - 2), count + 2):
+                yield ask("genotype", value, ploidy, limit, ploidy)
+
+
+def two_of_many(large):
+    """Two alleles, of all that there may be."""
+    for high in range(66):
+        for low in range(high + 1) if large else sorted({0, high // 2, high - 1, high} - {-1}):
+            yield ask("number", 64, (low, high))
+
+
+def about_order_limits(large):
+    """Ploidies, allele counts and numbers about their limits and far past them, in every mixture, with rows that are
+    too short and long enough; lists of alleles as long as a case may have."""
+    for ploidy, alleles in itertools.product(ODD_PLOIDIES, ODD_ALLELE_COUNTS):
+        yield ask("genotypecount", ploidy, alleles)
+        for row in (0, 1, 8, 9, 300) if large else (0, 9):
+            yield ask("genotypes", ploidy, alleles, row)
+            for value in (0, 1, how_many(8, 64) - 1, LARGEST) if large else (0, LARGEST):
+                yield ask("genotype", value, ploidy, alleles, row)
+    for ploidy, alleles in itertools.product(PLOIDIES, (1, 2, 63, 64)):
+        for value in ODD_NUMBERS:
+            yield ask("genotype", value, ploidy, alleles, ploidy)
+    for length, alleles in itertools.product((*range(11), 16, 63, 64), ODD_ALLELE_COUNTS):
+        yield ask("number", alleles, (0,) * length)
+        if length in (1, 8, 9, 64):
+            yield ask("number", alleles, tuple(range(length)))
+            yield ask("number", alleles, tuple(reversed(range(length))))
+            yield ask("number", alleles, (63,) * length)
+            yield ask("number", alleles, (LARGEST,) * length)
+
+
+def rows_of_genotypes(large):
+    """Rows from none to longer than needed, for numbers that have a genotype, and for a number, an allele count and a
+    ploidy that have none: 23 goes before 17."""
+    for ploidy in PLOIDIES:
+        count = how_many(ploidy, 3)
+        for row in range(ploidy + 4):
+            for value in (0, count // 2, count - 1, count):
+                yield ask("genotype", value, ploidy, 3, row)
+            for alleles in (0, 65):
+                yield ask("genotype", 0, ploidy, alleles, row)
+        for row in (LONGEST_ROW - 1, LONGEST_ROW) if large else ():
+            yield ask("genotype", count - 1, ploidy, 3, row)
+    for row in (0, 8, 9, 10):
+        yield ask("genotype", 0, 0, 3, row)
+        yield ask("genotype", 0, 9, 3, row)
+        yield ask("genotypes", 0, 3, row)
+        yield ask("genotypes", 9, 1, row)
+    yield ask("genotype", 7, 2, 4, LONGEST_ROW - 1)
+
+
+def no_genotypes(large):
+    """Every short list of alleles up to two past the last; longer ones with one allele or all later ones changed, by
+    which they fall, stand still or pass the last allele at any place."""
+    for ploidy, alleles in itertools.product(range(1, 5 if large else 4), range(1, 6 if large else 4)):
+        for listed_alleles in itertools.product(range(alleles + 2), repeat=ploidy):
+            yield ask("number", alleles, listed_alleles)
+    for ploidy, alleles in itertools.product(PLOIDIES, (9, 40, 64) if large else (9, 64)):
+        rising = tuple(range(alleles - ploidy, alleles))
+        for at, value in enumerate(rising):
+            near = {0, value - 1, value, value + 1, alleles - 1, alleles, alleles + 1}
+            for other in (*sorted(near), 2**8 + value, 2**32 + value, 2**63, LARGEST):
+                yield ask("number", alleles, tuple(replaced(rising, {at: other})))
+            for other in (alleles, 2**32, LARGEST):
+                yield ask("number", alleles, (*rising[:at], *[other] * (ploidy - at)))
+
+
+# Ploidies and allele counts with short lists.
+SHORT_LISTS = [both for both in itertools.product(PLOIDIES, ALLELE_COUNTS) if list_length(*both) <= 400]
+
+
+def random_number(dice, below):
+    return (dice.roll(2**31) << 31 | dice.roll(2**31)) % below
+
+
+def random_alleles(dice, ploidy, alleles):
+    """A genotype."""
+    return sorted(dice.roll(alleles) for _ in range(ploidy))
+
+
+def random_orders(large, dice):
+    """Genotypes of any ploidy over any alleles, as they are and with one allele changed or two swapped; numbers of
+    them, into rows about as long as needed; short lists."""
+    for _ in range(8_000 if large else 100):
+        ploidy, alleles = 1 + dice.roll(8), 1 + dice.roll(64)
+        genotype = random_alleles(dice, ploidy, alleles)
+        yield ask("number", alleles, tuple(genotype))
+        yield ask("number", genotype[-1] + dice.roll(3), tuple(genotype))
+        yield ask("number", alleles, tuple(replaced(genotype, {dice.roll(ploidy): dice.roll(alleles + 2)})))
+        first, second = dice.roll(ploidy), dice.roll(ploidy)
+        swapped = replaced(genotype, {first: genotype[second], second: genotype[first]})
+        yield ask("number", alleles, tuple(swapped))
+        value = random_number(dice, how_many(ploidy, alleles) + dice.roll(3))
+        yield ask("genotype", value, ploidy, alleles, ploidy + dice.roll(6) - 1)
+        few = dice.pick(SHORT_LISTS)
+        yield ask("genotypes", *few, max(0, list_length(*few) + dice.roll(6) - 2))
+        yield ask("genotypecount", dice.roll(10), dice.roll(67))
+
+
+def genotype_numbers(large, dice):
+    yield from whole_orders(large)
+    yield from long_lists(large)
+    yield from order_edges(large)
+    yield from two_of_many(large)
+    yield from about_order_limits(large)
+    yield from rows_of_genotypes(large)
+    yield from no_genotypes(large)
+    yield from random_orders(large, dice)
+
+
 # ---- the form of a case
 
 NO_CASES = (
@@ -2285,6 +2465,66 @@ NO_PLAIN_CASES = (
 )
 
 
+# The verbs on the numbers of genotypes, each with good arguments.
+GOOD_NUMBERINGS = (b"number 2 0,1", b"genotype 1 2 2 2", b"genotypes 2 2 6", b"genotypecount 2 2")
+
+
+def with_bad_numberings():
+    """Each argument of these that is a number alone, replaced by one that is none; an argument less and one more."""
+    bad = (
+        b"", b"00", b"01", b"02", b"+2", b"-2", b"-", b"--", b"a", b"2a", b"2.0", b"2,2", b"0x2", b"2e0", b"\xff",
+        b"\xb2", b"2\x00", b"2\r", b"2\t", b"18446744073709551616", b"18446744073709551618", b"36893488147419103234",
+        b"99999999999999999999", b"340282366920938463463374607431768211458",
+    )
+    for line in GOOD_NUMBERINGS:
+        verb, *arguments = line.split(b" ")
+        for index, argument in enumerate(arguments):
+            yield b" ".join((verb, *arguments[:index], *arguments[index + 1 :]))
+            for other in bad if b"," not in argument else ():
+                yield b" ".join((verb, *replaced(arguments, {index: other})))
+        for more in (b" 2", b" -", b" 0,1", b" ", b" 2 2", b"\r", b"\x00"):
+            yield line + more
+        for front in (verb, verb + b" ", verb + b"  ", verb + b" -", b" " + line, line.replace(b" ", b"  ", 1)):
+            yield front
+        yield line.replace(b" ", b"\t", 1)
+        yield line.replace(b" ", b"", 1)
+
+
+# The same of number, genotype, genotypes and genotypecount.
+NO_NUMBER_CASES = (
+    # an unknown verb
+    b"numbe 2 0,1", b"numbers 2 0,1", b"Number 2 0,1", b"NUMBER 2 0,1", b"umber 2 0,1", b"xnumber 2 0,1",
+    b"numberof 2 0,1", b"number_of 2 0,1", b"numbes 2 0,1", b"genotyp 1 2 2 2", b"Genotype 1 2 2 2",
+    b"GENOTYPE 1 2 2 2", b"enotype 1 2 2 2", b"genotypf 1 2 2 2", b"genotypex 1 2 2 2", b"genotype1 2 2 2",
+    b"genotypess 2 2 6", b"Genotypes 2 2 6", b"GENOTYPES 2 2 6", b"genotypet 2 2 6", b"genotypec 2 2",
+    b"genotypecoun 2 2", b"genotypecounts 2 2", b"genotypescount 2 2", b"genotypeCount 2 2", b"genotype-count 2 2",
+    b"GENOTYPECOUNT 2 2", b"genotypecounu 2 2", b"countgenotypes 2 2", b"list 2 2 6", b"number genotype 1 2 2 2",
+    # a verb with the arguments of another
+    b"number 1 2 2 2", b"number 2 2 6", b"genotype 2 0,1", b"genotype 2 2 6", b"genotype 2 2", b"genotypes 2 0,1",
+    b"genotypes 1 2 2 2", b"genotypes 2 2", b"genotypecount 2 0,1", b"genotypecount 2 2 6", b"genotypecount 1 2 2 2",
+    # alleles that are none, or are written otherwise
+    *(
+        b"number 2 " + genotype
+        for genotype in (
+            b",", b"0,", b",0", b"0,,1", b"0,1,", b",0,1", b",,", b"-,0", b"0,-", b"-,-", b"--", b"0 1", b"0, 1",
+            b"0 ,1", b"00", b"00,1", b"0,00", b"0,01", b"01,1", b"+0", b"0,+1", b"-0", b"0,-1", b"-1", b"a", b"0,a",
+            b"a,1", b"0,1a", b"0,0x1", b"0;1", b"0:1", b"0.1", b".", b".,0", b"0/1", b"0|1", b"/0", b"0,1\r", b"0\t1",
+            b"0,\xff", b"\xff,1", b"0\x001", b"0,1\x00", b"18446744073709551616", b"0,18446744073709551616",
+            b"18446744073709551616,0", b"0,36893488147419103233", b"0,99999999999999999999", b"[0,1]", b"(0,1)",
+        )
+    ),
+    # the two arguments swapped, one of them alone, alleles twice, and for the allele count
+    b"number 0,1 2", b"number 0,1", b"number 2 0,1 0,1", b"number - 0,1", b"number 2,2 0,1",
+    # one too many, the last of as many as may be none, and a row that is too long
+    b"number 2 0" + b",0" * 64, b"number 2 0" + b",0" * 62 + b",x", b"number 2 0" + b",0" * 63 + b",",
+    b"number 0 0" + b",0" * 64, b"number 64 0" + b",0" * 1_000, b"number 2 18446744073709551615" + b",0" * 64,
+    b"genotype 1 2 2 4097", b"genotype 1 2 2 5000", b"genotype 1 2 2 65536", b"genotype 1 2 2 4294967298",
+    b"genotype 1 2 2 18446744073709551615", b"genotype 9 9 9 4097", b"genotypes 2 2 4097", b"genotypes 2 2 5000",
+    b"genotypes 2 2 65542", b"genotypes 2 2 4294967302", b"genotypes 2 2 18446744073709551615", b"genotypes 0 0 4097",
+    *with_bad_numberings(),
+)
+
+
 def spoilt(lines, large):
     """Good lines with one byte put in, in every place, that makes each of them none."""
     for line, byte in itertools.product(lines, b"\x00\t\r \x7f\x80\xffxG" if large else b"\x00 x"):
@@ -2471,6 +2711,19 @@ def long_plain_lines(large):
         yield none(b"plain " + b"6" * (LONGEST_LINE - 9) + b" 0")
 
 
+def long_number_lines(large):
+    """Lists of as many alleles as may be, of long numbers; and arguments that go on to the end of the longest line."""
+    yield ask("number", LARGEST, (LARGEST,) * 64)
+    yield none(b"number 2 " + b"0" * (LONGEST_LINE - 9))
+    if large:
+        yield none(b"number 2 0" + b",0" * ((LONGEST_LINE - 10) // 2))
+        yield none(b"number %s 0,1" % b"2".rjust(LONGEST_LINE - 11, b"0"))
+        yield none(b"genotype 1 2 2 " + b"2".rjust(LONGEST_LINE - 15, b"0"))
+        yield none(b"genotypes 2 2 " + b"9" * (LONGEST_LINE - 14))
+        yield none(b"genotypecount 2" + b" 2" * 32_760)
+        yield none(b"genotypecount 2 2" + b" " * LONGEST_LINE)
+
+
 def form(large):
     """Lines that are none and long lines, each before a case with an answer of its own: a shift shows at once."""
     good = (b"utf8 41", b"print 5 70", b"space -", b"decimal 2b37") if large else (b"utf8 41", b"print 5 70")
@@ -2492,6 +2745,7 @@ def form(large):
         *map(none, (*NO_ENDING_CASES, *spoilt(ended, large))),
         *map(none, (*NO_FORM_CASES, *spoilt(formed, large))), *long_form_lines(large),
         *map(none, (*NO_PLAIN_CASES, *spoilt(plain, large))), *long_plain_lines(large),
+        *map(none, (*NO_NUMBER_CASES, *spoilt(GOOD_NUMBERINGS, large))), *long_number_lines(large),
     )
     for index, case in enumerate(lines):
         yield case
@@ -2506,7 +2760,7 @@ def areas(large):
         infos(large, Dice(8)), samples(large, Dice(9)), genotypes(large, Dice(10)), written_genotypes(large, Dice(11)),
         entry_lists(large, Dice(12)), genotype_steps(large, Dice(13)), offsets(large, Dice(14)),
         alt_counts(large, Dice(15)), line_endings(large, Dice(16)), forms_of_lines(large, Dice(17)),
-        lines_in_passes(large, Dice(18)),
+        lines_in_passes(large, Dice(18)), genotype_numbers(large, Dice(19)),
     )
 
 

@@ -6,12 +6,16 @@ A case is one line: a verb and its arguments, one space between them, ended by L
 65,536 bytes without the LF. A line that is no case is answered `?`.
 """
 
+import bisect
+import functools
 import itertools
+import math
 import sys
 
 LONGEST_LINE = 65_536
 LARGEST = 18_446_744_073_709_551_615
 LARGEST_ROOM = 4_096
+LONGEST_ROW = 4_096
 MOST_ENDS = 1_024
 MOST_ALLELES = 64
 LARGEST_VERSION = 4_294_967_295
@@ -21,7 +25,7 @@ LONGEST_SLICE = 9_223_372_036_854_775_807
 DONE, AT_END, EMPTY, LINE_ENDS, CUT, NOT_UTF8, BEYOND, KEY_ENDS, NO_KEY, VALUE_ENDS, NONE_SUCH = range(11)
 NO_ALLELES, BAD_NUMBER, NOT_IMPLIED, BAD_FILTER, BAD_ALT = 11, 12, 13, 14, 15
 BAD_ENDS, TOO_SHORT, BAD_COLUMN, BAD_COUNT, ABOVE_ALT, BAD_POS = 16, 17, 18, 19, 20, 21
-NOT_MADE = 32
+OUT_OF_RANGE, NOT_MADE = 23, 32
 UNEQUAL = BAD_ENDS
 
 FIELDS = (b"chrom", b"pos", b"id", b"ref", b"alt", b"qual", b"filter", b"info", b"format", b"samples")
@@ -75,17 +79,31 @@ def line_ending(argument):
     raise NoCase
 
 
-def list_ends(argument):
+def number_list(argument, most):
     """Numbers joined by commas; `-` for none."""
     found = [] if argument == b"-" else [number(one) for one in argument.split(b",")]
-    if len(found) > MOST_ENDS:
+    if len(found) > most:
         raise NoCase
     return found
+
+
+def list_ends(argument):
+    return number_list(argument, MOST_ENDS)
+
+
+def plain_alleles(argument):
+    """Alleles that are numbers alone."""
+    return tuple(number_list(argument, MOST_ALLELES))
 
 
 def row_length(argument):
     """The length of a row, or of a slice."""
     return number(argument, MOST_ALLELES)
+
+
+def long_row(argument):
+    """The length of a row of numbers alone."""
+    return number(argument, LONGEST_ROW)
 
 
 def version(argument):
@@ -435,6 +453,114 @@ def spelt_genotype(alleles, file_format):
     return b"".join(itertools.chain(*zip(marks, bodies)))
 
 
+# The limits of the numbers of genotypes.
+HIGHEST_PLOIDY, HIGHEST_ALLELE_COUNT = 8, 64
+
+# The order of genotypes is made where it has no more of them. Longer ones are not made: binomials say what is in them.
+MOST_MADE = 10_000
+
+
+@functools.cache
+def ordering(ploidy, alleles):
+    """All genotypes in order, as the specification writes it: for each allele in turn, the order of one ploidy less
+    over the alleles up to it, each followed by it."""
+    if ploidy == 0:
+        return ((),)
+    return tuple((*before, last) for last in range(alleles) for before in ordering(ploidy - 1, last + 1))
+
+
+@functools.cache
+def order_indexes(ploidy, alleles):
+    """The index of each genotype in the order."""
+    return {genotype: index for index, genotype in enumerate(ordering(ploidy, alleles))}
+
+
+def order_number(alleles, genotype):
+    return order_indexes(len(genotype), alleles).get(genotype)
+
+
+def order_genotype(value, ploidy, alleles):
+    found = ordering(ploidy, alleles)
+    return found[value] if value < len(found) else None
+
+
+def binomial_count(ploidy, alleles):
+    return math.comb(alleles + ploidy - 1, ploidy)
+
+
+@functools.cache
+def lower_genotypes(place):
+    """For each allele, how many genotypes of so many alleles have only lower ones."""
+    return [math.comb(allele + place - 1, place) for allele in range(HIGHEST_ALLELE_COUNT)]
+
+
+def binomial_number(alleles, genotype):
+    """The sum over all places, counted from 1, of (allele + place - 1 over place)."""
+    if list(genotype) != sorted(genotype) or genotype[-1] >= alleles:
+        return None
+    return sum(math.comb(allele + place - 1, place) for place, allele in enumerate(genotype, 1))
+
+
+def binomial_genotype(value, ploidy, alleles):
+    """From the last place to the first, the highest allele whose part of the sum is not above what is left of it."""
+    if value >= binomial_count(ploidy, alleles):
+        return None
+    found = []
+    for place in range(ploidy, 0, -1):
+        parts = lower_genotypes(place)
+        found.append(bisect.bisect_right(parts, value) - 1)
+        value -= parts[found[-1]]
+    return tuple(reversed(found))
+
+
+def has_order(ploidy, alleles):
+    """Whether both are within their limits."""
+    return 1 <= ploidy <= HIGHEST_PLOIDY and 1 <= alleles <= HIGHEST_ALLELE_COUNT
+
+
+def is_made(ploidy, alleles):
+    return binomial_count(ploidy, alleles) <= MOST_MADE
+
+
+def genotype_count(ploidy, alleles):
+    """How many genotypes there are; None where a limit is passed."""
+    if not has_order(ploidy, alleles):
+        return None
+    return len(ordering(ploidy, alleles)) if is_made(ploidy, alleles) else binomial_count(ploidy, alleles)
+
+
+def genotype_number(alleles, genotype):
+    """The number of a genotype; None where it is none, or a limit is passed."""
+    if not has_order(len(genotype), alleles):
+        return None
+    return (order_number if is_made(len(genotype), alleles) else binomial_number)(alleles, genotype)
+
+
+def numbered_genotype(value, ploidy, alleles):
+    """The genotype of a number; None where it has none, or a limit is passed."""
+    if not has_order(ploidy, alleles):
+        return None
+    return (order_genotype if is_made(ploidy, alleles) else binomial_genotype)(value, ploidy, alleles)
+
+
+def hold_binomials_to_orders():
+    """Raises an AssertionError where the two ways differ: on every order that is made, on all lists of alleles up to
+    one past the last where these are few, and where each order, made or not, ends and goes on with one allele more."""
+    for ploidy, alleles in itertools.product(range(1, HIGHEST_PLOIDY + 1), range(1, HIGHEST_ALLELE_COUNT + 1)):
+        here, count = (ploidy, alleles), binomial_count(ploidy, alleles)
+        assert binomial_genotype(count - 1, *here) == (alleles - 1,) * ploidy, here
+        assert binomial_number(alleles, (alleles - 1,) * ploidy) == count - 1, here
+        assert binomial_number(alleles + 1, (*[0] * (ploidy - 1), alleles)) == count, here
+        if is_made(*here):
+            found = ordering(*here)
+            assert sorted(found) == list(itertools.combinations_with_replacement(range(alleles), ploidy)), here
+            few = (alleles + 1) ** ploidy <= MOST_MADE
+            for genotype in (*found, *(itertools.product(range(alleles + 1), repeat=ploidy) if few else ())):
+                assert binomial_number(alleles, genotype) == order_number(alleles, genotype), (here, genotype)
+            for value in range(count + 2):
+                assert binomial_genotype(value, *here) == order_genotype(value, *here), (here, value)
+
+
 def is_filter(entry):
     return entry not in (b"", b".", b"0") and b";" not in entry
 
@@ -695,6 +821,36 @@ def write_unequal(numbers, missing, phased, length):
     return write(4, 4, length, 0, [(0, 0, 0)] * numbers)
 
 
+# What each place of a row of numbers alone starts as.
+NUMBER_START = 7
+
+
+def number_of(allele_count, genotype):
+    value = genotype_number(allele_count, genotype)
+    return words(OUT_OF_RANGE) if value is None else words(DONE, value)
+
+
+def genotype_of(value, ploidy, allele_count, length):
+    genotype = numbered_genotype(value, ploidy, allele_count)
+    made, row = laid_in_row(length, NUMBER_START, (OUT_OF_RANGE,) if genotype is None else list(genotype))
+    return slice_words(made, (row,))
+
+
+def all_genotypes(ploidy, allele_count, length):
+    count, row = genotype_count(ploidy, allele_count), [NUMBER_START] * length
+    if count is None:
+        return slice_words((OUT_OF_RANGE,), (row,))
+    if ploidy * count > length:
+        return slice_words((TOO_SHORT,), (row,))
+    row[: ploidy * count] = itertools.chain(*ordering(ploidy, allele_count))
+    return slice_words((DONE, count), (row,))
+
+
+def count_genotypes(ploidy, allele_count):
+    value = genotype_count(ploidy, allele_count)
+    return words(OUT_OF_RANGE) if value is None else words(DONE, value)
+
+
 def filters(length, at, text, ends):
     return laid_out(length, at, joined_entries(text, ends, b";", is_filter, BAD_FILTER))
 
@@ -740,6 +896,10 @@ VERBS = {
     b"writealleles": (write, (version, version, room, number), alleles_of_structs),
     b"filters": (filters, (room, number, hexed, list_ends)),
     b"alts": (alts, (room, number, hexed, list_ends)),
+    b"number": (number_of, (number, plain_alleles)),
+    b"genotype": (genotype_of, (number, number, number, long_row)),
+    b"genotypes": (all_genotypes, (number, number, long_row)),
+    b"genotypecount": (count_genotypes, (number, number)),
 }
 
 

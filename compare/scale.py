@@ -63,6 +63,10 @@ def more_rows(dice):
     return generate.random_rows(True, dice)
 
 
+def more_orders(dice):
+    return generate.random_orders(True, dice)
+
+
 # ---- all short texts
 
 # The bytes at the edges of UTF-8's table, and those of white space; then fewer of them.
@@ -258,6 +262,28 @@ def short_forms():
         yield ask("narrow", "lf", *numbers)
 
 
+def short_orders():
+    """Of each ploidy all genotypes and all numbers, over the most alleles with no more than 20,000 of them."""
+    for ploidy in generate.PLOIDIES:
+        fitting = [count for count in generate.ALLELE_COUNTS if generate.how_many(ploidy, count) <= 20_000]
+        yield from generate.with_genotypes(ploidy, fitting[-1])
+
+
+def short_order_limits():
+    """Every ploidy and every allele count to past the limits: the count, lists into rows about as long as needed where
+    that is no more than may be, the last number and the next."""
+    for ploidy, alleles in itertools.product(range(11), range(67)):
+        yield ask("genotypecount", ploidy, alleles)
+        count, need = 0, 0
+        if ploidy and alleles:
+            count, need = generate.how_many(ploidy, alleles), generate.list_length(ploidy, alleles)
+        about = (need - 1, need, need + 1) if 0 < need < generate.LONGEST_ROW else (0, 100)
+        for row in about:
+            yield ask("genotypes", ploidy, alleles, row)
+        for value, row in itertools.product((max(0, count - 1), count), (max(0, ploidy - 1), ploidy, ploidy + 1)):
+            yield ask("genotype", value, ploidy, alleles, row)
+
+
 # ---- random ones about each boundary
 
 LIMITS = (*(10**power for power in range(1, 21)), 2**32, 2**63, LARGEST, 2 * LARGEST, generate.TENTH)
@@ -385,6 +411,23 @@ def near_forms(dice):
             yield generate.wrapped(verb, word, numbers)
 
 
+def near_orders(dice):
+    """Numbers about those at which the last allele, or the one before it, rises, with allele counts about that allele
+    and rows about as long as needed; genotypes about these."""
+    for _ in range(6_000):
+        ploidy, last = 1 + dice.roll(8), dice.roll(65)
+        lower = dice.roll(last + 1)
+        start = generate.how_many(ploidy, last) if last else 0
+        value = start + dice.pick((0, generate.how_many(ploidy - 1, lower) if lower and ploidy > 1 else 0))
+        alleles, row = dice.pick((last, last + 1, last + 1, 64)), near(dice, ploidy, 2)
+        for number in sorted({max(0, value - 1), value, value + 1}):
+            yield ask("genotype", number, ploidy, alleles, row)
+        genotype = sorted(dice.pick((0, lower, last)) for _ in range(ploidy))
+        genotype[dice.roll(ploidy)] = near(dice, dice.pick((lower, last, alleles)), 1)
+        yield ask("number", alleles, tuple(genotype))
+        yield ask("number", alleles, tuple(sorted(genotype)))
+
+
 # ---- damaged copies
 
 
@@ -486,6 +529,26 @@ def harmed_forms(dice):
             yield ask(verb, word, *numbers)
 
 
+def harmed_orders(dice):
+    """Genotypes with one allele changed by a bit, dropped, put in or moved; a number, its ploidy or its allele count
+    changed by a bit."""
+    for _ in range(6_000):
+        ploidy, alleles = 1 + dice.roll(8), 1 + dice.roll(64)
+        genotype = generate.random_alleles(dice, ploidy, alleles)
+        changed, moved = list(genotype), list(genotype)
+        changed[dice.roll(ploidy)] ^= 1 << dice.pick((dice.roll(6), dice.roll(64)))
+        yield ask("number", alleles, tuple(changed))
+        allele = moved.pop(dice.roll(ploidy))
+        yield ask("number", alleles, tuple(moved))
+        moved.insert(dice.roll(ploidy), allele)
+        yield ask("number", alleles, tuple(moved))
+        yield ask("number", alleles, tuple(sorted((*genotype, allele))))
+        asked = [generate.random_number(dice, generate.how_many(ploidy, alleles)), ploidy, alleles]
+        asked[dice.roll(3)] ^= 1 << dice.pick((dice.roll(8), dice.roll(64)))
+        yield ask("genotype", *asked, near(dice, ploidy, 2))
+        yield ask("genotypecount", *asked[1:])
+
+
 # A good case of each verb, and of each of its answers that is easily damaged.
 GOOD_CASES = (
     b"utf8 c3a9", b"space 61e3808062", b"decimal 2b303132", b"print 5 70", b"line 6309310a 0", b"field alt 6309 1",
@@ -504,6 +567,8 @@ GOOD_CASES = (
     b"widen none 4 5 7 9 11 13 15 17 19 19 19", b"narrow crlf " + generate.GOOD_PLACES,
     b"narrow lf 9 1 11 1 13 1 15 1 17 1 19 1 21 1 23 1 24 0 24 0",
     b"plain 6309310a 0", b"plain 6109620963096409650966096709680d0a 0",
+    b"number 3 0,1", b"number 64 8,8,20,63", b"genotype 4 2 3 3", b"genotype 65 3 40 2", b"genotypes 2 2 7",
+    b"genotypes 3 2 11", b"genotypecount 8 64",
 )
 
 
@@ -521,16 +586,22 @@ def harmed_cases(dice):
 
 AGAIN = (
     more_texts, more_lines, more_fields, more_columns, more_samples, more_genotypes, more_lists, more_alts,
-    more_endings, more_forms, more_rows,
+    more_endings, more_forms, more_rows, more_orders,
 )
 EXHAUSTIVE = (
     short_characters, short_numbers, short_line_ends, short_line_tails, columns_of_every_kind, dots_of_every_kind,
     short_info_steps, short_info_keys, short_samples, short_genotypes, short_phasings, short_genotype_steps,
     short_checked, short_slices, short_lists_of_alleles, short_entries, short_joins, short_faults, short_alts,
-    short_endings, short_forms,
+    short_endings, short_forms, short_orders, short_order_limits,
 )
-NEAR = (near_numbers, near_places, near_line_ends, near_rooms, near_alt_counts, near_faults, near_no_alt, near_forms)
-HARMED = (harmed_lines, harmed_columns, harmed_samples, harmed_genotypes, harmed_entries, harmed_cases, harmed_forms)
+NEAR = (
+    near_numbers, near_places, near_line_ends, near_rooms, near_alt_counts, near_faults, near_no_alt, near_forms,
+    near_orders,
+)
+HARMED = (
+    harmed_lines, harmed_columns, harmed_samples, harmed_genotypes, harmed_entries, harmed_cases, harmed_forms,
+    harmed_orders,
+)
 ROUNDS = 3
 
 
