@@ -1,0 +1,4 @@
+pub mod RowLaws
+pub mod AskLaws
+pub mod Determined
+pub mod Demands
