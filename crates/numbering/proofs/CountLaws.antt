@@ -1,8 +1,8 @@
 -- The binomials as products over products, and their bound. Assumes nothing.
-use Prim.Native.Nat.{ℕ, zero, suc, _+_, _*_, _/_, _^_, _<_, _≤_, zero-le}
+use Prim.Native.Nat.{ℕ, zero, suc, _+_, _-_, _*_, _/_, _^_, _<_, _≤_, zero-le}
 use mathlib.Core.Path.{_≡_, refl, sym, ap, _∙_}
 use native.Mathlib.Omega.{arith}
-use native.Mathlib.Nat.{mul-assoc, mul-comm, add-mul, mul-add, zero-mul, le-refl, mul-le-mul-left, mul-le-mul, mul-div-cancel, mul-pos, pow-suc, pow-le-pow-right}
+use native.Mathlib.Nat.{mul-assoc, mul-comm, add-mul, mul-add, zero-mul, le-refl, mul-le-mul, mul-div-cancel, mul-pos, pow-suc, pow-le-pow-right}
 use native.Mathlib.Numerals.{add-one}
 use Rattle.numbering.specs.Closed.{howMany}
 use Rattle.numbering.proofs.OrderLaws.{count-none, count-empty, count-more}
@@ -51,12 +51,37 @@ unfolding rise
 rise-one zero k h = omega arith
 rise-one (suc i) k h = mul-pos (rise-one i k h) (omega arith)
 
-pub count-small : (p n : ℕ) → p ≤ 8 → n ≤ 64 → howMany p n ≤ 645753531245761
+-- ---- the largest count
+
+-- with more alleles, and with a higher ploidy, there are no fewer
+wider : (p a d : ℕ) → howMany p a ≤ howMany p (a + d)
+wider p a zero = let e : a + 0 ≡ a = omega arith in rw e (le-refl _)
+wider zero a (suc d) = let x = count-none a in let y = count-none (a + suc d) in omega arith
+wider (suc p) a (suc d) =
+    let e : a + suc d ≡ suc (a + d) = omega arith in
+    let x = wider (suc p) a d in
+    let y = count-more p (a + d) in
+    rw e (omega arith)
+
+higher : (p d a : ℕ) → howMany p (suc a) ≤ howMany (p + d) (suc a)
+higher p zero a = let e : p + 0 ≡ p = omega arith in rw e (le-refl _)
+higher p (suc d) a =
+    let e : p + suc d ≡ suc (p + d) = omega arith in
+    let x = higher p d a in
+    let y = count-more (p + d) a in
+    rw e (omega arith)
+
+pub largest : howMany 8 64 ≡ 10639125640
+unfolding rise
+largest = let e = count-product 8 64 in omega arith
+
+pub count-small : (p n : ℕ) → p ≤ 8 → n ≤ 64 → howMany p n ≤ 10639125640
 count-small p n h l =
-    let e = count-product p n in
-    let r = rise-small p n h l in
-    let o = rise-one p 1 (omega arith) in
-    let m : howMany p n * 1 ≤ howMany p n * rise p 1 = mul-le-mul-left (howMany p n) o in
+    let e : n + (64 - n) ≡ 64 = omega arith in
+    let f : p + (8 - p) ≡ 8 = omega arith in
+    let x : howMany p n ≤ howMany p 64 = rw e at (wider p n (64 - n)) in
+    let y : howMany p 64 ≤ howMany 8 64 = rw f at (higher p (8 - p) 63) in
+    let z = largest in
     omega arith
 
 -- ---- the loop

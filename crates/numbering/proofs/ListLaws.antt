@@ -206,7 +206,7 @@ module _ {p n : ℕ} {cur row : List ℕ} {at : ℕ} (e : p ≡ 1) where
 pub length-all : (p n : ℕ) → length (flatten (ordering p n)) ≡ howMany p n * p
 length-all p n = length-flat p (ordering p n) (λ i l. rises-ploidy (listed p n i l)) ∙ ap (λ (c : ℕ). c * p) (length-ordering p n)
 
-product-small : (c p : ℕ) → c < 645753531245762 → p ≤ 8 → c * p < 2 ^ 64
+product-small : (c p : ℕ) → c ≤ 10639125640 → p ≤ 8 → c * p < 2 ^ 64
 product-small c p h l = let m = mul-le-mul-left c l in omega arith
 
 block-all : (p n : ℕ) (x : List ℕ) → p ≤ length x → block p n (take p x) ≡ flatten (ordering p n)

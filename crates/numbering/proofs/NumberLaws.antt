@@ -124,7 +124,7 @@ number-take (suc q) g z h =
     rw (e, take-suc g q 0 h) (number-snoc (take q g) (getD g q 0) ∙ rw l refl)
 
 module _ {g : List ℕ} (f : Genotype (length g) 64 g) (short : length g ≤ 8) where
-  pub number-small : (p : ℕ) → p ≤ length g → closedSum (take p g) < 645753531245762
+  pub number-small : (p : ℕ) → p ≤ length g → closedSum (take p g) < 10639125640
   number-small p h = let s = genotype-stands (genotype-take p g h f) in let b = count-small p 64 (omega arith) (omega arith) in omega arith
 
   pub number-last : {p : ℕ} → (p ≡ 0 → ⊥) → p ≤ length g → getD g (p - 1) 0 ≤ 64
