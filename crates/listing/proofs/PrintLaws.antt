@@ -13,9 +13,9 @@ use Rattle.text.specs.Answer.{says}
 use Rattle.text.specs.Over.{over, overAt, Writes}
 use Rattle.text.specs.declared.copy.Written.{Written}
 use Rattle.text.specs.declared.copy.Written.the-variants.{Done, Short}
-use Rattle.text.proofs.Lists.{length-rest, rest-put, length-overAt, overAt-append, overAt-before}
+use Rattle.text.proofs.Lists.{length-rest, rest-put, length-overAt, overAt-append}
 use Rattle.text.proofs.CopyLaws.{writes-fits}
-use Rattle.text.proofs.WrittenLaws.{writes-done, writes-short}
+use Rattle.text.proofs.WrittenLaws.{follows-short, follows-done}
 use Rattle.decimal.specs.Shortest.{shortest}
 use Rattle.decimal.proofs.Shortest.{length-20}
 use Rattle.listing.specs.Inner.{spaced, Sizes, Put, Lays, has-room, no-room, Counts}
@@ -46,24 +46,14 @@ module _ (at : ℕ) {s : List ℕ} (l : List ℕ) {ys : List ℕ} {r : Written} 
 -- the digits, and then the space before them
 module _ (n at : ℕ) (l : List ℕ) {ys : List ℕ} {r : Written} (w : Writes (shortest n) (take (length l - (at + 1)) (drop (at + 1) l)) r ys) (h : at + length (spaced n) ≤ length l) where
   pub number-none : r ≡ Short → ⊥
-  number-none e =
-      let a = writes-short w e .room in
-      let c = length-rest l (at + 1) in
-      omega arith
+  number-none = follows-short 32 at (shortest n) l w h
 
   module _ {len : ℕ} (e : r ≡ Done len) where
     pub number-fits : length l < 2 ^ 64 → Fits w64 (at + 1 + len)
-    number-fits f = let c = writes-done w e .count in record { fits = omega arith }
+    number-fits f = let d = follows-done 32 at (shortest n) l w h e .within in record { fits = omega arith }
 
     pub number-put : Put at (spaced n) l (at + 1 + len) (set (putMid (at + 1) (length l - (at + 1)) l ys) at 32)
-    number-put =
-        let d = writes-done w e in
-        let c = d .count in
-        record {
-          count = omega arith;
-          within = omega arith;
-          bytes = ap (λ (z : List ℕ). set z at 32) (rest-put (at + 1) _ l ys (d .bytes)) ∙ overAt-before l at (shortest n) 32 (omega arith);
-        }
+    number-put = let d = follows-done 32 at (shortest n) l w h e in record { count = d .count; within = d .within; bytes = d .bytes }
 
 module _ (n : ℕ) {k : ℕ} (h : n < 2 ^ 64) (e : k ≡ length (shortest n)) where
   pub number-sized : Sizes n (1 + k)

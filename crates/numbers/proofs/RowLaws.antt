@@ -18,9 +18,9 @@ use Rattle.text.specs.Answer.{says, numberOf}
 use Rattle.text.specs.Over.{over, overAt, roomAnswer, Writes}
 use Rattle.text.specs.declared.copy.Written.{Written}
 use Rattle.text.specs.declared.copy.Written.the-variants.{Done, Short}
-use Rattle.text.proofs.Lists.{here, rest-all, length-rest, rest-put, rest-back, length-over, length-overAt, take-over, over-append, overAt-nil, overAt-append, overAt-before, overAt-one}
+use Rattle.text.proofs.Lists.{here, rest-all, rest-put, rest-back, length-over, length-overAt, take-over, over-append, overAt-nil, overAt-append, overAt-one}
 use Rattle.text.proofs.CopyLaws.{room-fits, room-lacks, room-done}
-use Rattle.text.proofs.WrittenLaws.{writes-done, writes-short}
+use Rattle.text.proofs.WrittenLaws.{writes-done, writes-short, follows-short, follows-done}
 use Rattle.decimal.specs.Shortest.{shortest}
 use Rattle.decimal.proofs.Shortest.{length-bound}
 use Rattle.numbering.specs.Ordering.{ordering}
@@ -46,24 +46,14 @@ use Rattle.numbers.specs.declared.row.Row.the-variants as R
 module _ (b n at : ℕ) (l : List ℕ) {ys : List ℕ} {r : Written} (w : Writes (shortest n) (take (length l - (at + 1)) (drop (at + 1) l)) r ys)
     (h : at + length (b ∷ shortest n) ≤ length l) where
   pub number-none : r ≡ Short → ⊥
-  number-none e =
-      let a = writes-short w e .room in
-      let c = length-rest l (at + 1) in
-      omega arith
+  number-none = follows-short b at (shortest n) l w h
 
   module _ {len : ℕ} (e : r ≡ Done len) where
     pub number-fits : length l < 2 ^ 64 → Fits w64 (at + 1 + len)
-    number-fits f = let c = writes-done w e .count in record { fits = omega arith }
+    number-fits f = let d = follows-done b at (shortest n) l w h e .within in record { fits = omega arith }
 
     pub number-put : Puts at (b ∷ shortest n) l (at + 1 + len) (set (putMid (at + 1) (length l - (at + 1)) l ys) at b)
-    number-put =
-        let d = writes-done w e in
-        let c = d .count in
-        record {
-          place = omega arith;
-          within = omega arith;
-          bytes = ap (λ (z : List ℕ). set z at b) (rest-put (at + 1) _ l ys (d .bytes)) ∙ overAt-before l at (shortest n) b (omega arith);
-        }
+    number-put = let d = follows-done b at (shortest n) l w h e in record { place = d .count; within = d .within; bytes = d .bytes }
 
 -- ---- a genotype
 
