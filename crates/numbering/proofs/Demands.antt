@@ -87,9 +87,9 @@ choose-two (suc k) = let x = choose-two k in let y = choose-one (suc k) in
     let b : k * (suc k + 1) ≡ k * (k + 1) + k = let e : suc k + 1 ≡ suc (k + 1) = omega arith in rw e (mul-suc k (k + 1)) in
     omega arith
 
-pub of-two : OfTwo closedSum
+sum-two : (j k : ℕ) → closedSum (j ∷ k ∷ []) ≡ k * (k + 1) / 2 + j
 unfolding closedSum sumFrom
-of-two j k =
+sum-two j k =
     let e : j + 1 - 1 ≡ j = omega arith in
     let f : k + 2 - 1 ≡ suc k = omega arith in
     let x = choose-one j in
@@ -97,10 +97,19 @@ of-two j k =
     let z : choose (suc k) 2 ≡ k * (k + 1) / 2 = omega arith in
     rw (e, f) (omega arith)
 
+pub of-two : OfTwo ordering
+of-two n j k l h =
+    let w : j < suc k = omega arith in
+    let s = stands (more {a = k} (more {a = j} (none {n = suc j}) w) h) in
+    rw (sum-two j k) at (s .there)
+
 -- one allele
-pub of-one : OfOne ordering
+sum-one : (a : ℕ) → closedSum (a ∷ []) ≡ a
 unfolding closedSum sumFrom
-of-one n a h =
-    let e : closedSum (a ∷ []) ≡ a = let f : a + 1 - 1 ≡ a = omega arith in let x = choose-one a in rw f (omega arith) in
-    let s = stands (more {a = a} (none {n = suc a}) h) in
-    rw e at (s .there)
+sum-one a =
+    let e : a + 1 - 1 ≡ a = omega arith in
+    let x = choose-one a in
+    rw e (omega arith)
+
+pub of-one : OfOne ordering
+of-one n a h = let s = stands (more {a = a} (none {n = suc a}) h) in rw (sum-one a) at (s .there)

@@ -40,13 +40,13 @@ pub record InNumberOrder (order : ℕ → ℕ → List (List ℕ)) : Type 0 wher
 abbrev pub Begins : (ℕ → ℕ → List (List ℕ)) → Type 0
 Begins order = (p m n : ℕ) → m ≤ n → take (length (order p m)) (order p n) ≡ order p m
 
--- ploidy 1 lists the alleles
+-- one allele stands at its own number
 abbrev pub OfOne : (ℕ → ℕ → List (List ℕ)) → Type 0
 OfOne order = (n a : ℕ) → a < n → getD (order 1 n) a [] ≡ a ∷ []
 
--- the number of two alleles
-abbrev pub OfTwo : (List ℕ → ℕ) → Type 0
-OfTwo number = (j k : ℕ) → number (j ∷ k ∷ []) ≡ k * (k + 1) / 2 + j
+-- two alleles stand at k(k+1)/2 + j
+abbrev pub OfTwo : (ℕ → ℕ → List (List ℕ)) → Type 0
+OfTwo order = (n j k : ℕ) → j ≤ k → k < n → getD (order 2 n) (k * (k + 1) / 2 + j) [] ≡ j ∷ k ∷ []
 
 -- ---- the functions, by the closed forms
 
@@ -91,7 +91,7 @@ pub record Lists (count : ℕ → ℕ → Answer) (number : ℕ → List ℕ →
   pub short : (p n c : ℕ) (row : List ℕ) → count p n ≡ says 0 (c ∷ []) → length row < c * p → Refused 17 row (list p n row)
   pub other : (p n : ℕ) (row : List ℕ) → count p n ≡ says 23 [] → Refused 23 row (list p n row)
 
--- four functions that do so
+-- four functions that are so
 pub record Four : Type 0 where
   pub count : ℕ → ℕ → Answer
   pub number : ℕ → List ℕ → Answer
@@ -102,7 +102,7 @@ pub record Four : Type 0 where
   pub places : Places number place
   pub lists : Lists count number list
 
--- answer as any four that do so
+-- two such fours give one answer to every question, and leave one row
 pub record Alike (f h : Four) : Type 0 where
   pub count : (p n : ℕ) → f .count p n ≡ h .count p n
   pub number : (n : ℕ) (g : List ℕ) → f .number n g ≡ h .number n g

@@ -46,6 +46,7 @@ use Rattle.numbers.specs.Ask.{hasMark, allAnswer, anyMissing, oneAnswer,
 use Rattle.numbers.specs.Paper.{askPaper}
 use Rattle.numbers.specs.declared.ask.Ask.{Ask}
 use Rattle.numbers.specs.declared.ask.Ask.the-variants as A
+use Rattle.numbers.proofs.RowLaws.{eight}
 
 -- ---- a mark
 
@@ -104,9 +105,6 @@ too-many n as′ h = by (anyMissing as′)
     by : (b : Bool) → says 23 [] ≡ pick b (says 23 []) (numberAnswer n (numbersOf as′))
     by true = refl
     by false = sym high
-
-abbrev eight : List ℕ
-eight = 0 ∷ 0 ∷ 0 ∷ 0 ∷ 0 ∷ 0 ∷ 0 ∷ 0 ∷ []
 
 module _ (n : ℕ) (t : List ℕ) {x : Read} {a b c : List ℕ} (g : ReadsText t eight eight eight x a b c) where
   text-told : readPaper x ≡ textAnswer t 8

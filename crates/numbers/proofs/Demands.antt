@@ -1,5 +1,5 @@
 -- What the table prints, asked back, gives its number: its text means its alleles, and these have that number. And each line has room in
--- 41 bytes. Assumes nothing.
+-- 36 bytes. Assumes nothing.
 use Prim.Native.Nat.{ℕ, suc, _<_, _≤_}
 use mathlib.Core.Path.{_≡_, refl, ap, _∙_}
 use mathlib.Core.Bool.{Bool, true, false}

@@ -170,25 +170,26 @@ behind-short b (k ∷ g) h =
     let r = behind-short 47 g (λ j w. h (suc j) (omega arith)) in
     omega arith
 
--- a genotype that is there: the number is below 10 ^ 15, and each of at most eight alleles below 64
+-- a genotype that is there: the number is below 10 ^ 11, and each of at most eight alleles below 64
 module _ (i p n : ℕ) (m : Limits p n) (h : i < length (ordering p n)) where
   line-some : 0 < length (getD (ordering p n) i [])
   line-some = let c = rises-ploidy (listed p n i h) in let o = m .one in omega arith
 
-  pub line-short : length (lineOf i p n) ≤ 41
+  pub line-short : length (lineOf i p n) ≤ 36
   unfolding lineOf
   line-short =
       let c = rises-ploidy (listed p n i h) in
       let s = row-size i (getD (ordering p n) i []) line-some in
       let a = count-small p n (m .eight) (m .most) in
       let b = length-ordering p n in
-      let d = length-bound 14 i (omega arith) in
+      let d = length-bound 10 i (omega arith) in
       let f = rises-genotype (listed p n i h) in
       let v = behind-short 9 (getD (ordering p n) i []) (λ j w. (let z = f .below j w in let y = m .most in omega arith)) in
       let e = m .eight in
       omega arith
 
-abbrev eight : List ℕ
+-- what a row of eight holds at first
+abbrev pub eight : List ℕ
 eight = 0 ∷ 0 ∷ 0 ∷ 0 ∷ 0 ∷ 0 ∷ 0 ∷ 0 ∷ []
 
 -- the genotype was written
@@ -284,8 +285,8 @@ row-room i p n at out {x} {out′} {k} w e = by (leb at (length out)) refl (limi
     by true t false q = let z : _≡_ {A = ℕ} 0 1 = cc in absurd (omega arith)
     by false t b q = let z : _≡_ {A = ℕ} 0 1 = cc in absurd (omega arith)
 
--- and every genotype's line is put where 41 bytes are left
-pub row-done : (i p n at : ℕ) (out : List ℕ) → Limits p n → i < length (ordering p n) → at + 41 ≤ length out → rowAnswer i p n out at ≡ says 0 (length (lineOf i p n) ∷ [])
+-- and every genotype's line is put where 36 bytes are left
+pub row-done : (i p n at : ℕ) (out : List ℕ) → Limits p n → i < length (ordering p n) → at + 36 ≤ length out → rowAnswer i p n out at ≡ says 0 (length (lineOf i p n) ∷ [])
 unfolding rowAnswer
 row-done i p n at out m h r =
     let d = length-drop at out in

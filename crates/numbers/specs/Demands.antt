@@ -14,7 +14,7 @@ pub record GivesBack (text : List ℕ → List ℕ) (ask : List ℕ → List ℕ
   pub several : (p n i : ℕ) → Limits p n → i < length (ordering p n) → 2 ≤ p → ask (shortest n) (text (getD (ordering p n) i [])) ≡ says 0 (i ∷ [])
   pub marked : (p n i : ℕ) → Limits p n → i < length (ordering p n) → ask (shortest n) (47 ∷ text (getD (ordering p n) i [])) ≡ says 0 (i ∷ [])
 
--- every genotype has a line, and there is room for it where 41 bytes are left
+-- every genotype has a line, and there is room for it where 36 bytes are left
 abbrev pub RowsFit : (ℕ → ℕ → ℕ → List ℕ) → (ℕ → ℕ → ℕ → List ℕ → ℕ → Answer) → Type 0
 RowsFit line put =
-    (i p n at : ℕ) (out : List ℕ) → Limits p n → i < length (ordering p n) → at + 41 ≤ length out → put i p n out at ≡ says 0 (length (line i p n) ∷ [])
+    (i p n at : ℕ) (out : List ℕ) → Limits p n → i < length (ordering p n) → at + 36 ≤ length out → put i p n out at ≡ says 0 (length (line i p n) ∷ [])
