@@ -18,10 +18,10 @@ use Rattle.numbering.specs.Ordering.{ordering}
 use Rattle.numbering.specs.Closed.{howMany, closedSum}
 use Rattle.numbering.specs.Demands.{Genotype, Limits, Counts, Numbers, Refused, Places, Holds, Lists, Four, OneEach}
 use Rattle.numbering.specs.Answers.{limits, countAnswer, numberAnswer, genotypeAnswer, listAnswer, genotypeLeft, allLeft}
-use Rattle.numbering.specs.Inner.{neverFalls}
+use Rattle.numbering.specs.Inner.{isGenotype}
 use Rattle.numbering.proofs.OrderLaws.{length-ordering, listed, numbered, rises-ploidy, rises-genotype, genotype-stands}
 use Rattle.numbering.proofs.LimitLaws.{limited, limits-yes, limits-no}
-use Rattle.numbering.proofs.NumberLaws.{never-falls-is, answer-is, answer-none, answer-limits}
+use Rattle.numbering.proofs.NumberLaws.{answer-is, answer-wrong, tested, untested}
 use Rattle.numbering.proofs.FlatLaws.{flat-at, flat-back}
 use Rattle.numbering.proofs.ListLaws.{length-all}
 
@@ -40,11 +40,7 @@ unfolding countAnswer
 counts = record { is = λ p n l. rw (limits-yes l, length-ordering p n); other = λ p n z. rw (limits-no z) }
 
 pub numbers : Numbers numberAnswer
-numbers = record { is = λ n g l f. answer-is n g (limits-yes l) f; other = λ n g z. by n g z (limits (length g) n) refl }
-  where
-    by : (n : ℕ) (g : List ℕ) → (Limits (length g) n → Genotype (length g) n g → ⊥) → (b : Bool) → limits (length g) n ≡ b → numberAnswer n g ≡ says 23 []
-    by n g z true e = answer-none n g (z (limited (sym e) refl))
-    by n g z false e = answer-limits n g e
+numbers = record { is = λ n g l f. answer-is n g (limits-yes l) f; other = answer-wrong }
 
 -- the number i is given to g: it is a genotype within the limits, and i its closed sum
 pub record Told (n i : ℕ) (g : List ℕ) : Type 0 where
@@ -58,12 +54,11 @@ data Judged (n : ℕ) (g : List ℕ) : Type 0 where
   wrong : (Limits (length g) n → Genotype (length g) n g → ⊥) → Judged n g
 
 judged : (n : ℕ) (g : List ℕ) → Judged n g
-judged n g = by (limits (length g) n) refl (neverFalls 0 n g) refl
+judged n g = by (isGenotype n g) refl
   where
-    by : (b : Bool) → limits (length g) n ≡ b → (c : Bool) → neverFalls 0 n g ≡ c → Judged n g
-    by false e c d = wrong (λ l f. false≢true (sym e ∙ limits-yes l))
-    by true e false d = wrong (λ l f. false≢true (sym d ∙ never-falls-is n g .1 f))
-    by true e true d = fine (limited (sym e) refl) (never-falls-is n g .0 d)
+    by : (b : Bool) → isGenotype n g ≡ b → Judged n g
+    by true e = let t = tested n g e in fine (t .limits) (t .genotype)
+    by false e = wrong (untested n g e)
 
 module _ {number : ℕ → List ℕ → Answer} (m : Numbers number) where
   pub told : (n i : ℕ) (g : List ℕ) → number n g ≡ says 0 (i ∷ []) → Told n i g

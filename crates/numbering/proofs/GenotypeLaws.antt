@@ -8,7 +8,7 @@ use native.Mathlib.Numerals.{add-one}
 use lib.ListN.{length, getD, drop, set, length-set, length-append}
 use lib.Seq.{getD-append-add}
 use lib.Dec.{leb, ltb}
-use borrow.Author.Tests.{le-leb, lt-leb, lt-ltb, le-ltb}
+use borrow.Author.Tests.{le-leb, lt-leb, lt-ltb, le-ltb, not-true, not-false}
 use Rattle.text.specs.Over.{over}
 use Rattle.text.proofs.Lists.{over-nil}
 use Rattle.numbering.specs.Ordering.{followed, ordering}
@@ -154,4 +154,4 @@ module _ (i p n : ℕ) (l : List ℕ) {r : Bool} (e : r ≡ limits p n) where
       pub place-under : i < howMany p n
       place-under = omega arith
 
-pub ruleset laws = (seek-first, seek-more, seek-less, seek-turn, seek-within, seek-low, seek-under, rest-under, put-more, put-room, put-none, place-limits, place-past, place-short, place-done, limited-few, limited-alleles)
+pub ruleset laws = (seek-first, seek-more, seek-less, seek-turn, seek-within, seek-low, seek-under, rest-under, put-more, put-room, put-none, place-limits, place-past, place-short, place-done, limited-few, limited-alleles, not-true, not-false)

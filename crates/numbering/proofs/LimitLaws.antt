@@ -3,7 +3,7 @@ use Prim.Native.Nat.{ℕ, _<_, _≤_}
 use mathlib.Core.Path.{_≡_, refl, sym, _∙_}
 use mathlib.Core.Bool.{Bool, true, false, _&&_, and-false, and-eq-true-iff}
 use lib.Dec.{leb}
-use borrow.Author.Tests.{le-leb, lt-leb, leb-true}
+use borrow.Author.Tests.{le-leb, lt-leb, leb-true, not-true, not-false}
 use Rattle.numbering.specs.Closed.{howMany}
 use Rattle.numbering.specs.Demands.{Limits}
 use Rattle.numbering.specs.Answers.{limits, countAnswer}
@@ -65,4 +65,4 @@ module _ (p n : ℕ) {r : Bool} (e : r ≡ limits p n) where
   unfolding numberPaper countAnswer
   count-right t d = let f : limits p n ≡ true = sym e ∙ t in rw (f, d, length-ordering p n)
 
-pub ruleset laws = (limits-no-ploidy, limits-high-ploidy, limits-no-allele, limits-last, limited-few, limited-alleles, count-wrong, count-right)
+pub ruleset laws = (limits-no-ploidy, limits-high-ploidy, limits-no-allele, limits-last, limited-few, limited-alleles, count-wrong, count-right, not-true, not-false)

@@ -9,14 +9,14 @@ use native.Mathlib.Nat.{mul-le-mul-left}
 use lib.ListN.{length, getD, take, drop, set, length-set, length-append, drop-of-length-le}
 use lib.Seq.{length-take-le, sets, sets-eq, drop-drop}
 use lib.Dec.{leb}
-use borrow.Author.Tests.{le-leb, lt-leb}
+use borrow.Author.Tests.{le-leb, lt-leb, not-true, not-false}
 use Rattle.text.specs.Over.{over, overAt}
 use Rattle.text.proofs.Lists.{here, overAt-nil, overAt-append, length-overAt}
 use Rattle.numbering.specs.Ordering.{followed, ordering}
 use Rattle.numbering.specs.Closed.{howMany}
 use Rattle.numbering.specs.Answers.{limits, listAnswer}
 use Rattle.numbering.specs.Promises.{ListsAll}
-use Rattle.numbering.specs.Inner.{spread, block, Room, Listed}
+use Rattle.numbering.specs.Inner.{spread, block, BlockFits, Listed}
 use Rattle.numbering.specs.Paper.{filledPaper}
 use Rattle.numbering.specs.declared.genotype.Filled.the-variants as F
 use Rattle.numbering.proofs.OrderLaws.{length-ordering, listed, rises-ploidy}
@@ -121,7 +121,7 @@ go-first {p} {n} {cur} {row} {at} z =
       done = record { next = rw e (omega arith); rest = refl; size = refl; long = refl; rows = rw e (sym (overAt-nil at row)) };
     }
 
-module _ {p n : ℕ} {cur₀ row₀ : List ℕ} {at a : ℕ} {cur row : List ℕ} {next : ℕ} (g : Going p n cur₀ row₀ at a cur row next) (z : 0 < p) (o : Room p n cur₀ row₀ at) where
+module _ {p n : ℕ} {cur₀ row₀ : List ℕ} {at a : ℕ} {cur row : List ℕ} {next : ℕ} (g : Going p n cur₀ row₀ at a cur row next) (z : 0 < p) (o : BlockFits p n cur₀ row₀ at) where
   pub go-store : p - 1 < length cur
   go-store = let s = g .done .size in let w = o .ploidy in omega arith
 
@@ -135,7 +135,7 @@ module _ {p n : ℕ} {cur₀ row₀ : List ℕ} {at a : ℕ} {cur row : List ℕ
       let w = o .room in
       omega arith
 
-  pub go-room : a < n → Room (p - 1) (a + 1) (set cur (p - 1) a) row next
+  pub go-room : a < n → BlockFits (p - 1) (a + 1) (set cur (p - 1) a) row next
   go-room h =
       let s = go-store in
       let f = go-fits h in
@@ -185,7 +185,7 @@ block-one : (n : ℕ) (cur : List ℕ) → block 0 n cur ≡ cur
 unfolding block spread ordering
 block-one n cur = append-nil cur
 
-module _ {n : ℕ} {cur₀ row₀ : List ℕ} {at a : ℕ} {cur row : List ℕ} {next : ℕ} (g : Going 1 n cur₀ row₀ at a cur row next) (o : Room 1 n cur₀ row₀ at) (h : a < n) where
+module _ {n : ℕ} {cur₀ row₀ : List ℕ} {at a : ℕ} {cur row : List ℕ} {next : ℕ} (g : Going 1 n cur₀ row₀ at a cur row next) (o : BlockFits 1 n cur₀ row₀ at) (h : a < n) where
   pub first-room : next + length (set cur 0 a) ≤ length row
   first-room = let w = go-room g (omega arith) o h .room in let f = ap length (block-one (a + 1) (set cur 0 a)) in omega arith
 
@@ -195,7 +195,7 @@ module _ {n : ℕ} {cur₀ row₀ : List ℕ} {at a : ℕ} {cur row : List ℕ} 
       go-turn g (omega arith) o h (record { next = rw f x; rest = refl; size = refl; long = rw y (length-overAt next (set cur 0 a) row first-room); rows = rw f y })
 
 module _ {p n : ℕ} {cur row : List ℕ} {at : ℕ} (e : p ≡ 1) where
-  pub base-room : Room p n cur row at → Room 1 n cur row at
+  pub base-room : BlockFits p n cur row at → BlockFits 1 n cur row at
   base-room o = rw e at o
 
   pub base-listed : {r : ℕ} {cur′ row′ : List ℕ} → Listed 1 n cur row at r cur′ row′ → Listed p n cur row at r cur′ row′
@@ -239,7 +239,7 @@ module _ (p n : ℕ) {r : Bool} (e : r ≡ limits p n) where
           record { answer = rw (yes-limits, f); row = rw (yes-limits, f) }
 
       module _ (h : c * p ≤ length l) (x : List ℕ) (w : p ≤ length x) where
-        pub list-room : Room p n (take p x) l 0
+        pub list-room : BlockFits p n (take p x) l 0
         list-room =
             let m = room in
             let k = length-take-le p x w in
@@ -253,4 +253,4 @@ module _ (p n : ℕ) {r : Bool} (e : r ≡ limits p n) where
             let k : c ≡ length (ordering p n) = d ∙ sym (length-ordering p n) in
             record { answer = rw (yes-limits, f, k); row = rw (yes-limits, f) (g .rows ∙ rw (block-all p n x w)) }
 
-pub ruleset laws = (copy-first, copy-room, copy-turn, copy-end, copy-past, go-first, go-store, go-room, go-turn, go-past, first-room, first-turn, base-room, base-listed, scratch-length, list-limits, list-product, list-short, list-room, list-done, limited-one, limited-few, limited-alleles)
+pub ruleset laws = (copy-first, copy-room, copy-turn, copy-end, copy-past, go-first, go-store, go-room, go-turn, go-past, first-room, first-turn, base-room, base-listed, scratch-length, list-limits, list-product, list-short, list-room, list-done, limited-one, limited-few, limited-alleles, not-true, not-false)

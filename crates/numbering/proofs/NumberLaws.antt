@@ -1,14 +1,14 @@
 -- The number of a genotype: its alleles judged, and their counts added up. Assumes nothing.
 use Prim.Native.Nat.{ℕ, zero, suc, _+_, _-_, _^_, _<_, _≤_, zero-le}
 use mathlib.Core.Path.{_≡_, refl, sym, ap, _∙_}
-use mathlib.Core.Bool.{Bool, true, false, _&&_, and-false, and-eq-true-iff, false≢true}
+use mathlib.Core.Bool.{Bool, true, false, _&&_, and-false, and-eq-true-iff, false≢true, not}
 use mathlib.Core.Logic.{_↔_}
 use mathlib.Core.List.{List, [], _∷_}
 use native.Mathlib.Omega.{arith}
 use lib.ListN.{length, getD, take, drop, drop-of-length-le}
 use lib.Seq.{take-suc, length-take-le, getD-take, take-all}
 use lib.Dec.{leb, ltb}
-use borrow.Author.Tests.{le-leb, lt-leb, leb-true, lt-ltb, le-ltb, ltb-true}
+use borrow.Author.Tests.{le-leb, lt-leb, leb-true, lt-ltb, le-ltb, ltb-true, not-true, not-false}
 use Rattle.text.specs.Pick.{pick}
 use Rattle.text.specs.Answer.{says}
 use Rattle.text.specs.First.{firstWhere}
@@ -16,14 +16,14 @@ use Rattle.text.specs.Same.{same}
 use Rattle.text.proofs.Lists.{here}
 use Rattle.numbering.specs.Ordering.{ordering}
 use Rattle.numbering.specs.Closed.{howMany, closedSum}
-use Rattle.numbering.specs.Demands.{Genotype}
+use Rattle.numbering.specs.Demands.{Genotype, Limits}
 use Rattle.numbering.specs.Answers.{limits, indexed, numberAnswer}
-use Rattle.numbering.specs.Inner.{neverFalls}
+use Rattle.numbering.specs.Inner.{neverFalls, isGenotype}
 use Rattle.numbering.specs.Paper.{numberPaper}
 use Rattle.numbering.specs.declared.counts.Numbered.the-variants as N
 use Rattle.numbering.proofs.OrderLaws.{genotype-stands, number-none, number-snoc}
 use Rattle.numbering.proofs.CountLaws.{count-small}
-use Rattle.numbering.proofs.LimitLaws.{limited}
+use Rattle.numbering.proofs.LimitLaws.{limited, limits-yes}
 use Rattle.numbering.proofs.IndexLaws.{index-is, index-none}
 
 -- ---- the judge
@@ -158,29 +158,61 @@ pub answer-limits : (n : ℕ) (g : List ℕ) → limits (length g) n ≡ false �
 unfolding numberAnswer
 answer-limits n g l = rw l
 
+pub answer-wrong : (n : ℕ) (g : List ℕ) → (Limits (length g) n → Genotype (length g) n g → ⊥) → numberAnswer n g ≡ says 23 []
+answer-wrong n g z = by (limits (length g) n) refl
+  where
+    by : (b : Bool) → limits (length g) n ≡ b → numberAnswer n g ≡ says 23 []
+    by true e = answer-none n g (z (limited (sym e) refl))
+    by false e = answer-limits n g e
+
+-- ---- the test
+
 module _ (n : ℕ) (g : List ℕ) {r : Bool} (e : r ≡ limits (length g) n) where
-  pub number-limits : r ≡ false → numberPaper N.Wrong ≡ numberAnswer n g
+  pub genotype-limits : not r ≡ true → false ≡ isGenotype n g
+  unfolding isGenotype
+  genotype-limits t = let f : limits (length g) n ≡ false = sym e ∙ not-true r t in rw f
+
+  pub genotype-falls : {s : Bool} → not r ≡ false → s ≡ neverFalls 0 n g → s ≡ isGenotype n g
+  unfolding isGenotype
+  genotype-falls t d = let f : limits (length g) n ≡ true = sym e ∙ not-false r t in rw f d
+
+-- what it tells
+pub record Tested (n : ℕ) (g : List ℕ) : Type 0 where
+  pub limits : Limits (length g) n
+  pub genotype : Genotype (length g) n g
+
+pub tested : (n : ℕ) (g : List ℕ) → isGenotype n g ≡ true → Tested n g
+unfolding isGenotype
+tested n g e =
+    let a = and-eq-true-iff (limits (length g) n) (neverFalls 0 n g) .0 e in
+    record { limits = limited (sym (a .0)) refl; genotype = never-falls-is n g .0 (a .1) }
+
+pub untested : (n : ℕ) (g : List ℕ) → isGenotype n g ≡ false → Limits (length g) n → Genotype (length g) n g → ⊥
+unfolding isGenotype
+untested n g e l f = let k : (limits (length g) n && neverFalls 0 n g) ≡ true = rw (limits-yes l, never-falls-is n g .1 f) in false≢true (sym e ∙ k)
+
+module _ (n : ℕ) (g : List ℕ) {r : Bool} (e : r ≡ isGenotype n g) where
+  pub number-wrong : not r ≡ true → numberPaper N.Wrong ≡ numberAnswer n g
   unfolding numberPaper
-  number-limits t = sym (answer-limits n g (sym e ∙ t))
+  number-wrong t = sym (answer-wrong n g (untested n g (sym e ∙ not-true r t)))
 
-  pub number-short : r ≡ true → length g ≤ 8
-  number-short t = limited e t .eight
+  module _ (t : not r ≡ false) where
+    told : Tested n g
+    told = tested n g (sym e ∙ not-false r t)
 
-  module _ {s : Bool} (d : s ≡ neverFalls 0 n g) (t : r ≡ true) where
-    pub number-falls : s ≡ false → numberPaper N.Wrong ≡ numberAnswer n g
+    pub number-short : length g ≤ 8
+    number-short = told .limits .eight
+
+    pub number-genotype : Genotype (length g) 64 g
+    number-genotype =
+        let k = told .genotype in
+        let m = told .limits .most in
+        record { ploidy = refl; below = λ i h. (let z = k .below i h in omega arith); order = k .order }
+
+    pub number-right : {v : ℕ} → v ≡ closedSum (take (length g) g) → numberPaper (N.Is v) ≡ numberAnswer n g
     unfolding numberPaper
-    number-falls u = sym (answer-none n g (λ f. false≢true (sym u ∙ d ∙ never-falls-is n g .1 f)))
-
-    pub number-genotype : s ≡ true → Genotype (length g) 64 g
-    number-genotype u =
-        let k = never-falls-is n g .0 (sym d ∙ u) in
-        let l = limited e t in
-        record { ploidy = refl; below = λ i h. (let z = k .below i h in let m = l .most in omega arith); order = k .order }
-
-    pub number-right : {v : ℕ} → s ≡ true → v ≡ closedSum (take (length g) g) → numberPaper (N.Is v) ≡ numberAnswer n g
-    unfolding numberPaper
-    number-right {v} u w =
+    number-right {v} w =
         let x : v ≡ closedSum g = w ∙ ap closedSum (take-all (length g) g (omega arith)) in
-        rw x (sym (answer-is n g (sym e ∙ t) (never-falls-is n g .0 (sym d ∙ u))))
+        rw x (sym (answer-is n g (limits-yes (told .limits)) (told .genotype)))
 
-pub ruleset laws = (judge-first, judge-falls, judge-high, judge-turn, judge-past, number-last, number-more, number-fits, number-zero, number-limits, number-short, number-falls, number-genotype, number-right)
+pub ruleset laws = (judge-first, judge-falls, judge-high, judge-turn, judge-past, number-last, number-more, number-fits, number-zero, genotype-limits, genotype-falls, number-wrong, number-short, number-genotype, number-right)

@@ -7,11 +7,16 @@ use lib.ListN.{length, drop}
 use lib.Dec.{leb, ltb}
 use Rattle.text.specs.Over.{overAt}
 use Rattle.numbering.specs.Ordering.{ordering}
+use Rattle.numbering.specs.Answers.{limits}
 
 -- alleles that never fall, from low on, each one of the n
 unfoldable pub neverFalls : ℕ → ℕ → List ℕ → Bool
 neverFalls low n [] = true
 neverFalls low n (k ∷ g) = leb low k && (ltb k n && neverFalls k n g)
+
+-- a genotype, within the limits
+unfoldable pub isGenotype : ℕ → List ℕ → Bool
+isGenotype n g = limits (length g) n && neverFalls 0 n g
 
 -- genotypes one after the other, each with the same last alleles s
 unfoldable pub spread : List ℕ → List (List ℕ) → List ℕ
@@ -24,7 +29,7 @@ unfolding spread
 block p n cur = spread (drop p cur) (ordering p n)
 
 -- cur has that index, and the block fits row from index at on
-pub record Room (p n : ℕ) (cur row : List ℕ) (at : ℕ) : Type 0 where
+pub record BlockFits (p n : ℕ) (cur row : List ℕ) (at : ℕ) : Type 0 where
   pub ploidy : p ≤ length cur
   pub room : at + length (block p n cur) ≤ length row
 

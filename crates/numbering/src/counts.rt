@@ -50,8 +50,8 @@ pub(crate) fn within_limits(ploidy: u64, alleles: u64) -> bool
 pub fn count_of(ploidy: u64, alleles: u64) -> Numbered
     ensures { λ r. ⌜ CountsGenotypes ploidy alleles r ⌝ }
 {
-    if within_limits(ploidy, alleles) {
-        return Numbered::Is(count(ploidy as usize, alleles as usize));
+    if !within_limits(ploidy, alleles) {
+        return Numbered::Wrong;
     }
-    Numbered::Wrong
+    Numbered::Is(count(ploidy as usize, alleles as usize))
 }

@@ -57,17 +57,17 @@ fn put_genotype(number: u64, ploidy: usize, alleles: usize, row: &mut [u64])
 pub fn genotype_of(number: u64, ploidy: u64, alleles: u64, row: &mut [u64]) -> Filled
     ensures { λ r. ⌜ PlacesGenotype number ploidy alleles (now (row .entry)) r (now (row .exit)) ⌝ }
 {
-    if within_limits(ploidy, alleles) {
-        let p = ploidy as usize;
-        let n = alleles as usize;
-        if number >= count(p, n) {
-            return Filled::Wrong;
-        }
-        if p > row.len() {
-            return Filled::Short;
-        }
-        put_genotype(number, p, n, row);
-        return Filled::Done(ploidy);
+    if !within_limits(ploidy, alleles) {
+        return Filled::Wrong;
     }
-    Filled::Wrong
+    let p = ploidy as usize;
+    let n = alleles as usize;
+    if number >= count(p, n) {
+        return Filled::Wrong;
+    }
+    if p > row.len() {
+        return Filled::Short;
+    }
+    put_genotype(number, p, n, row);
+    Filled::Done(ploidy)
 }

@@ -7,7 +7,7 @@ ghost use Prim.Native.Nat.{_≤_, _<_, _+_};
 ghost use lib.ListN.{length};
 ghost use Rattle.text.specs.Over.{overAt};
 ghost use Rattle.numbering.specs.Promises.{ListsAll};
-ghost use Rattle.numbering.specs.Inner.{Room, Listed};
+ghost use Rattle.numbering.specs.Inner.{BlockFits, Listed};
 
 // Writes a genotype from the place `at` on, and returns the place past it.
 fn put_one(current: &[u64], row: &mut [u64], at: usize) -> usize
@@ -25,7 +25,7 @@ fn put_one(current: &[u64], row: &mut [u64], at: usize) -> usize
 
 // Writes from the place `at` on each allele in turn, followed by what stands behind it in `current`, and returns the place past them.
 fn put_first(alleles: usize, current: &mut [u64], row: &mut [u64], at: usize) -> usize
-    requires { ⌜ Room 1 alleles (now current) (now row) at ⌝ }
+    requires { ⌜ BlockFits 1 alleles (now current) (now row) at ⌝ }
     ensures { λ r. ⌜ Listed 1 alleles (now (current .entry)) (now (row .entry)) at r (now (current .exit)) (now (row .exit)) ⌝ }
 {
     let mut next = at;
@@ -43,7 +43,7 @@ fn put_first(alleles: usize, current: &mut [u64], row: &mut [u64], at: usize) ->
 fn put_all(ploidy: usize, alleles: usize, current: &mut [u64], row: &mut [u64], at: usize) -> usize
     requires { ⌜ 0 < ploidy ⌝ }
     requires { ⌜ alleles ≤ 64 ⌝ }
-    requires { ⌜ Room ploidy alleles (now current) (now row) at ⌝ }
+    requires { ⌜ BlockFits ploidy alleles (now current) (now row) at ⌝ }
     ensures { λ r. ⌜ Listed ploidy alleles (now (current .entry)) (now (row .entry)) at r (now (current .exit)) (now (row .exit)) ⌝ }
 {
     if ploidy == 1 {
@@ -63,16 +63,16 @@ fn put_all(ploidy: usize, alleles: usize, current: &mut [u64], row: &mut [u64], 
 pub fn list_all(ploidy: u64, alleles: u64, row: &mut [u64]) -> Filled
     ensures { λ r. ⌜ ListsAll ploidy alleles (now (row .entry)) r (now (row .exit)) ⌝ }
 {
-    if within_limits(ploidy, alleles) {
-        let p = ploidy as usize;
-        let n = alleles as usize;
-        let many = count(p, n);
-        if many * ploidy > row.len() as u64 {
-            return Filled::Short;
-        }
-        let mut current = [0u64; 8];
-        put_all(p, n, &mut current[..p], row, 0);
-        return Filled::Done(many);
+    if !within_limits(ploidy, alleles) {
+        return Filled::Wrong;
     }
-    Filled::Wrong
+    let p = ploidy as usize;
+    let n = alleles as usize;
+    let many = count(p, n);
+    if many * ploidy > row.len() as u64 {
+        return Filled::Short;
+    }
+    let mut current = [0u64; 8];
+    put_all(p, n, &mut current[..p], row, 0);
+    Filled::Done(many)
 }

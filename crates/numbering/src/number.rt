@@ -7,7 +7,7 @@ ghost use Prim.Native.Nat.{_≤_};
 ghost use lib.ListN.{length, take};
 ghost use Rattle.numbering.specs.Closed.{closedSum};
 ghost use Rattle.numbering.specs.Demands.{Genotype};
-ghost use Rattle.numbering.specs.Inner.{neverFalls};
+ghost use Rattle.numbering.specs.Inner.{neverFalls, isGenotype};
 ghost use Rattle.numbering.specs.Promises.{NumbersGenotype};
 
 // Whether the alleles never fall, and are each one of so many.
@@ -30,6 +30,16 @@ fn never_falls(genotype: &[u64], alleles: u64) -> bool
     true
 }
 
+// Whether these are a genotype of so many alleles, the ploidy and the allele count within their limits.
+fn is_genotype(genotype: &[u64], alleles: u64) -> bool
+    ensures { λ r. ⌜ r ≡ isGenotype alleles (now (genotype .entry)) ⌝ }
+{
+    if !within_limits(genotype.len() as u64, alleles) {
+        return false;
+    }
+    never_falls(genotype, alleles)
+}
+
 // The number of the first alleles: that of one allele less, and the count of the genotypes whose last allele is lower.
 fn number_to(genotype: &[u64], ploidy: usize) -> u64
     requires { ⌜ Genotype (length (now genotype)) 64 (now genotype) ⌝ }
@@ -48,11 +58,8 @@ fn number_to(genotype: &[u64], ploidy: usize) -> u64
 pub fn number_of(genotype: &[u64], alleles: u64) -> Numbered
     ensures { λ r. ⌜ NumbersGenotype (now (genotype .entry)) alleles r ⌝ }
 {
-    let ploidy = genotype.len();
-    if within_limits(ploidy as u64, alleles) {
-        if never_falls(genotype, alleles) {
-            return Numbered::Is(number_to(genotype, ploidy));
-        }
+    if !is_genotype(genotype, alleles) {
+        return Numbered::Wrong;
     }
-    Numbered::Wrong
+    Numbered::Is(number_to(genotype, genotype.len()))
 }

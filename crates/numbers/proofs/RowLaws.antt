@@ -36,8 +36,7 @@ use Rattle.numbering.proofs.LimitLaws.{limits-yes}
 use Rattle.numbering.proofs.ToldLaws.{Placed, place-told, place-refused}
 use Rattle.numbers.specs.Table.{laterText, genotypeText, rowText, lineOf, rowAnswer, PutsRow}
 use Rattle.numbers.specs.Paper.{rowPaper}
-use Rattle.numbers.specs.Inner as I
-use Rattle.numbers.specs.Inner.{behind, Puts, Starts}
+use Rattle.numbers.specs.Inner.{behind, Puts, Starts, LineFits}
 use Rattle.numbers.specs.declared.row.Row.{Row}
 use Rattle.numbers.specs.declared.row.Row.the-variants as R
 
@@ -124,7 +123,7 @@ row-parts i (k ∷ g) h = refl
 row-size : (i : ℕ) (g : List ℕ) → 0 < length g → length (rowText i g) ≡ length (shortest i) + (length (behind 9 g) + 1)
 row-size i g h = ap length (row-parts i g h) ∙ length-append (shortest i) _ ∙ ap (λ (n : ℕ). length (shortest i) + n) (length-append (behind 9 g) (10 ∷ []))
 
-module _ {i : ℕ} {g l l₁ : List ℕ} {r : Written} (f : I.Fits i g l) (w : Writes (shortest i) l r l₁) where
+module _ {i : ℕ} {g l l₁ : List ℕ} {r : Written} (f : LineFits i g l) (w : Writes (shortest i) l r l₁) where
   pub line-none : r ≡ Short → ⊥
   line-none e = let s = row-size i g (f .some) in let a = writes-short w e .room in let b = f .room in omega arith
 
@@ -213,7 +212,7 @@ module _ (i p n : ℕ) {x : Filled} {l : List ℕ} (w : PlacesGenotype i p n eig
   row-taken : take p l ≡ g
   row-taken = rw (told .row) (take-over g eight p (sym row-ploidy))
 
-  pub row-fits : (line : List ℕ) → 64 ≤ length line → I.Fits i (take p l) line
+  pub row-fits : (line : List ℕ) → 64 ≤ length line → LineFits i (take p l) line
   unfolding lineOf
   row-fits line h =
       let m = told .within in

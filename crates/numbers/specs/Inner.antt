@@ -26,6 +26,6 @@ pub record Starts (s l : List ℕ) (r : ℕ) (l′ : List ℕ) : Type 0 where
   pub bytes : l′ ≡ over s l
 
 -- there is an allele, and the line fits l
-pub record Fits (i : ℕ) (g l : List ℕ) : Type 0 where
+pub record LineFits (i : ℕ) (g l : List ℕ) : Type 0 where
   pub some : 0 < length g
   pub room : length (rowText i g) ≤ length l

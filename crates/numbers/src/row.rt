@@ -9,7 +9,7 @@ ghost use Prim.Native.Nat.{_+_, _≤_};
 ghost use lib.ListN.{length};
 ghost use Rattle.decimal.specs.Shortest.{shortest};
 ghost use Rattle.numbers.specs.Table.{rowText, PutsRow};
-ghost use Rattle.numbers.specs.Inner.{behind, Puts, Starts, Fits};
+ghost use Rattle.numbers.specs.Inner.{behind, Puts, Starts, LineFits};
 
 // The answer of `put_row`.
 pub enum Row {
@@ -54,7 +54,7 @@ fn put_genotype(genotype: &[u64], line: &mut [u8], at: usize) -> usize
 
 // Puts a whole line at the start, and returns how many bytes it has.
 fn put_line(number: u64, genotype: &[u64], line: &mut [u8]) -> usize
-    requires { ⌜ Fits number (now genotype) (now line) ⌝ }
+    requires { ⌜ LineFits number (now genotype) (now line) ⌝ }
     ensures { λ r. ⌜ Starts (rowText number (now (genotype .entry))) (now (line .entry)) r (now (line .exit)) ⌝ }
 {
     match print_decimal(number, line) {
