@@ -40,38 +40,28 @@ lists-genotypes p n g = (to, from)
     from f = Memᴰ·cast (sym (in-number-order .there p n g f)) (mem-at (ordering p n) (closedSum g) (in-number-order .under p n g f))
 
 -- what more alleles add
-pub Added : ℕ → ℕ → ℕ → Type 0
+abbrev pub Added : ℕ → ℕ → ℕ → Type 0
 Added p m n = (rest : List (List ℕ)) × (ordering p n ≡ ordering p m ++ rest)
 
 one-more : (p m n : ℕ) → Added p m n → Added p m (suc n)
-unfolding Added ordering
+unfolding ordering
 one-more zero m n r = ([], refl)
 one-more (suc p) m n (rest, e) =
     (rest ++ followed n (ordering p (suc n)), ap (λ (l : List (List ℕ)). l ++ followed n (ordering p (suc n))) e ∙ append-assoc (ordering (suc p) m) rest _)
 
 added : (p m d : ℕ) → Added p m (m + d)
-unfolding Added
 added p m zero = let e : m + 0 ≡ m = omega arith in ([], rw e (sym (append-nil _)))
 added p m (suc d) = let e : m + suc d ≡ suc (m + d) = omega arith in rw e (one-more p m (m + d) (added p m d))
 
-pub added-to : (p m n : ℕ) → m ≤ n → (rest : List (List ℕ)) × (ordering p n ≡ ordering p m ++ rest)
-unfolding Added
+pub added-to : (p m n : ℕ) → m ≤ n → Added p m n
 added-to p m n h = let e : m + (n - m) ≡ n = omega arith in subst (Added p m) e (added p m (n - m))
 
 pub begins : Begins ordering
-unfolding Added
-begins p m n h =
-    let e : m + (n - m) ≡ n = omega arith in
-    let r : Added p m n = subst (Added p m) e (added p m (n - m)) in
-    rw (r .1) (take-append-seam (ordering p m) (r .0))
+begins p m n h = let r = added-to p m n h in rw (r .1) (take-append-seam (ordering p m) (r .0))
 
 -- a genotype of fewer alleles stands at the same place among those of more
 pub fewer-at : (p m n i : ℕ) → m ≤ n → i < length (ordering p m) → getD (ordering p n) i [] ≡ getD (ordering p m) i []
-unfolding Added
-fewer-at p m n i h l =
-    let e : m + (n - m) ≡ n = omega arith in
-    let r : Added p m n = subst (Added p m) e (added p m (n - m)) in
-    ap (λ (o : List (List ℕ)). getD o i []) (r .1) ∙ List·getD-append (ordering p m) (r .0) [] i l
+fewer-at p m n i h l = let r = added-to p m n h in ap (λ (o : List (List ℕ)). getD o i []) (r .1) ∙ List·getD-append (ordering p m) (r .0) [] i l
 
 -- two alleles
 choose-one : (n : ℕ) → choose n 1 ≡ n

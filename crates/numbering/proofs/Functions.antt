@@ -2,7 +2,7 @@
 -- alike, since each genotype's place is told by its number. Assumes nothing.
 use Prim.Native.Nat.{ℕ, _*_, _<_, _≤_}
 use mathlib.Core.Path.{_≡_, refl, sym, ap, ap₂, _∙_}
-use mathlib.Core.Bool.{Bool, true, false, _&&_, false≢true, and-eq-true-iff}
+use mathlib.Core.Bool.{Bool, true, false, false≢true, and-eq-true-iff}
 use mathlib.Core.List.{List, [], _∷_, _++_, flatten}
 use native.Mathlib.Omega.{arith}
 use lib.ListN.{length, getD, take, drop, take-append-drop, length-append, length-drop}
@@ -17,7 +17,7 @@ use Rattle.text.proofs.OutcomeLaws.{same-outcome}
 use Rattle.numbering.specs.Ordering.{ordering}
 use Rattle.numbering.specs.Closed.{howMany, closedSum}
 use Rattle.numbering.specs.Demands.{Genotype, Limits, Counts, Numbers, Refused, Places, Holds, Lists, Four, OneEach}
-use Rattle.numbering.specs.Answers.{limits, countAnswer, numberAnswer, genotypeAnswer, listAnswer, genotypeLeft, allLeft}
+use Rattle.numbering.specs.Answers.{limits, countAnswer, numberAnswer, genotypeAnswer, listAnswer, isThere, genotypeLeft, allLeft}
 use Rattle.numbering.specs.Inner.{isGenotype}
 use Rattle.numbering.proofs.OrderLaws.{length-ordering, listed, numbered, rises-ploidy, rises-genotype, genotype-stands}
 use Rattle.numbering.proofs.LimitLaws.{limited, limits-yes, limits-no}
@@ -94,17 +94,13 @@ stood m p n i g e t =
     let w = length-ordering p n in
     record { limits = rw e at (k .limits); under = let u = s .under in omega arith; here = rw q at (s .there) }
 
--- there is a genotype at this index
-abbrev isAt : ℕ → ℕ → ℕ → Bool
-isAt p n i = limits p n && ltb i (length (ordering p n))
-
-stood-at : {p n i : ℕ} {g : List ℕ} → Stood p n i g → isAt p n i ≡ true
+stood-at : {p n i : ℕ} {g : List ℕ} → Stood p n i g → isThere i p n ≡ true
 stood-at {p} {n} {i} s = rw (limits-yes (s .limits), lt-ltb i (length (ordering p n)) (s .under))
 
-at-limits : (p n i : ℕ) → isAt p n i ≡ true → Limits p n
+at-limits : (p n i : ℕ) → isThere i p n ≡ true → Limits p n
 at-limits p n i e = limited {r = limits p n} refl (and-eq-true-iff (limits p n) (ltb i (length (ordering p n))) .0 e .0)
 
-at-under : (p n i : ℕ) → isAt p n i ≡ true → i < howMany p n
+at-under : (p n i : ℕ) → isThere i p n ≡ true → i < howMany p n
 at-under p n i e =
     let v = ltb-true i (length (ordering p n)) (and-eq-true-iff (limits p n) (ltb i (length (ordering p n))) .0 e .1) in
     let w = length-ordering p n in
@@ -114,7 +110,7 @@ at-under p n i e =
 
 module _ {number : ℕ → List ℕ → Answer} (m : Numbers number) where
   module _ (i p n : ℕ) (row g : List ℕ) (e : length g ≡ p) (t : number n g ≡ says 0 (i ∷ [])) where
-    good : isAt p n i ≡ true
+    good : isThere i p n ≡ true
     good = stood-at (stood m p n i g e t)
 
     place-done : p ≤ length row → genotypeOutcome i p n row .answer ≡ says 0 (p ∷ [])
@@ -131,9 +127,9 @@ module _ {number : ℕ → List ℕ → Answer} (m : Numbers number) where
 
   place-other : (i p n : ℕ) (row : List ℕ) → ((g : List ℕ) → length g ≡ p → number n g ≡ says 0 (i ∷ []) → ⊥) → Refused 23 row (genotypeOutcome i p n row)
   unfolding genotypeAnswer
-  place-other i p n row z = by (isAt p n i) refl
+  place-other i p n row z = by (isThere i p n) refl
     where
-      by : (b : Bool) → isAt p n i ≡ b → Refused 23 row (genotypeOutcome i p n row)
+      by : (b : Bool) → isThere i p n ≡ b → Refused 23 row (genotypeOutcome i p n row)
       by false e = record { answer = rw e; left = rw e }
       by true e =
           let h = at-under p n i e in
@@ -144,20 +140,25 @@ module _ {number : ℕ → List ℕ → Answer} (m : Numbers number) where
 
 -- ---- all of them
 
--- the count that is told is that of the order
-counted : {count : ℕ → ℕ → Answer} → Counts count → (p n c : ℕ) → count p n ≡ says 0 (c ∷ []) → (limits p n ≡ true) × (c ≡ length (ordering p n))
-counted k p n c e = by (limits p n) refl
-  where
-    by : (b : Bool) → limits p n ≡ b → (limits p n ≡ true) × (c ≡ length (ordering p n))
-    by true l = (l, let s = k .is p n (limited (sym l) refl) in let q : howMany p n ≡ c = cc in sym q ∙ sym (length-ordering p n))
-    by false l = absurd (let s = k .other p n (λ f. false≢true (sym l ∙ limits-yes f)) in let y : _≡_ {A = ℕ} 0 23 = cc in omega arith)
+-- a count that is told is that of the order
+pub record OfOrder (p n c : ℕ) : Type 0 where
+  pub within : limits p n ≡ true
+  pub count : c ≡ length (ordering p n)
 
-uncounted : {count : ℕ → ℕ → Answer} → Counts count → (p n : ℕ) → count p n ≡ says 23 [] → limits p n ≡ false
-uncounted k p n e = by (limits p n) refl
-  where
-    by : (b : Bool) → limits p n ≡ b → limits p n ≡ false
-    by false l = l
-    by true l = absurd (let s = k .is p n (limited (sym l) refl) in let y : _≡_ {A = ℕ} 0 23 = cc in omega arith)
+module _ {count : ℕ → ℕ → Answer} (k : Counts count) (p n : ℕ) where
+  pub of-order : (c : ℕ) → count p n ≡ says 0 (c ∷ []) → OfOrder p n c
+  of-order c e = by (limits p n) refl
+    where
+      by : (b : Bool) → limits p n ≡ b → OfOrder p n c
+      by true l = record { within = l; count = let s = k .is p n (limited (sym l) refl) in let q : howMany p n ≡ c = cc in sym q ∙ sym (length-ordering p n) }
+      by false l = absurd (let s = k .other p n (λ f. false≢true (sym l ∙ limits-yes f)) in let y : _≡_ {A = ℕ} 0 23 = cc in omega arith)
+
+  pub off-order : count p n ≡ says 23 [] → limits p n ≡ false
+  off-order e = by (limits p n) refl
+    where
+      by : (b : Bool) → limits p n ≡ b → limits p n ≡ false
+      by false l = l
+      by true l = absurd (let s = k .is p n (limited (sym l) refl) in let y : _≡_ {A = ℕ} 0 23 = cc in omega arith)
 
 flat-long : (p n : ℕ) → length (flatten (ordering p n)) ≡ length (ordering p n) * p
 flat-long p n = length-all p n ∙ ap (λ (c : ℕ). c * p) (sym (length-ordering p n))
@@ -165,15 +166,15 @@ flat-long p n = length-all p n ∙ ap (λ (c : ℕ). c * p) (sym (length-orderin
 module _ {count : ℕ → ℕ → Answer} (k : Counts count) {number : ℕ → List ℕ → Answer} (m : Numbers number) where
   module _ (p n c : ℕ) (row : List ℕ) (e : count p n ≡ says 0 (c ∷ [])) where
     room : length (flatten (ordering p n)) ≡ c * p
-    room = flat-long p n ∙ ap (λ (j : ℕ). j * p) (sym (counted k p n c e .1))
+    room = flat-long p n ∙ ap (λ (j : ℕ). j * p) (sym (of-order k p n c e .count))
 
     list-done : c * p ≤ length row → listOutcome p n row .answer ≡ says 0 (c ∷ [])
     unfolding listAnswer
-    list-done h = let q = counted k p n c e in rw (q .0, le-leb (length (flatten (ordering p n))) (length row) (let r = room in omega arith), q .1)
+    list-done h = let q = of-order k p n c e in rw (q .within, le-leb (length (flatten (ordering p n))) (length row) (let r = room in omega arith), q .count)
 
     written : c * p ≤ length row → listOutcome p n row .output ≡ flatten (ordering p n) ++ drop (c * p) row
     unfolding listAnswer
-    written h = rw (counted k p n c e .0, le-leb (length (flatten (ordering p n))) (length row) (let r = room in omega arith)) (over-is (flatten (ordering p n)) row ∙ rw room refl)
+    written h = rw (of-order k p n c e .within, le-leb (length (flatten (ordering p n))) (length row) (let r = room in omega arith)) (over-is (flatten (ordering p n)) row ∙ rw room refl)
 
     list-holds : c * p ≤ length row → Holds number c p n row (listOutcome p n row .output)
     list-holds h =
@@ -190,12 +191,12 @@ module _ {count : ℕ → ℕ → Answer} (k : Counts count) {number : ℕ → L
     unfolding listAnswer
     list-short h =
         let f = lt-leb (length (flatten (ordering p n))) (length row) (let r = room in omega arith) in
-        let q = counted k p n c e .0 in
+        let q = of-order k p n c e .within in
         record { answer = rw (q, f); left = rw (q, f) }
 
   list-other : (p n : ℕ) (row : List ℕ) → count p n ≡ says 23 [] → Refused 23 row (listOutcome p n row)
   unfolding listAnswer
-  list-other p n row e = let f = uncounted k p n e in record { answer = rw f; left = rw f }
+  list-other p n row e = let f = off-order k p n e in record { answer = rw f; left = rw f }
 
   pub lists : Lists count number listOutcome
   lists = record { done = list-done; holds = list-holds; short = list-short; other = list-other }
@@ -233,12 +234,12 @@ one-each f h = record { count = same-count; number = same-number; place = same-p
         by (wrong z) = f .numbers .other n g z ∙ sym (h .numbers .other n g z)
 
     same-place : (i p n : ℕ) (row : List ℕ) → f .place i p n row ≡ h .place i p n row
-    same-place i p n row = by (isAt p n i) refl
+    same-place i p n row = by (isThere i p n) refl
       where
-        nowhere : {number : ℕ → List ℕ → Answer} → Numbers number → isAt p n i ≡ false → (g : List ℕ) → length g ≡ p → number n g ≡ says 0 (i ∷ []) → ⊥
+        nowhere : {number : ℕ → List ℕ → Answer} → Numbers number → isThere i p n ≡ false → (g : List ℕ) → length g ≡ p → number n g ≡ says 0 (i ∷ []) → ⊥
         nowhere m e g q t = false≢true (sym e ∙ stood-at (stood m p n i g q t))
 
-        room : isAt p n i ≡ true → (b : Bool) → leb p (length row) ≡ b → f .place i p n row ≡ h .place i p n row
+        room : isThere i p n ≡ true → (b : Bool) → leb p (length row) ≡ b → f .place i p n row ≡ h .place i p n row
         room a b e = by b e
           where
             g : List ℕ
@@ -259,7 +260,7 @@ one-each f h = record { count = same-count; number = same-number; place = same-p
                 same-outcome (f .places .done i p n row g q t w ∙ sym (h .places .done i p n row g q t′ w)) (f .places .written i p n row g q t w ∙ sym (h .places .written i p n row g q t′ w))
             by false e = let w = leb-false p (length row) e in both-refused (f .places .short i p n row g q t w) (h .places .short i p n row g q t′ w)
 
-        by : (b : Bool) → isAt p n i ≡ b → f .place i p n row ≡ h .place i p n row
+        by : (b : Bool) → isThere i p n ≡ b → f .place i p n row ≡ h .place i p n row
         by false e = both-refused (f .places .other i p n row (nowhere (f .numbers) e)) (h .places .other i p n row (nowhere (h .numbers) e))
         by true e = room e (leb p (length row)) refl
 

@@ -1,7 +1,7 @@
 -- The genotype of a number: its last allele sought, and the rest of it written. Assumes nothing.
 use Prim.Native.Nat.{ℕ, zero, suc, _+_, _-_, _<_, _≤_}
 use mathlib.Core.Path.{_≡_, refl, sym, ap, _∙_}
-use mathlib.Core.Bool.{Bool, true, false, _&&_, and-false}
+use mathlib.Core.Bool.{Bool, true, false, and-false}
 use mathlib.Core.List.{List, [], _∷_, _++_, append-assoc}
 use native.Mathlib.Omega.{arith}
 use native.Mathlib.Numerals.{add-one}
@@ -13,7 +13,7 @@ use Rattle.text.specs.Over.{over}
 use Rattle.text.proofs.Lists.{over-nil}
 use Rattle.numbering.specs.Ordering.{followed, ordering}
 use Rattle.numbering.specs.Closed.{howMany}
-use Rattle.numbering.specs.Answers.{limits, genotypeAnswer}
+use Rattle.numbering.specs.Answers.{limits, genotypeAnswer, isThere}
 use Rattle.numbering.specs.Promises.{PlacesGenotype}
 use Rattle.numbering.specs.Paper.{filledPaper}
 use Rattle.numbering.specs.declared.genotype.Filled.the-variants as F
@@ -137,7 +137,7 @@ module _ (i p n : ℕ) (l : List ℕ) {r : Bool} (e : r ≡ limits p n) where
     place-past h = let f : ltb i (length (ordering p n)) ≡ false = le-ltb i (length (ordering p n)) (let k = length-ordering p n in omega arith) in record { answer = rw (f, and-false); row = rw (f, and-false) }
 
     module _ (h : i < c) where
-      good : (limits p n && ltb i (length (ordering p n))) ≡ true
+      good : isThere i p n ≡ true
       good =
           let f : limits p n ≡ true = sym e ∙ t in
           let g : ltb i (length (ordering p n)) ≡ true = lt-ltb i (length (ordering p n)) (let k = length-ordering p n in omega arith) in

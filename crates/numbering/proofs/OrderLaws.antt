@@ -2,9 +2,10 @@
 use Prim.Native.Nat.{ℕ, zero, suc, _+_, _-_, _<_, _≤_}
 use mathlib.Core.Path.{_≡_, refl, sym, ap, _∙_, subst}
 use mathlib.Core.List.{List, [], _∷_, _++_}
-use mathlib.Core.Logic.{_⊎_, inl, inr, ⊎-elim}
+use mathlib.Core.Logic.{_⊎_, ⊎-elim}
 use native.Mathlib.Omega.{arith}
-use native.Mathlib.Nat.{le-of-suc-le-suc}
+use native.Mathlib.Nat.{le-of-suc-le-suc, eq-or-lt-of-le}
+use native.Mathlib.Decide.{decLe}
 use lib.ListN.{length, getD, length-append, List·getD-append}
 use lib.Seq.{getD-append-add, getD-append-seam}
 use Rattle.text.proofs.Lists.{by-snoc}
@@ -88,11 +89,8 @@ getD-last g a i e = rw e (getD-append-seam g a [] 0)
 length-snoc : (g : List ℕ) (a : ℕ) → length (g ++ a ∷ []) ≡ length g + 1
 length-snoc g a = length-append g (a ∷ [])
 
-split : (i n : ℕ) → i < n + 1 → (i < n) ⊎ (i ≡ n)
-split zero zero h = inr refl
-split zero (suc n) h = inl (omega arith)
-split (suc i) zero h = absurd (omega arith)
-split (suc i) (suc n) h = ⊎-elim (λ l. inl (omega arith)) (λ e. inr (ap suc e)) (split i n (omega arith))
+last-or-front : (i n : ℕ) → i < n + 1 → (i ≡ n) ⊎ (i < n)
+last-or-front i n h = eq-or-lt-of-le (omega arith)
 
 pub rises-genotype : {p n : ℕ} {g : List ℕ} → Rises p n g → Genotype p n g
 rises-genotype none = record { ploidy = refl; below = λ i h. absurd (omega arith); order = λ i h. absurd (omega arith) }
@@ -101,11 +99,11 @@ rises-genotype (more {p} {n} {a} {g} r h) =
     let l = length-snoc g a in
     record {
       ploidy = rises-ploidy (more r h);
-      below = λ i w. ⊎-elim (λ u. rw (getD-front g a i u) (let z = f .below i u in omega arith)) (λ e. rw (getD-last g a i e) h) (split i (length g) (omega arith));
+      below = λ i w. ⊎-elim (λ e. rw (getD-last g a i e) h) (λ u. rw (getD-front g a i u) (let z = f .below i u in omega arith)) (last-or-front i (length g) (omega arith));
       order = λ i w. ⊎-elim
-          (λ u. rw (getD-front g a i (omega arith), getD-front g a (suc i) u) (f .order i u))
           (λ e. rw (getD-front g a i (omega arith), getD-last g a (suc i) e) (let z = f .below i (omega arith) in omega arith))
-          (split (suc i) (length g) (omega arith));
+          (λ u. rw (getD-front g a i (omega arith), getD-front g a (suc i) u) (f .order i u))
+          (last-or-front (suc i) (length g) (omega arith));
     }
 
 -- no allele is greater than a later one
@@ -168,26 +166,24 @@ number-snoc g a = let e : 1 + length g ≡ suc (length g) = omega arith in rw e 
 
 -- ---- where each stands
 
-split-lt : (i n : ℕ) → (i < n) ⊎ ((j : ℕ) × (i ≡ n + j))
-split-lt i zero = inr (i, omega arith)
-split-lt zero (suc n) = inl (omega arith)
-split-lt (suc i) (suc n) = ⊎-elim (λ l. inl (omega arith)) (λ e. inr (e .0, (let z = e .1 in omega arith))) (split-lt i n)
-
 -- an index of the genotypes of ploidy p + 1 over a + 1 alleles is one over a alleles, or, past them, one of ploidy p
 place : (P : ℕ → List ℕ → Type 0) (p a : ℕ)
     → ((i : ℕ) → i < length (ordering (suc p) a) → P i (getD (ordering (suc p) a) i []))
     → ((j : ℕ) → j < length (ordering p (suc a)) → P (length (ordering (suc p) a) + j) (getD (ordering p (suc a)) j [] ++ a ∷ []))
     → (i : ℕ) → i < length (ordering (suc p) (suc a)) → P i (getD (ordering (suc p) (suc a)) i [])
 unfolding ordering
-place P p a front back i h = by (split-lt i (length (ordering (suc p) a)))
+place P p a front back i h = by (decLe (length (ordering (suc p) a)) i)
   where
-    by : (i < length (ordering (suc p) a)) ⊎ ((j : ℕ) × (i ≡ length (ordering (suc p) a) + j)) → P i (getD (ordering (suc p) a ++ followed a (ordering p (suc a))) i [])
-    by (inl l) = rw (List·getD-append (ordering (suc p) a) (followed a (ordering p (suc a))) [] i l) (front i l)
-    by (inr (j, e)) =
+    by : Dec (length (ordering (suc p) a) ≤ i) → P i (getD (ordering (suc p) a ++ followed a (ordering p (suc a))) i [])
+    by (no z) = let l : i < length (ordering (suc p) a) = omega arith in rw (List·getD-append (ordering (suc p) a) (followed a (ordering p (suc a))) [] i l) (front i l)
+    by (yes l) =
+        let j = i - length (ordering (suc p) a) in
+        let e : i ≡ length (ordering (suc p) a) + j = omega arith in
         let w = length-followed a (ordering p (suc a)) in
         let v = length-append (ordering (suc p) a) (followed a (ordering p (suc a))) in
         let u : j < length (ordering p (suc a)) = omega arith in
-        rw (e, getD-append-add (ordering (suc p) a) (followed a (ordering p (suc a))) j [], getD-followed a (ordering p (suc a)) j u) (back j u)
+        subst (λ (k : ℕ). P k (getD (ordering (suc p) a ++ followed a (ordering p (suc a))) k [])) (sym e)
+        (rw (getD-append-add (ordering (suc p) a) (followed a (ordering p (suc a))) j [], getD-followed a (ordering p (suc a)) j u) (back j u))
 
 -- what is listed is a genotype
 pub listed : (p n i : ℕ) → i < length (ordering p n) → Rises p n (getD (ordering p n) i [])
@@ -247,13 +243,13 @@ stands (more {p} {n} {a} {g} r h) = up (stands r) n h
     up : Stands p (suc a) g → (n : ℕ) → a < n → Stands (suc p) n (g ++ a ∷ [])
     up t zero w = absurd (omega arith)
     up t (suc n) w = ⊎-elim
+        (λ e. subst (λ (k : ℕ). Stands (suc p) (suc k) (g ++ a ∷ [])) e (top t))
         (λ u.
         let s = up t n u in
         let y = count-more p n in
         let z = length-ordering (suc p) n in
         record { under = omega arith; there = rw (List·getD-append (ordering (suc p) n) (followed n (ordering p (suc n))) [] (closedSum (g ++ a ∷ [])) (omega arith)) (s .there) })
-        (λ e. subst (λ (k : ℕ). Stands (suc p) (suc k) (g ++ a ∷ [])) e (top t))
-        (split a n (omega arith))
+        (last-or-front a n (omega arith))
 
 pub genotype-stands : {p n : ℕ} {g : List ℕ} → Genotype p n g → Stands p n g
 genotype-stands {p} {n} {g} f = stands (genotype-rises g p n f)

@@ -34,9 +34,13 @@ numberAnswer n g = pick (limits (length g) n) (indexed (firstWhere (λ (h : List
 abbrev pub filling : Bool → ℕ → ℕ → ℕ → Answer
 filling good many room value = pick good (pick (leb many room) (says 0 (value ∷ [])) (says 17 [])) (says 23 [])
 
--- the genotype at an index, which has as many numbers as the ploidy says
+-- there is a genotype at this index
+abbrev pub isThere : ℕ → ℕ → ℕ → Bool
+isThere i p n = limits p n && ltb i (length (ordering p n))
+
+-- that genotype, which has as many numbers as the ploidy says
 unfoldable pub genotypeAnswer : ℕ → ℕ → ℕ → ℕ → Answer
-genotypeAnswer i p n room = filling (limits p n && ltb i (length (ordering p n))) p room p
+genotypeAnswer i p n room = filling (isThere i p n) p room p
 
 -- all of them, one after the other
 unfoldable pub listAnswer : ℕ → ℕ → ℕ → Answer

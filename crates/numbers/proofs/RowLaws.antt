@@ -1,12 +1,12 @@
 -- A line made piece by piece, in room that is enough for each, and then copied where there is room for it. Assumes nothing.
 use Prim.Native.Nat.{ℕ, suc, _+_, _-_, _*_, _^_, _<_, _≤_, zero-le}
 use mathlib.Core.Path.{_≡_, refl, sym, ap, _∙_}
-use mathlib.Core.Bool.{Bool, true, false, _&&_}
+use mathlib.Core.Bool.{Bool, true, false}
 use mathlib.Core.List.{List, [], _∷_, _++_}
 use native.Mathlib.Omega.{arith}
 use lib.ListN.{length, getD, take, drop, set, length-set, length-append, length-drop, drop-of-length-le}
 use lib.Seq.{length-take-le}
-use lib.Dec.{leb, ltb}
+use lib.Dec.{leb}
 use types.Run.{OneOf}
 use denote.Enum.Declared.{tagOf}
 use mir.Syntax.{w64}
@@ -25,7 +25,7 @@ use Rattle.decimal.specs.Shortest.{shortest}
 use Rattle.decimal.proofs.Shortest.{length-bound}
 use Rattle.numbering.specs.Ordering.{ordering}
 use Rattle.numbering.specs.Demands.{Limits}
-use Rattle.numbering.specs.Answers.{limits}
+use Rattle.numbering.specs.Answers.{isThere}
 use Rattle.numbering.specs.Promises.{PlacesGenotype}
 use Rattle.numbering.specs.declared.genotype.Filled.{Filled}
 use Rattle.numbering.specs.declared.genotype.Filled.the-variants as F
@@ -271,7 +271,7 @@ module _ (i p n at : ℕ) (out : List ℕ) where
 -- a line that was put has room
 row-room : (i p n at : ℕ) (out : List ℕ) {x : Row} {out′ : List ℕ} {k : ℕ} → PutsRow i p n out at x out′ → x ≡ R.Put k → at + k ≤ length out
 unfolding rowPaper rowAnswer
-row-room i p n at out {x} {out′} {k} w e = by (leb at (length out)) refl (limits p n && ltb i (length (ordering p n))) (rw e at (w .answer))
+row-room i p n at out {x} {out′} {k} w e = by (leb at (length out)) refl (isThere i p n) (rw e at (w .answer))
   where
     by : (a : Bool) → leb at (length out) ≡ a → (b : Bool) → says 0 (k ∷ []) ≡ pick a (pick b (roomAnswer (lineOf i p n) (drop at out)) (says 23 [])) (says 6 []) → at + k ≤ length out
     by true t true q =

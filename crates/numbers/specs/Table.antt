@@ -1,17 +1,15 @@
 -- What the program prints (docs/RULES.md, "The program numbering"). Assumes nothing.
 use Prim.Native.Nat.{ℕ}
 use mathlib.Core.Path.{_≡_}
-use mathlib.Core.Bool.{_&&_}
 use mathlib.Core.List.{List, [], _∷_, _++_}
-use lib.ListN.{length, getD, drop}
-use lib.Dec.{ltb}
+use lib.ListN.{getD, drop}
 use Rattle.text.specs.Pick.{pick}
 use Rattle.text.specs.Answer.{Answer, says}
 use Rattle.text.specs.Over.{roomAnswer, laidAt}
 use Rattle.text.specs.Place.{placed}
 use Rattle.decimal.specs.Shortest.{shortest}
 use Rattle.numbering.specs.Ordering.{ordering}
-use Rattle.numbering.specs.Answers.{limits}
+use Rattle.numbering.specs.Answers.{isThere}
 use Rattle.numbers.specs.Paper.{rowPaper}
 use Rattle.numbers.specs.declared.row.Row.{Row}
 
@@ -39,7 +37,7 @@ lineOf i p n = rowText i (getD (ordering p n) i [])
 -- 6 beyond the output, then 23 where there is no such genotype, then by room
 unfoldable pub rowAnswer : ℕ → ℕ → ℕ → List ℕ → ℕ → Answer
 unfolding lineOf
-rowAnswer i p n out at = placed at out (pick (limits p n && ltb i (length (ordering p n))) (roomAnswer (lineOf i p n) (drop at out)) (says 23 []))
+rowAnswer i p n out at = placed at out (pick (isThere i p n) (roomAnswer (lineOf i p n) (drop at out)) (says 23 []))
 
 pub record PutsRow (i p n : ℕ) (out : List ℕ) (at : ℕ) (r : Row) (out′ : List ℕ) : Type 0 where
   pub answer : rowPaper r ≡ rowAnswer i p n out at
