@@ -1,4 +1,5 @@
 pub mod RowLaws
 pub mod AskLaws
+pub mod Asked
 pub mod Determined
 pub mod Demands
