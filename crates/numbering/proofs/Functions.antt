@@ -212,7 +212,7 @@ held m p n row x l h =
     rw e at (flat-back p (ordering p n) x (λ i u. h .each i (getD (ordering p n) i []) (each-long p n i u) (there m p n i l (omega arith)))) in
     sym (take-append-drop (howMany p n * p) x) ∙ ap₂ (λ (y z : List ℕ). y ++ z) t (h .rest)
 
-both-refused : {k : ℕ} {row : List ℕ} {o o′ : Outcome} → Refused k row o → Refused k row o′ → o ≡ o′
+pub both-refused : {k : ℕ} {row : List ℕ} {o o′ : Outcome} → Refused k row o → Refused k row o′ → o ≡ o′
 both-refused r r′ = same-outcome (r .answer ∙ sym (r′ .answer)) (r .left ∙ sym (r′ .left))
 
 pub one-each : OneEach

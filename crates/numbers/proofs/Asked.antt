@@ -2,22 +2,17 @@
 use Prim.Native.Nat.{ℕ}
 use mathlib.Core.Path.{_≡_, refl, sym, _∙_}
 use mathlib.Core.Bool.{Bool, true, false, false≢true}
-use mathlib.Core.List.{List, [], _∷_}
+use mathlib.Core.List.{List, []}
 use mathlib.Core.Option.{Option, some, none}
 use native.Mathlib.Omega.{arith}
-use lib.ListN.{length}
-use Rattle.text.specs.Answer.{Answer, says}
+use Rattle.text.specs.Answer.{says}
 use Rattle.decimal.specs.Decimal.{valueOf}
-use Rattle.decimal.specs.Demands.{Decimal}
 use Rattle.decimal.proofs.Value.{value-decimal, decimal-value}
 use Rattle.allele.specs.Reading.{Reading, list, bad, empty, readingOf}
 use Rattle.allele.specs.Row.{numbersOf}
 use Rattle.allele.specs.declared.allele.Allele.{Allele}
 use Rattle.allele.proofs.MeansLaws.{reads-means}
-use Rattle.numbering.specs.Ordering.{ordering}
-use Rattle.numbering.specs.Closed.{howMany, closedSum}
-use Rattle.numbering.specs.Demands.{Limits, Genotype}
-use Rattle.numbering.specs.Answers.{limits, numberAnswer}
+use Rattle.numbering.specs.Answers.{limits}
 use Rattle.numbering.specs.Inner.{isGenotype}
 use Rattle.numbering.proofs.OrderLaws.{length-ordering}
 use Rattle.numbering.proofs.LimitLaws.{limited, limits-yes}

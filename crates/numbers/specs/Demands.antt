@@ -5,6 +5,8 @@ use mathlib.Core.Bool.{true, false}
 use mathlib.Core.List.{List, [], _∷_}
 use lib.ListN.{length, getD}
 use Rattle.text.specs.Answer.{Answer, says}
+use Rattle.text.specs.Outcome.{Outcome}
+use Rattle.text.specs.Over.{overAt}
 use Rattle.decimal.specs.Shortest.{shortest}
 use Rattle.decimal.specs.Demands.{Decimal}
 use Rattle.allele.specs.Means.{Means}
@@ -12,8 +14,9 @@ use Rattle.allele.specs.Row.{numbersOf}
 use Rattle.allele.specs.declared.allele.Allele.{Allele}
 use Rattle.numbering.specs.Ordering.{ordering}
 use Rattle.numbering.specs.Closed.{howMany, closedSum}
-use Rattle.numbering.specs.Demands.{Limits, Genotype}
+use Rattle.numbering.specs.Demands.{Limits, Genotype, Refused}
 use Rattle.numbers.specs.Ask.{hasMark, anyMissing}
+use Rattle.numbers.specs.Table.{rowText}
 
 -- the way back: the text of genotype i, asked, is answered by i. That of a single allele has no mark, and is asked behind one; so may be
 -- every other
@@ -52,3 +55,23 @@ pub record Meets (ask : List ℕ → List ℕ → Answer) : Type 0 where
 -- two that do so give one answer to all arguments
 unfoldable pub OneAsker : Type 0
 OneAsker = (ask other : List ℕ → List ℕ → Answer) → Meets ask → Meets other → (s t : List ℕ) → ask s t ≡ other s t
+
+-- ---- a line of the table, in the rules' words
+
+-- g is the genotype with the number i
+pub record IsGenotype (i p n : ℕ) (g : List ℕ) : Type 0 where
+  pub limits : Limits p n
+  pub genotype : Genotype p n g
+  pub number : closedSum g ≡ i
+
+-- its line is put from the place on, where it fits; 6, then 23, then 17, and the output as it was
+pub record PutsLines (put : ℕ → ℕ → ℕ → List ℕ → ℕ → Outcome) : Type 0 where
+  pub done : (i p n : ℕ) (out : List ℕ) (at : ℕ) (g : List ℕ) → IsGenotype i p n g → at + length (rowText i g) ≤ length out → put i p n out at .answer ≡ says 0 (length (rowText i g) ∷ [])
+  pub bytes : (i p n : ℕ) (out : List ℕ) (at : ℕ) (g : List ℕ) → IsGenotype i p n g → at + length (rowText i g) ≤ length out → put i p n out at .output ≡ overAt at (rowText i g) out
+  pub full : (i p n : ℕ) (out : List ℕ) (at : ℕ) (g : List ℕ) → IsGenotype i p n g → at ≤ length out → length out < at + length (rowText i g) → Refused 17 out (put i p n out at)
+  pub wrong : (i p n : ℕ) (out : List ℕ) (at : ℕ) → ((g : List ℕ) → IsGenotype i p n g → ⊥) → at ≤ length out → Refused 23 out (put i p n out at)
+  pub beyond : (i p n : ℕ) (out : List ℕ) (at : ℕ) → length out < at → Refused 6 out (put i p n out at)
+
+-- two that do so give one answer and leave one output
+unfoldable pub OnePutter : Type 0
+OnePutter = (put other : ℕ → ℕ → ℕ → List ℕ → ℕ → Outcome) → PutsLines put → PutsLines other → (i p n : ℕ) (out : List ℕ) (at : ℕ) → put i p n out at ≡ other i p n out at
