@@ -34,13 +34,13 @@ use Rattle.genotype.proofs.AboveLaws.{Finding, find-first, find-turn, f
 pub record Column (f : Allele → ℕ) (all xs : List Allele) (l₀ l : List ℕ) (k : ℕ) : Type 0 where
   pub same : sets l k (map f xs) ≡ sets l₀ 0 (map f all)
 
-column-first : (f : Allele → ℕ) (all : List Allele) (l : List ℕ) → Column f all all l l 0
+pub column-first : (f : Allele → ℕ) (all : List Allele) (l : List ℕ) → Column f all all l l 0
 column-first f all l = record { same = refl }
 
-column-turn : {f : Allele → ℕ} {a : Allele} {all xs : List Allele} {l₀ l : List ℕ} {k : ℕ} → Column f all (a ∷ xs) l₀ l k → Column f all xs l₀ (set l k (f a)) (k + 1)
+pub column-turn : {f : Allele → ℕ} {a : Allele} {all xs : List Allele} {l₀ l : List ℕ} {k : ℕ} → Column f all (a ∷ xs) l₀ l k → Column f all xs l₀ (set l k (f a)) (k + 1)
 column-turn {k = k} g = record { same = rw add-one (g .same) }
 
-column-past : {f : Allele → ℕ} {all : List Allele} {l₀ l : List ℕ} {k : ℕ} → Column f all [] l₀ l k → length all ≤ length l₀ → l ≡ over (map f all) l₀
+pub column-past : {f : Allele → ℕ} {all : List Allele} {l₀ l : List ℕ} {k : ℕ} → Column f all [] l₀ l k → length all ≤ length l₀ → l ≡ over (map f all) l₀
 column-past {f} {all} {l₀} g h =
     let n : length (map f all) ≡ length all = length-map all f in
     g .same ∙ sets-over (map f all) l₀ (omega arith)

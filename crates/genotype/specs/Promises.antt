@@ -14,8 +14,8 @@ abbrev pub JudgesChecked : List ℕ → List ℕ → ℕ → Read → Type 0
 JudgesChecked t alt room r = readPaper r ≡ checkedText t alt room
 
 -- two outcomes over three slices are equal: the answer, and what is left in each slice
-abbrev pub OneReading : (Read → List ℕ → List ℕ → List ℕ → Type 0) → Type 0
-OneReading allows = (r r′ : Read) (n n′ m m′ p p′ : List ℕ) → allows r n m p → allows r′ n′ m′ p′ → (r ≡ r′) × (n ≡ n′) × (m ≡ m′) × (p ≡ p′)
+abbrev pub OneReading : {X : Type 0} → (X → List ℕ → List ℕ → List ℕ → Type 0) → Type 0
+OneReading {X} allows = (r r′ : X) (n n′ m m′ p p′ : List ℕ) → allows r n m p → allows r′ n′ m′ p′ → (r ≡ r′) × (n ≡ n′) × (m ≡ m′) × (p ≡ p′)
 
 pub record Determined : Type 0 where
   pub judge : (t : List ℕ) (room : ℕ) → OneAnswer (Judges t room)

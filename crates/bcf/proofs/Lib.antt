@@ -1,0 +1,9 @@
+pub mod CodeLaws
+pub mod ReadingLaws
+pub mod EntryLaws
+pub mod LayoutLaws
+pub mod ReadLaws
+pub mod WriteLaws
+pub mod CaseLaws
+pub mod PaperLaws
+pub mod Determined

@@ -1,0 +1,197 @@
+-- What is asked of the layout, and of any reader and writer of vectors, as functions on lists, over any width (docs/RULES.md, "Genotypes in
+-- BCF"; docs/STATEMENTS.md). Assumes nothing.
+use Prim.Native.Nat.{ℕ, _+_, _*_, _≤_, _<_}
+use mathlib.Core.Path.{_≡_}
+use mathlib.Core.Logic.{_↔_}
+use mathlib.Core.List.{List, [], _∷_}
+use lib.ListN.{length, getD, take, drop}
+use Rattle.text.specs.Answer.{Answer, says, numberOf}
+use Rattle.text.specs.Over.{over, overAt, laid, laidAt}
+use Rattle.text.specs.Outcome as T
+use Rattle.allele.specs.Means.{Means}
+use Rattle.allele.specs.Row.{rowOf, Parallel}
+use Rattle.allele.specs.declared.allele.Allele.{Allele}
+use Rattle.genotype.specs.Demands.{Outcome, Reader, Untouched, AtMost}
+use Rattle.spelling.specs.Demands as S
+use Rattle.spelling.specs.Demands.{Unsound}
+use Rattle.bcf.specs.Layout.{Width, size, largest, bytesOf, Lays}
+use Rattle.bcf.specs.Reading.{entriesIn, listRead, vectorAnswer, ReadsVector}
+use Rattle.bcf.specs.Writing.{vectorOf, placedAnswer, WritesVector}
+use Rattle.bcf.specs.Paper.{readPaper, writePaper}
+use Rattle.bcf.specs.declared.read.Read.{Read}
+use Rattle.bcf.specs.declared.write.Write.{Write}
+
+-- ---- the layout
+
+-- a vector lays out one list, by one number of entries
+unfoldable pub OneList : Type 0
+OneList = (w : Width) (as′ bs : List Allele) (m n : ℕ) (v : List ℕ) → Lays w as′ m v → Lays w bs n v → (as′ ≡ bs) × (m ≡ n)
+
+-- a list has one vector of a length, which has so many bytes
+unfoldable pub OneVector : Type 0
+OneVector = (w : Width) (as′ : List Allele) (n : ℕ) (u v : List ℕ) → Lays w as′ n u → Lays w as′ n v → (u ≡ v) × (length u ≡ n * size w)
+
+-- a list with a vector of a length: it is not empty and not longer, what is missing in it has the number 0, and no number is above the largest
+pub record HasVector (w : Width) (as′ : List Allele) (n : ℕ) : Type 0 where
+  pub some : 0 < length as′
+  pub sound : (k : ℕ) → Unsound as′ k → ⊥
+  pub small : AtMost (largest w) as′
+  pub few : length as′ ≤ n
+
+-- exactly such a list has one
+unfoldable pub Vectors : Type 0
+Vectors = (w : Width) (as′ : List Allele) (n : ℕ) → ((v : List ℕ) × Lays w as′ n v) ↔ HasVector w as′ n
+
+-- each is a byte
+pub record Bytes (s : List ℕ) : Type 0 where
+  pub each : (i : ℕ) → i < length s → getD s i 0 < 256
+
+-- bytes that are a whole number of entries are those of their entries
+unfoldable pub Whole : Type 0
+Whole = (w : Width) (n : ℕ) (v : List ℕ) → Bytes v → length v ≡ n * size w → bytesOf w (entriesIn w v) ≡ v
+
+-- ---- readers
+
+-- ours, over the definitions
+unfoldable pub reader : Width → Reader
+reader w v row =
+    record {
+      answer = vectorAnswer w v (length row);
+      row = laid (vectorAnswer w v (length row)) (listRead w v) row;
+    }
+
+-- what was read: the list that the bytes lay out, and no other; its length is the answer, and the row holds it
+pub record WasRead (w : Width) (v : List ℕ) (row : List Allele) (o : Outcome) : Type 0 where
+  pub list : List Allele
+  pub entries : ℕ
+  pub lays : Lays w list entries v
+  pub only : (as′ : List Allele) (n : ℕ) → Lays w as′ n v → as′ ≡ list
+  pub count : o .answer ≡ says 0 (length list ∷ [])
+  pub holds : o .row ≡ over list row
+
+-- 26 where the bytes lay out no list; 17 where they lay out one that is longer than the row
+pub data NotRead (w : Width) (v : List ℕ) (row : List Allele) : Answer → Type 0 where
+  bad : ((as′ : List Allele) (n : ℕ) → Lays w as′ n v → ⊥) → NotRead w v row (says 26 [])
+  short : {as′ : List Allele} {n : ℕ} → Lays w as′ n v → length row < length as′ → NotRead w v row (says 17 [])
+
+-- read are exactly the vectors that lay out a list; an answer other than 0 is given exactly where it is due, and leaves the row as it was
+pub record MeetsReading (w : Width) (read : Reader) : Type 0 where
+  pub reads : (v : List ℕ) (row : List Allele) → numberOf (read v row .answer) ≡ 0 → WasRead w v row (read v row)
+  pub refusals : (v : List ℕ) (row : List Allele) (a : Answer) → (numberOf a ≡ 0 → ⊥) → (read v row .answer ≡ a) ↔ NotRead w v row a
+  pub untouched : Untouched read
+
+-- two readers that meet these give one answer and leave one row, for all bytes and every row
+unfoldable pub OneReader : Type 0
+OneReader = (w : Width) (read other : Reader) → MeetsReading w read → MeetsReading w other → (v : List ℕ) (row : List Allele) → read v row ≡ other v row
+
+-- ---- writers
+
+-- a writer is given a length in entries, a list, an output and a place in it
+abbrev pub Writer : Type 0
+Writer = ℕ → List Allele → List ℕ → ℕ → T.Outcome
+
+-- ours, over the definitions
+unfoldable pub writer : Width → Writer
+writer w n as′ out at =
+    record {
+      answer = placedAnswer w n as′ out at;
+      output = laidAt (placedAnswer w n as′ out at) at (vectorOf w n as′) out;
+    }
+
+-- what was written: the vector of that length that lays out the list; its bytes are counted, and lie over the output from the place on
+pub record WasWritten (w : Width) (n : ℕ) (as′ : List Allele) (out : List ℕ) (at : ℕ) (o : T.Outcome) : Type 0 where
+  pub vector : List ℕ
+  pub lays : Lays w as′ n vector
+  pub count : o .answer ≡ says 0 (length vector ∷ [])
+  pub fits : at + length vector ≤ length out
+  pub bytes : o .output ≡ overAt at vector out
+
+-- a list that has no vector of that length: 11 where it is empty; 12 with the index of the first allele that is missing and has a number
+-- other than 0; 24 where there is none, and an allele is above the largest; 25 where there is neither, and it is longer than the vector
+pub data NoVector (w : Width) (n : ℕ) : List Allele → Answer → Type 0 where
+  empty : NoVector w n [] (says 11 [])
+  bad : {as′ : List Allele} {k : ℕ} → Unsound as′ k → NoVector w n as′ (says 12 (k ∷ []))
+  large : {as′ : List Allele} → ((k : ℕ) → Unsound as′ k → ⊥) → (AtMost (largest w) as′ → ⊥) → NoVector w n as′ (says 24 [])
+  long : {as′ : List Allele} → ((k : ℕ) → Unsound as′ k → ⊥) → AtMost (largest w) as′ → n < length as′ → NoVector w n as′ (says 25 [])
+
+-- 6 beyond the output; else by the list; else 17, where its vector does not fit
+pub data NotWritten (w : Width) (n : ℕ) (as′ : List Allele) (out : List ℕ) (at : ℕ) : Answer → Type 0 where
+  beyond : length out < at → NotWritten w n as′ out at (says 6 [])
+  none : {a : Answer} → at ≤ length out → NoVector w n as′ a → NotWritten w n as′ out at a
+  short : {v : List ℕ} → at ≤ length out → Lays w as′ n v → length out < at + length v → NotWritten w n as′ out at (says 17 [])
+
+-- written are exactly the lists that have a vector of that length; an answer other than 0 is given exactly where it is due, and leaves the
+-- output as it was
+pub record MeetsWriting (w : Width) (write : Writer) : Type 0 where
+  pub writes : (n : ℕ) (as′ : List Allele) (out : List ℕ) (at : ℕ) → numberOf (write n as′ out at .answer) ≡ 0 → WasWritten w n as′ out at (write n as′ out at)
+  pub refusals : (n : ℕ) (as′ : List Allele) (out : List ℕ) (at : ℕ) (a : Answer) → (numberOf a ≡ 0 → ⊥)
+      → (write n as′ out at .answer ≡ a) ↔ NotWritten w n as′ out at a
+  pub untouched : (n : ℕ) (as′ : List Allele) (out : List ℕ) (at : ℕ) → (numberOf (write n as′ out at .answer) ≡ 0 → ⊥) → write n as′ out at .output ≡ out
+
+-- two writers that meet these give one answer and leave one output, for every length, list, output and place
+unfoldable pub OneWriter : Type 0
+OneWriter = (w : Width) (write other : Writer) → MeetsWriting w write → MeetsWriting w other
+    → (n : ℕ) (as′ : List Allele) (out : List ℕ) (at : ℕ) → write n as′ out at ≡ other n as′ out at
+
+-- ---- any two that are so are each other's way back
+
+-- with a row long enough, reading is refused exactly where the bytes lay out no list
+unfoldable pub ExactReading : Width → Reader → Type 0
+ExactReading w read = (v : List ℕ) (row : List Allele) → ((as′ : List Allele) (n : ℕ) → Lays w as′ n v → length as′ ≤ length row)
+    → (numberOf (read v row .answer) ≡ 0 → ⊥) ↔ ((as′ : List Allele) (n : ℕ) → Lays w as′ n v → ⊥)
+
+-- with room for the vector, if there is one, writing is refused exactly where the list has none of that length
+unfoldable pub ExactWriting : Width → Writer → Type 0
+ExactWriting w write = (n : ℕ) (as′ : List Allele) (out : List ℕ) (at : ℕ) → at ≤ length out → ((v : List ℕ) → Lays w as′ n v → at + length v ≤ length out)
+    → (numberOf (write n as′ out at .answer) ≡ 0 → ⊥) ↔ ((v : List ℕ) → Lays w as′ n v → ⊥)
+
+-- what was written, k bytes from the place on, is read as the list, with every phasing
+unfoldable pub WrittenRead : Reader → Writer → Type 0
+WrittenRead read write = (n : ℕ) (as′ : List Allele) (out : List ℕ) (at k : ℕ) (row : List Allele) → write n as′ out at .answer ≡ says 0 (k ∷ [])
+    → length as′ ≤ length row
+    → read (take k (drop at (write n as′ out at .output))) row ≡ record { answer = says 0 (length as′ ∷ []); row = over as′ row }
+
+-- what was read, c alleles at the row's start, is written at the same length as the same bytes
+unfoldable pub ReadWritten : Width → Reader → Writer → Type 0
+ReadWritten w read write = (v : List ℕ) (row : List Allele) (c n : ℕ) (out : List ℕ) (at : ℕ) → read v row .answer ≡ says 0 (c ∷ []) → length v ≡ n * size w
+    → at + length v ≤ length out
+    → write n (take c (read v row .row)) out at ≡ record { answer = says 0 (length v ∷ []); output = overAt at v out }
+
+-- all four follow, of any reader and writer
+pub record RoundTrips (w : Width) (read : Reader) (write : Writer) : Type 0 where
+  pub exact-reading : ExactReading w read
+  pub exact-writing : ExactWriting w write
+  pub written-read : WrittenRead read write
+  pub read-written : ReadWritten w read write
+
+unfoldable pub Follow : Type 0
+Follow = (w : Width) (read : Reader) (write : Writer) → MeetsReading w read → MeetsWriting w write → RoundTrips w read write
+
+-- ---- text and BCF agree
+
+-- a text means a list, whose vector is read into a row long enough, and then written as text at 4.4 with room for the shortest spelling: the
+-- writer is done, and what it wrote means that list
+pub record Agrees (t : List ℕ) (as′ : List Allele) (row : List Allele) (read : Outcome) (out : List ℕ) (at : ℕ) (wrote : List Allele → T.Outcome) : Type 0 where
+  pub count : ℕ
+  pub length-read : read .answer ≡ says 0 (count ∷ [])
+  pub bytes : ℕ
+  pub length-written : wrote (take count (read .row)) .answer ≡ says 0 (bytes ∷ [])
+  pub means : Means (take bytes (drop at (wrote (take count (read .row)) .output))) as′
+
+unfoldable pub TextAgrees : Type 0
+TextAgrees = (w : Width) (read : Reader) (write : S.Writer) → MeetsReading w read → S.Meets write → (t : List ℕ) (as′ : List Allele) → Means t as′
+    → (n : ℕ) (v : List ℕ) → Lays w as′ n v → (row : List Allele) → length as′ ≤ length row → (out : List ℕ) (at : ℕ) → at ≤ length out
+    → ((u : List ℕ) → S.Shortest 4 4 as′ u → at + length u ≤ length out)
+    → Agrees t as′ row (read v row) out at (λ bs. write 4 4 bs out at)
+
+-- ---- the functions over slices
+
+-- given slices of one length, `read_vector` answers as the reader does and leaves slices that stand for the row that it leaves
+unfoldable pub SlicesReader : Type 0
+SlicesReader = (w : Width) (v n m p : List ℕ) (r : Read) (n′ m′ p′ : List ℕ) → Parallel n m p → ReadsVector w v n m p r n′ m′ p′
+    → (readPaper r ≡ reader w v (rowOf n m p) .answer) × (rowOf n′ m′ p′ ≡ reader w v (rowOf n m p) .row)
+
+-- and `write_vector` answers and leaves what the writer does with the list that they stand for
+unfoldable pub SlicesWriter : Type 0
+SlicesWriter = (w : Width) (n m p : List ℕ) (k : ℕ) (out : List ℕ) (at : ℕ) (r : Write) (out′ : List ℕ) → Parallel n m p → WritesVector w n m p k out at r out′
+    → (writePaper r ≡ writer w k (rowOf n m p) out at .answer) × (out′ ≡ writer w k (rowOf n m p) out at .output)
