@@ -4,18 +4,19 @@ use Prim.Native.Nat.{ℕ, zero, suc, _+_, _<_, _≤_}
 use mathlib.Core.Path.{_≡_, refl, sym, ap, _∙_}
 use mathlib.Core.Bool.{Bool, true, false, not, false≢true}
 use mathlib.Core.Logic.{_↔_}
-use mathlib.Core.List.{List, [], _∷_, _++_}
+use mathlib.Core.List.{List, [], _∷_, _++_, append-nil}
 use mathlib.Core.Option.{some, none}
 use native.Mathlib.Omega.{arith}
 use native.Mathlib.Nat.{le-of-suc-le-suc}
 use native.Mathlib.Numerals.{add-one}
-use lib.ListN.{length, getD, drop, drop-of-length-le}
+use lib.ListN.{length, getD, take, drop, drop-of-length-le}
 use lib.Dec.{eqb}
 use borrow.Author.Tests.{not-true, eq-eqb, ne-eqb}
-use Rattle.text.specs.Pick.{oneIf}
+use Rattle.text.specs.Pick.{pick, oneIf}
+use Rattle.text.specs.Answer.{Answer, numberOf}
 use Rattle.text.specs.First.{FirstOf}
-use Rattle.text.specs.Over.{over}
-use Rattle.text.proofs.Lists.{over-is}
+use Rattle.text.specs.Over.{over, laid}
+use Rattle.text.proofs.Lists.{over-is, take-over}
 use Rattle.text.proofs.FirstLaws.{where-none, where-here, where-later, is-first, first-is, none-first, first-none}
 use Rattle.allele.specs.Row.{numbersOf, missingOf, phasedOf, alleleAt, rowOf, isSound, firstUnsound, Parallel}
 use Rattle.allele.specs.declared.allele.Allele.{Allele}
@@ -81,6 +82,42 @@ row-over as′ n m p q =
     rw
     (over-is (numbersOf as′) n, over-is (missingOf as′) m, over-is (phasedOf as′) p, over-is as′ (rowOf n m p), numbersOf-length as′, missingOf-length as′, phasedOf-length as′)
     (row-append as′ (drop (length as′) n) (drop (length as′) m) (drop (length as′) p) ∙ ap (λ (l : List Allele). as′ ++ l) (row-drop (length as′) n m p q))
+
+-- where an answer is done, and not otherwise
+pub row-laid : (a : Answer) (as′ : List Allele) (n m p : List ℕ) → Parallel n m p
+    → rowOf (laid a (numbersOf as′) n) (laid a (missingOf as′) m) (laid a (phasedOf as′) p) ≡ laid a as′ (rowOf n m p)
+row-laid a as′ n m p q = by (eqb (numberOf a) 0)
+  where
+    by : (done : Bool)
+        → rowOf (pick done (over (numbersOf as′) n) n) (pick done (over (missingOf as′) m) m) (pick done (over (phasedOf as′) p) p)
+        ≡ pick done (over as′ (rowOf n m p)) (rowOf n m p)
+    by true = row-over as′ n m p q
+    by false = refl
+
+-- the columns of a list are slices that stand for it
+columns-row : (as′ : List Allele) → rowOf (numbersOf as′) (missingOf as′) (phasedOf as′) ≡ as′
+unfolding rowOf
+columns-row as′ = rw (append-nil (numbersOf as′), append-nil (missingOf as′), append-nil (phasedOf as′), append-nil as′) at (row-append as′ [] [] [])
+
+-- and slices that they were laid over begin with them
+module _ (as′ : List Allele) (n m p : List ℕ) {n′ m′ p′ : List ℕ} {k : ℕ} (e : n′ ≡ over (numbersOf as′) n) (f : m′ ≡ over (missingOf as′) m)
+    (g : p′ ≡ over (phasedOf as′) p) (h : length as′ ≡ k) where
+  numbers-begin : take k n′ ≡ numbersOf as′
+  numbers-begin = rw e (take-over (numbersOf as′) n k (sym h ∙ sym (numbersOf-length as′)))
+
+  missing-begin : take k m′ ≡ missingOf as′
+  missing-begin = rw f (take-over (missingOf as′) m k (sym h ∙ sym (missingOf-length as′)))
+
+  phased-begin : take k p′ ≡ phasedOf as′
+  phased-begin = rw g (take-over (phasedOf as′) p k (sym h ∙ sym (phasedOf-length as′)))
+
+  pub row-begins : rowOf (take k n′) (take k m′) (take k p′) ≡ as′
+  row-begins = rw (numbers-begin, missing-begin, phased-begin) (columns-row as′)
+
+  pub even-begins : Parallel (take k n′) (take k m′) (take k p′)
+  even-begins =
+      rw (numbers-begin, missing-begin, phased-begin)
+      (record { missing = numbersOf-length as′ ∙ sym (missingOf-length as′); phased = numbersOf-length as′ ∙ sym (phasedOf-length as′) })
 
 -- ---- sound alleles
 

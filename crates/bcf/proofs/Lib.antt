@@ -7,3 +7,11 @@ pub mod WriteLaws
 pub mod CaseLaws
 pub mod PaperLaws
 pub mod Determined
+pub mod VectorLaws
+pub mod MeetsReading
+pub mod MeetsWriting
+pub mod RoundTrips
+pub mod Slices
+pub mod EndToEnd
+pub mod TextAgrees
+pub mod Impostors

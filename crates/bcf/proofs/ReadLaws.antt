@@ -16,9 +16,7 @@ use Rattle.text.proofs.Lists.{here}
 use Rattle.text.proofs.CopyLaws.{laid-refused}
 use Rattle.text.proofs.SameLaws.{same-self}
 use Rattle.allele.specs.Row.{numbersOf, missingOf, phasedOf}
-use Rattle.allele.specs.declared.allele.Allele.{Allele}
 use Rattle.genotype.specs.Inner.{Room, Laid}
-use Rattle.genotype.specs.Answers.{rowAnswer}
 use Rattle.genotype.proofs.AnswerLaws.{row-even, row-uneven-nm, row-uneven-np}
 use Rattle.genotype.proofs.LayLaws.{Column, column-first, column-turn, column-past, number, missing, phased}
 use Rattle.bcf.specs.Layout.{w8, size, padding, littleOf, bytesOf}

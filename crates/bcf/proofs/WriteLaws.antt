@@ -1,11 +1,10 @@
 -- Writing: one pass that judges the list, the codes and the padding laid over the output, and the answer. Assumes nothing.
-use Prim.Native.Nat.{ℕ, zero, suc, _+_, _-_, _*_, _/_, _%_, _≤_, _<_, zero-le}
+use Prim.Native.Nat.{ℕ, zero, suc, _+_, _-_, _*_, _≤_, _<_, zero-le}
 use mathlib.Core.Path.{_≡_, refl, sym, ap, _∙_}
 use mathlib.Core.Bool.{Bool, true, false, not}
 use mathlib.Core.List.{List, [], _∷_, _++_, map, append-assoc}
 use mathlib.Core.Option.{some, none}
 use native.Mathlib.Omega.{arith}
-use native.Mathlib.Decide.{decLt}
 use native.Mathlib.Numerals.{add-one}
 use mir.Syntax as M
 use mir.Val.{Fits}
@@ -16,16 +15,16 @@ use borrow.Author.Tests.{lt-ltb, le-ltb, eq-eqb, ne-eqb, le-leb, lt-leb, ltb-tru
 use borrow.Rule.Slice.PartMut.{putMid}
 use Rattle.text.specs.Pick.{pick, oneIf}
 use Rattle.text.specs.Answer.{Answer, says, numberOf}
-use Rattle.text.specs.Over.{over, overAt, laid, laidAt}
-use Rattle.text.proofs.Lists.{rest-all, rest-put, rest-back, over-append, length-over}
-use Rattle.text.proofs.CopyLaws.{laid-refused}
-use Rattle.allele.specs.Row.{alleleOf, alleleAt, rowOf, isSound, firstUnsound, Parallel}
+use Rattle.text.specs.Over.{over, overAt}
+use Rattle.text.proofs.Lists.{rest-all, over-append, length-over}
+use Rattle.text.proofs.CopyLaws.{laid-refused, rest-laid}
+use Rattle.allele.specs.Row.{alleleOf, rowOf, firstUnsound, Parallel}
 use Rattle.allele.specs.declared.allele.Allele.{Allele}
 use Rattle.allele.proofs.RowLaws.{at-is, row-length, row-here, row-past, sound-missing, sound-there, unsound-none, unsound-more, unsound-here}
 use Rattle.genotype.specs.Answers as G
 use Rattle.genotype.proofs.AnswerLaws.{row-even, row-uneven-nm, row-uneven-np}
 use Rattle.genotype.proofs.LayLaws.{Column, column-first, column-turn, column-past}
-use Rattle.bcf.specs.Layout.{Width, w8, size, padding, largest, codeOf, bytesOf}
+use Rattle.bcf.specs.Layout.{w8, size, padding, largest, codeOf}
 use Rattle.bcf.specs.Writing.{entriesFor, vectorOf, larger, mostOf, soundAnswer, sizedAnswer, listAnswer, rowAnswer, WritesVector}
 use Rattle.bcf.specs.Inner.{TellsSound, JudgesRow, WritesBy, WritesSized, WritesList}
 use Rattle.bcf.specs.Paper.{writePaper}
@@ -69,11 +68,11 @@ pub larger-first : (a b : ℕ) → b ≤ a → a ≡ larger a b
 larger-first a b h = rw (le-ltb a b h)
 
 -- the one or the other
-data Larger (a b : ℕ) : ℕ → Type 0 where
+pub data Larger (a b : ℕ) : ℕ → Type 0 where
   is-second : a < b → Larger a b b
   is-first : b ≤ a → Larger a b a
 
-larger-is : (a b : ℕ) → Larger a b (larger a b)
+pub larger-is : (a b : ℕ) → Larger a b (larger a b)
 larger-is a b = by (ltb a b) refl
   where
     by : (t : Bool) → ltb a b ≡ t → Larger a b (pick t b a)
@@ -378,18 +377,7 @@ module _ (k : ℕ) (n m p out : List ℕ) (at : ℕ) where
       unfolding rowAnswer
       row-answer = rw (le-leb _ _ h, row-even n m p _ e f, rest-all out at)
 
-      row-bytes : (b : Bool) (vs : List ℕ) → ys ≡ pick b (over vs (take (length out - at) (drop at out))) (take (length out - at) (drop at out))
-          → putMid at (length out - at) out ys ≡ pick b (overAt at vs out) out
-      row-bytes true vs g = rest-put at vs out ys g
-      row-bytes false vs g = rest-back at out ys g
-
       pub write-row : WritesVector w8 n m p k out at r (putMid at (length out - at) out ys)
-      write-row =
-          record {
-            answer = w .answer ∙ sym row-answer;
-            output =
-                rw row-answer
-                (row-bytes (eqb (numberOf (listAnswer w8 k (rowOf n m p) (length (take (length out - at) (drop at out))))) 0) (vectorOf w8 k (rowOf n m p)) (w .output));
-          }
+      write-row = record { answer = w .answer ∙ sym row-answer; output = rw row-answer (rest-laid (listAnswer w8 k (rowOf n m p) (length (take (length out - at) (drop at out)))) at (vectorOf w8 k (rowOf n m p)) out ys (w .output)) }
 
 pub ruleset laws = (sound-zero, sound-number, code-there, code-missing, bit-zero, bit-one, larger-second, larger-first, judge-first, judge-m, judge-turn, judge-bad, judge-past, lay-first, lay-m, lay-p, lay-room, lay-shifted, lay-fits, lay-turn, lay-len, lay-past, stuff-first, stuff-room, stuff-turn, stuff-len, stuff-past, sized-large, sized-small, sized-long, sized-short, sized-codes, sized-pads, sized-done, list-empty, list-bad, list-most, list-sound, write-beyond, write-nm, write-np, write-row)

@@ -169,20 +169,21 @@ Follow = (w : Width) (read : Reader) (write : Writer) → MeetsReading w read �
 
 -- ---- text and BCF agree
 
--- a text means a list, whose vector is read into a row long enough, and then written as text at 4.4 with room for the shortest spelling: the
--- writer is done, and what it wrote means that list
-pub record Agrees (t : List ℕ) (as′ : List Allele) (row : List Allele) (read : Outcome) (out : List ℕ) (at : ℕ) (wrote : List Allele → T.Outcome) : Type 0 where
-  pub count : ℕ
-  pub length-read : read .answer ≡ says 0 (count ∷ [])
-  pub bytes : ℕ
-  pub length-written : wrote (take count (read .row)) .answer ≡ says 0 (bytes ∷ [])
-  pub means : Means (take bytes (drop at (wrote (take count (read .row)) .output))) as′
+-- c alleles were read, and written as k bytes, which mean what the text does
+pub record Agrees (t : List ℕ) (read : Outcome) (write : List Allele → T.Outcome) (at : ℕ) : Type 0 where
+  pub c : ℕ
+  pub was-read : read .answer ≡ says 0 (c ∷ [])
+  pub k : ℕ
+  pub was-written : write (take c (read .row)) .answer ≡ says 0 (k ∷ [])
+  pub means : (as′ : List Allele) → Means t as′ ↔ Means (take k (drop at (write (take c (read .row)) .output))) as′
 
+-- where a text means a list, its vector, read into a row long enough and then written as text at 4.4 with room for the shortest spelling,
+-- means the same list
 unfoldable pub TextAgrees : Type 0
-TextAgrees = (w : Width) (read : Reader) (write : S.Writer) → MeetsReading w read → S.Meets write → (t : List ℕ) (as′ : List Allele) → Means t as′
-    → (n : ℕ) (v : List ℕ) → Lays w as′ n v → (row : List Allele) → length as′ ≤ length row → (out : List ℕ) (at : ℕ) → at ≤ length out
-    → ((u : List ℕ) → S.Shortest 4 4 as′ u → at + length u ≤ length out)
-    → Agrees t as′ row (read v row) out at (λ bs. write 4 4 bs out at)
+TextAgrees = (w : Width) (read : Reader) (write : S.Writer) → MeetsReading w read → S.Meets write
+    → (t : List ℕ) (as′ : List Allele) (n : ℕ) (v : List ℕ) → Means t as′ → Lays w as′ n v
+    → (row : List Allele) (out : List ℕ) (at : ℕ) → length as′ ≤ length row → at ≤ length out → ((u : List ℕ) → S.Shortest 4 4 as′ u → at + length u ≤ length out)
+    → Agrees t (read v row) (λ bs. write 4 4 bs out at) at
 
 -- ---- the functions over slices
 

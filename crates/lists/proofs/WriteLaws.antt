@@ -12,13 +12,13 @@ use borrow.Author.Tests.{le-leb, lt-leb, eqb-false}
 use borrow.Rule.Slice.PartMut.{putMid}
 use Rattle.text.specs.Pick.{pick}
 use Rattle.text.specs.Answer.{numberOf}
-use Rattle.text.specs.Over.{over, overAt, Writes}
+use Rattle.text.specs.Over.{Writes}
 use Rattle.text.specs.Verdict.{Verdict as Found, fine, refused, fitted}
 use Rattle.text.specs.declared.copy.Written.{Written}
 use Rattle.text.specs.declared.copy.Written.the-variants as C
-use Rattle.text.proofs.CopyLaws.{room-fits, room-lacks}
+use Rattle.text.proofs.CopyLaws.{room-fits, room-lacks, rest-laid}
 use Rattle.text.proofs.WrittenLaws.{Wrote, Lacked, writes-done, writes-short}
-use Rattle.text.proofs.Lists.{rest-all, rest-put, rest-back}
+use Rattle.text.proofs.Lists.{rest-all}
 use Rattle.pieces.specs.Pieces.{joined}
 use Rattle.entries.specs.Entries.{rising, entryList}
 use Rattle.entries.specs.Inner.{endsAnswer, JoinsList}
@@ -196,14 +196,7 @@ module _ {kind : Kind} {t ends out : List ℕ} {at : ℕ} where
   at-rest {x} {ys} h w =
       record {
         answer = rw (le-leb _ _ h) (rw (rest-all out at) at (w .answer));
-        bytes = rw (le-leb _ _ h) (by (eqb (numberOf (listAnswer kind t ends (drop at out))) 0) (rw (rest-all out at) at (w .bytes)));
+        bytes = rw (le-leb _ _ h) (rest-laid (listAnswer kind t ends (drop at out)) at (listText kind (entryList t ends)) out ys (rw (rest-all out at) (rw (rest-all out at) at (w .bytes))));
       }
-    where
-      vs : List ℕ
-      vs = listText kind (entryList t ends)
-
-      by : (c : Bool) → ys ≡ pick c (over vs (drop at out)) (drop at out) → putMid at (length out - at) out ys ≡ pick c (overAt at vs out) out
-      by true e = rest-put at vs out ys (rw rest-all e)
-      by false e = rest-back at out ys (rw rest-all e)
 
 pub ruleset laws = (of-kind, judge-first, judge-turn, judge-broken, judge-invalid, judge-past, none-done, none-short, some-done, some-short, some-wrong, good-rising, list-wrong, list-refused, list-put, at-beyond, at-rest)

@@ -3,23 +3,19 @@
 use Prim.Native.Nat.{ℕ, zero, suc, _≤_, _<_}
 use mathlib.Core.Path.{_≡_, sym, ap, _∙_}
 use mathlib.Core.Bool.{true}
-use mathlib.Core.List.{List, [], _∷_, append-nil}
+use mathlib.Core.List.{List, [], _∷_}
 use native.Mathlib.Omega.{arith}
 use lib.ListN.{length, getD, take, drop}
 use Rattle.text.specs.Answer.{says, numberOf}
-use Rattle.text.specs.Over.{over}
-use Rattle.text.proofs.Lists.{take-over}
-use Rattle.allele.specs.Row.{numbersOf, missingOf, phasedOf, alleleOf, rowOf, Parallel}
-use Rattle.allele.specs.declared.allele.Allele.{Allele}
+use Rattle.allele.specs.Row.{alleleOf, rowOf, Parallel}
 use Rattle.allele.proofs.MeansLaws.{reads-means}
-use Rattle.allele.proofs.ColumnLaws.{numbersOf-length, missingOf-length, phasedOf-length}
 use Rattle.genotype.proofs.AnswerLaws.{Holds, reads-list}
 use Rattle.spelling.specs.Permitted.{from44}
 use Rattle.spelling.specs.Paper.{writePaper}
 use Rattle.spelling.specs.Write.{rowAnswer, Small}
 use Rattle.spelling.specs.Demands.{writer, Fitting, RoundTrip, SlicesWriter}
 use Rattle.spelling.specs.EndToEnd.{Wrote, WrittenBack, ReadBack, ReadsBack}
-use Rattle.allele.proofs.RowLaws.{row-length, row-append}
+use Rattle.allele.proofs.RowLaws.{row-length, row-begins}
 use Rattle.spelling.proofs.WriteLaws.{row-parallel}
 use Rattle.spelling.proofs.Slices.{slices-writer}
 use Rattle.spelling.proofs.RoundTrip.{round-trip}
@@ -41,14 +37,6 @@ row-fits (x ∷ n) (y ∷ m) (z ∷ p) s = record { each = by (row-fits n m p (s
         → getD (alleleOf x y z ∷ rowOf n m p) i (record { number = 0; missing = true; phased = true }) .number ≤ 18446744073709551615
     by f zero h = s .each 0 (omega arith)
     by f (suc i) h = f .each i (omega arith)
-
--- the columns of a list are slices that stand for it
-columns-row : (as′ : List Allele) → rowOf (numbersOf as′) (missingOf as′) (phasedOf as′) ≡ as′
-unfolding rowOf
-columns-row as′ = rw (append-nil (numbersOf as′), append-nil (missingOf as′), append-nil (phasedOf as′), append-nil as′) at (row-append as′ [] [] [])
-
-begins : (vs l : List ℕ) {l′ : List ℕ} {k : ℕ} → l′ ≡ over vs l → length vs ≡ k → take k l′ ≡ vs
-begins vs l {k = k} e f = rw e (take-over vs l k (sym f))
 
 -- ---- the two contracts together
 
@@ -82,8 +70,5 @@ reads-back n m p major minor out at k out′ w n₂ m₂ p₂ r n₂′ m₂′ 
     by l held =
         record {
           answer = rw l at (held .answer);
-          row =
-              rw
-              (begins _ n₂ (held .numbers) (numbersOf-length _ ∙ l), begins _ m₂ (held .missing) (missingOf-length _ ∙ l), begins _ p₂ (held .phased) (phasedOf-length _ ∙ l))
-              (columns-row (rowOf n m p));
+          row = row-begins (rowOf n m p) n₂ m₂ p₂ (held .numbers) (held .missing) (held .phased) l;
         }

@@ -2,16 +2,13 @@
 use Prim.Native.Nat.{ℕ, _-_, _≤_, _<_}
 use native.Mathlib.Nat.{le-refl}
 use mathlib.Core.Path.{_≡_, refl, _∙_}
-use mathlib.Core.Bool.{Bool, true, false}
+use mathlib.Core.Bool.{Bool}
 use mathlib.Core.List.{List, _++_, append-nil}
 use lib.ListN.{length, take, drop, length-drop, drop-of-length-le}
-use lib.Dec.{eqb}
 use borrow.Author.Tests.{le-leb, lt-leb}
 use borrow.Rule.Slice.PartMut.{putMid}
-use Rattle.text.specs.Pick.{pick}
-use Rattle.text.specs.Answer.{numberOf}
-use Rattle.text.specs.Over.{over, overAt}
-use Rattle.text.proofs.Lists.{rest-all, rest-put, rest-back}
+use Rattle.text.proofs.Lists.{rest-all}
+use Rattle.text.proofs.CopyLaws.{rest-laid}
 use Rattle.allele.specs.declared.allele.Allele.{Allele}
 use Rattle.spelling.specs.Spelling.{spell}
 use Rattle.spelling.specs.Permitted.{from44}
@@ -37,15 +34,11 @@ module _ (as′ : List Allele) (late : Bool) (out : List ℕ) (at : ℕ) where
   list-rest {ys = ys} h w =
       record {
         answer = rw (le-leb _ _ h) (w .answer);
-        bytes = rw (le-leb _ _ h) (back ∙ put (eqb (numberOf (spelledAnswer (spell late as′) (drop at out))) 0) (textOf (spell late as′)) (w .bytes));
+        bytes = rw (le-leb _ _ h) (back ∙ rest-laid (spelledAnswer (spell late as′) (drop at out)) at (textOf (spell late as′)) out ys (rw (rest-all out at) (w .bytes)));
       }
     where
       back : take at out ++ ys ≡ putMid at (length out - at) out ys
       back = let n : length (drop at out) ≤ length out - at = simp length-drop (le-refl _) in rw (drop-of-length-le (drop at out) n, append-nil)
-
-      put : (b : Bool) (vs : List ℕ) → ys ≡ pick b (over vs (drop at out)) (drop at out) → putMid at (length out - at) out ys ≡ pick b (overAt at vs out) out
-      put true vs e = rest-put at vs out ys (rw (rest-all out at) e)
-      put false vs e = rest-back at out ys (rw (rest-all out at) e)
 
 -- ---- our writer
 

@@ -5,14 +5,14 @@ use mathlib.Core.Bool.{Bool, true, false}
 use mathlib.Core.List.{List, []}
 use native.Mathlib.Omega.{arith}
 use lib.ListN.{length, take, drop}
-use lib.Dec.{leb, eqb}
+use lib.Dec.{leb}
 use borrow.Author.Tests.{le-leb, lt-leb}
 use borrow.Rule.Slice.PartMut.{putMid}
 use Rattle.text.specs.Pick.{pick}
 use Rattle.text.specs.Answer.{Answer, says, numberOf}
-use Rattle.text.specs.Over.{over, overAt, laid}
-use Rattle.text.proofs.CopyLaws.{room-fits, room-lacks}
-use Rattle.text.proofs.Lists.{over-nil, rest-all, rest-put, rest-back}
+use Rattle.text.specs.Over.{over, laid}
+use Rattle.text.proofs.CopyLaws.{room-fits, room-lacks, rest-laid}
+use Rattle.text.proofs.Lists.{over-nil, rest-all}
 use Rattle.genotype.specs.Answers as G
 use Rattle.allele.specs.declared.allele.Allele.{Allele}
 use Rattle.genotype.proofs.AnswerLaws.{row-even, row-uneven-nm, row-uneven-np, row-done-nm, row-done-np}
@@ -184,18 +184,9 @@ module _ (n m p : List ℕ) (major minor : ℕ) (out : List ℕ) (at : ℕ) wher
       unfolding spelling rest
       row-answer = rw (row-list n m p (from44 major minor) out at e f, rest-all out at) (list-inside (rowOf n m p) (from44 major minor) out at h)
 
-      row-bytes : (b : Bool) (vs : List ℕ) → ys ≡ pick b (over vs rest) rest → putMid at (length out - at) out ys ≡ pick b (overAt at vs out) out
-      unfolding rest
-      row-bytes true vs g = rest-put at vs out ys g
-      row-bytes false vs g = rest-back at out ys g
-
       pub write-row : WritesRow n m p major minor out at r (putMid at (length out - at) out ys)
       unfolding spelling rest
-      write-row =
-          record {
-            answer = w .answer ∙ sym row-answer;
-            bytes = rw row-answer (row-bytes (eqb (numberOf (spelledAnswer spelling rest)) 0) (textOf spelling) (w .bytes));
-          }
+      write-row = record { answer = w .answer ∙ sym row-answer; bytes = rw row-answer (rest-laid (spelledAnswer spelling rest) at (textOf spelling) out ys (w .bytes)) }
 
 -- ---- the numbers of a list that is written
 

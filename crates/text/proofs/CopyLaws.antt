@@ -1,19 +1,23 @@
 -- Copying byte by byte: what is left to copy lies over what stands. Assumes nothing.
-use Prim.Native.Nat.{ℕ, _+_, _<_, _≤_}
+use Prim.Native.Nat.{ℕ, _+_, _-_, _<_, _≤_}
 use mathlib.Core.Path.{_≡_, refl, ap, _∙_}
+use mathlib.Core.Bool.{Bool, true, false}
 use mathlib.Core.List.{List, [], _∷_}
 use native.Mathlib.Omega.{arith}
 use native.Mathlib.Decide.{decLe}
 use native.Mathlib.Numerals.{add-one}
-use lib.ListN.{length, getD, drop, set, length-set, drop-of-length-le}
+use lib.ListN.{length, getD, take, drop, set, length-set, drop-of-length-le}
 use lib.Seq.{sets, drop-cons}
+use lib.Dec.{eqb}
 use borrow.Author.Tests.{le-leb, lt-leb, ne-eqb}
+use borrow.Rule.Slice.PartMut.{putMid}
+use Rattle.text.specs.Pick.{pick}
 use Rattle.text.specs.Answer.{says, Answer, numberOf}
-use Rattle.text.specs.Over.{over, roomFor, roomAnswer, Writes, laid, laidAt}
+use Rattle.text.specs.Over.{over, overAt, roomFor, roomAnswer, Writes, laid, laidAt}
 use Rattle.text.specs.Paper.{writtenPaper}
 use Rattle.text.specs.declared.copy.Written.{Written}
 use Rattle.text.specs.declared.copy.Written.the-variants.{Done, Short}
-use Rattle.text.proofs.Lists.{sets-over}
+use Rattle.text.proofs.Lists.{sets-over, rest-put, rest-back}
 
 -- i bytes of vs are copied, and l stands where l₀ stood
 pub record Copying (vs l₀ l : List ℕ) (i : ℕ) : Type 0 where
@@ -75,5 +79,13 @@ laid-refused a vs l z = rw (ne-eqb _ _ z)
 
 pub laidAt-refused : {X : Type 0} (a : Answer) (at : ℕ) (vs l : List X) → (numberOf a ≡ 0 → ⊥) → laidAt a at vs l ≡ l
 laidAt-refused a at vs l z = rw (ne-eqb _ _ z)
+
+-- what a callee laid at the start of the part `&mut l[at..]`, said of the whole
+pub rest-laid : (a : Answer) (at : ℕ) (vs l ys : List ℕ) → ys ≡ laid a vs (take (length l - at) (drop at l)) → putMid at (length l - at) l ys ≡ laidAt a at vs l
+rest-laid a at vs l ys e = by (eqb (numberOf a) 0) e
+  where
+    by : (done : Bool) → ys ≡ pick done (over vs (take (length l - at) (drop at l))) (take (length l - at) (drop at l)) → putMid at (length l - at) l ys ≡ pick done (overAt at vs l) l
+    by true e = rest-put at vs l ys e
+    by false e = rest-back at l ys e
 
 pub ruleset laws = (copy-first, copy-turn, copy-past, copy-short)

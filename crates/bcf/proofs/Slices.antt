@@ -1,0 +1,28 @@
+-- The functions over three slices answer and leave what the reader and the writer of the demands do with the row that the slices stand for, so
+-- what is proved of those holds of them. Assumes nothing.
+use Prim.Native.Nat.{ℕ}
+use mathlib.Core.Path.{_≡_, _∙_}
+use mathlib.Core.List.{List}
+use lib.ListN.{length, drop}
+use Rattle.allele.specs.Row.{rowOf, Parallel}
+use Rattle.allele.proofs.RowLaws.{row-length, row-laid}
+use Rattle.genotype.proofs.AnswerLaws.{row-even}
+use Rattle.bcf.specs.Layout.{Width}
+use Rattle.bcf.specs.Reading.{listRead, vectorAnswer, slicesAnswer}
+use Rattle.bcf.specs.Writing.{listAnswer, placedAnswer, rowAnswer}
+use Rattle.bcf.specs.Demands.{reader, writer, SlicesReader, SlicesWriter}
+
+pub slices-reader : SlicesReader
+unfolding SlicesReader reader
+slices-reader w v n m p r n′ m′ p′ q g =
+    let e : slicesAnswer w v n m p ≡ vectorAnswer w v (length n) = row-even n m p _ (q .missing) (q .phased) in
+    rw (row-length n m p q)
+    (g .answer ∙ e, rw (g .numbers, g .missing, g .phased, e) (row-laid (vectorAnswer w v (length n)) (listRead w v) n m p q))
+
+pub row-placed : (w : Width) (n m p : List ℕ) (k : ℕ) (out : List ℕ) (at : ℕ) → Parallel n m p → rowAnswer w k n m p out at ≡ placedAnswer w k (rowOf n m p) out at
+unfolding rowAnswer placedAnswer
+row-placed w n m p k out at q = rw (row-even n m p (listAnswer w k (rowOf n m p) (length (drop at out))) (q .missing) (q .phased))
+
+pub slices-writer : SlicesWriter
+unfolding SlicesWriter writer
+slices-writer w n m p k out at r out′ q g = let e = row-placed w n m p k out at q in (g .answer ∙ e, g .output ∙ rw e)
