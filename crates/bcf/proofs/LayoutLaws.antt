@@ -52,7 +52,7 @@ module _ {w : Width} {as′ : List Allele} {n : ℕ} {v : List ℕ} (l : Lays w 
   pub lays-count : n ≡ length v / size w
   lays-count = rw lays-length (sym (count-is w n))
 
-  lays-entries : entriesIn w v ≡ l .entries
+  pub lays-entries : entriesIn w v ≡ l .entries
   lays-entries = rw (l .bytes) (entries-are w (l .entries) (coded-fit (l .coded)))
 
   pub lays-read : listRead w v ≡ as′

@@ -8,6 +8,7 @@ pub mod CaseLaws
 pub mod PaperLaws
 pub mod Determined
 pub mod VectorLaws
+pub mod Faults
 pub mod MeetsReading
 pub mod MeetsWriting
 pub mod RoundTrips

@@ -94,7 +94,7 @@ coded-most {w} (code {a = a} {as′ = as′} g c) = by (larger-is (a .number) (m
     by (is-second h) r = r
     by (is-first h) r = g .small
 
-coded-few : {w : Width} {as′ : List Allele} {es : List ℕ} → Coded w as′ es → length as′ ≤ length es
+pub coded-few : {w : Width} {as′ : List Allele} {es : List ℕ} → Coded w as′ es → length as′ ≤ length es
 coded-few end = zero-le
 coded-few (pad c) = zero-le
 coded-few (code g c) = let h = coded-few c in omega arith

@@ -14,8 +14,8 @@ use Rattle.allele.specs.declared.allele.Allele.{Allele}
 use Rattle.genotype.specs.Demands.{Outcome, Reader, Untouched, AtMost}
 use Rattle.spelling.specs.Demands as S
 use Rattle.spelling.specs.Demands.{Unsound}
-use Rattle.bcf.specs.Layout.{Width, size, largest, bytesOf, Lays}
-use Rattle.bcf.specs.Reading.{entriesIn, listRead, vectorAnswer, ReadsVector}
+use Rattle.bcf.specs.Layout.{Width, size, padding, largest, bytesOf, Lays}
+use Rattle.bcf.specs.Reading.{negative, entriesIn, listRead, vectorAnswer, ReadsVector}
 use Rattle.bcf.specs.Writing.{vectorOf, placedAnswer, WritesVector}
 use Rattle.bcf.specs.Paper.{readPaper, writePaper}
 use Rattle.bcf.specs.declared.read.Read.{Read}
@@ -49,6 +49,16 @@ pub record Bytes (s : List ℕ) : Type 0 where
 -- bytes that are a whole number of entries are those of their entries
 unfoldable pub Whole : Type 0
 Whole = (w : Width) (n : ℕ) (v : List ℕ) → Bytes v → length v ≡ n * size w → bytesOf w (entriesIn w v) ≡ v
+
+-- entries that are no vector: no entry, or padding alone; a negative value other than the padding; something else behind padding
+pub data Faulty (w : Width) (es : List ℕ) : Type 0 where
+  no-code : ((i : ℕ) → i < length es → getD es i 0 ≡ padding w) → Faulty w es
+  below-zero : (i : ℕ) → i < length es → negative w ≤ getD es i 0 → (getD es i 0 ≡ padding w → ⊥) → Faulty w es
+  behind : (i j : ℕ) → i < j → j < length es → getD es i 0 ≡ padding w → (getD es j 0 ≡ padding w → ⊥) → Faulty w es
+
+-- exactly such bytes, of those that are a whole number of entries, lay out no list
+unfoldable pub Faults : Type 0
+Faults = (w : Width) (n : ℕ) (v : List ℕ) → Bytes v → length v ≡ n * size w → Faulty w (entriesIn w v) ↔ ((as′ : List Allele) (m : ℕ) → Lays w as′ m v → ⊥)
 
 -- ---- readers
 
