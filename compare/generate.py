@@ -1078,9 +1078,13 @@ FILE_FORMATS = (
 )
 
 
+def allele_words(alleles):
+    return [":".join(map(str, allele)) for allele in alleles] or ["-"]
+
+
 def both_writers(file_format, room, at, alleles):
     """The same list as slices and as structs."""
-    written = [":".join(map(str, allele)) for allele in alleles] or ["-"]
+    written = allele_words(alleles)
     yield ask("write", *file_format, room, at, *written)
     yield ask("writealleles", *file_format, room, at, *written)
 
@@ -2153,6 +2157,204 @@ def genotype_numbers(large, dice):
     yield from random_orders(large, dice)
 
 
+# ---- bcfwrite and bcfread
+
+# Alleles about the largest that fits, and missing ones, of both phasings.
+VECTOR_ALLELES = tuple(
+    (value, missing, phased) for value, missing in ((0, 0), (1, 0), (62, 0), (63, 0), (0, 1)) for phased in (0, 1)
+)
+# Past the largest: about each limit, and those that would fit if they, one more or twice that were cut.
+PAST_LARGEST = (
+    *range(63, 70), *range(124, 132), *range(188, 194), *range(252, 260), 2**15 - 1, 2**16 - 1, 2**16, 2**31 - 1, 2**31,
+    2**32 - 2, 2**32 - 1, 2**32, 2**32 + 1, 2**62, *range(2**63 - 3, 2**63 + 4), LARGEST - 2, LARGEST - 1, LARGEST,
+)
+# Entries at the edges: missing, the lowest and the highest allele, the padding and the negative ones about it.
+EDGE_ENTRIES = b"\x00\x01\x02\x03\x7e\x7f\x80\x81\x82\xfe\xff"
+FEWER_ENTRIES = b"\x00\x03\x7e\x80\x81\x82\xff"
+PADDING = b"\x81"
+
+
+def to_vector(length, room, at, alleles):
+    """A list to be written as a vector of so many entries."""
+    return ask("bcfwrite", length, room, at, *allele_words(alleles))
+
+
+def lists_to_vectors(large):
+    """Every list of up to three alleles (at large: four) into vectors of up to five entries that fill the output;
+    shorter lists into an output with a byte before the vector and one behind it, too."""
+    for count in range(5 if large else 4):
+        for alleles in itertools.product(VECTOR_ALLELES, repeat=count):
+            for length in range(6):
+                yield to_vector(length, length, 0, alleles)
+                if count < (4 if large else 3):
+                    yield to_vector(length, length + 2, 1, alleles)
+
+
+def numbers_to_vectors(large):
+    """Each number to past the largest, and far ones: alone, and in each place among others."""
+    for value, phased in itertools.product((*range(63), *PAST_LARGEST), (0, 1)):
+        allele, other = (value, 0, phased), (62, 0, 1 - phased)
+        yield to_vector(2, 4, 1, [allele])
+        for alleles in ([allele, other], [other, allele], [other, allele, (0, 1, phased)]) if large or phased else ():
+            yield to_vector(4, 4, 0, alleles)
+
+
+def marks_to_vectors():
+    """Marks that are neither 0 nor 1."""
+    for missing, phased in itertools.product((0, 1, 2, 3, 127, 128, 254, 255), repeat=2):
+        for value in (0, 5, 63):
+            yield to_vector(3, 3, 0, [(value, missing, phased), (0, phased, missing)])
+
+
+def mixed_vector_faults(large):
+    """Lists of every mixture of faults, into vectors too short, filled and longer, into enough room, too little and
+    none, and beyond the output: the order of the refusals."""
+    choices = ((0, 0), (0, 1), (1, 1), (63, 0), (63, 2))
+    for count in range(5 if large else 4):
+        for chosen in itertools.product(choices, repeat=count):
+            alleles = [(value, missing, (index + count) % 2) for index, (value, missing) in enumerate(chosen)]
+            for length in sorted({max(0, count - 1), count, count + 1, *((0, LARGEST) if large or count < 3 else ())}):
+                whole = min(length, 6)
+                for room, at in ((whole + 1, 1), (whole, 1), (whole, whole), (whole, whole + 1), (0, LARGEST)):
+                    yield to_vector(length, room, at, alleles)
+
+
+def vector_rooms(large):
+    """Every short length into rooms from none to more than needed, from places to past the output and from far ones."""
+    for count, length in itertools.product(range(5), range(7)):
+        for room in range(length + 3):
+            some = sorted({0, max(0, room - length), room, room + 1})
+            for at in range(room + 2) if large or count in (1, 3) else some:
+                yield to_vector(length, room, at, VECTOR_ALLELES[:count])
+    for at, room in itertools.product(FAR, (0, 3)):
+        yield to_vector(2, room, at, [(0, 0, 1)])
+
+
+def far_lengths(large):
+    """Lengths about each limit, and those that would fit if they were cut, from the start of an output and from places
+    with which they pass the largest number; of lists that may be written, that may not be, and of none."""
+    lengths = {2**bits + step for bits in (8, 16, 31, 32, 33, 62, 63) for step in (-1, 0, 1, 2)}
+    lengths |= {LARGEST - step for step in range(6)} | {4_094, 4_095, 4_096, 4_097, 4_098}
+    lists = ([(0, 0, 0)], [(62, 0, 1), (0, 1, 0)], [(63, 0, 0)], [(0, 0, 0), (7, 1, 0)], [])
+    for length, alleles in itertools.product(sorted(lengths), lists):
+        for room, at in ((0, 0), (2, 0), (2, 2), (2, 3), (5, 1), (5, 3), (5, LARGEST), *(((300, 3),) if large else ())):
+            yield to_vector(length, room, at, alleles)
+    for length, at in (
+        (4_095, 0), (4_095, 1), (4_095, 2), (4_096, 0), (4_096, 1), (4_097, 0), (2**16 + 2, 0), (2**32 + 2, 0),
+        (LARGEST, 1), (LARGEST - 4_094, 4_095), (1, 4_095), (1, 4_096), (1, 4_097), (2, 4_095), (300, 3_796),
+        (300, 3_797),
+    ):
+        yield to_vector(length, 4_096, at, [(1, 0, 1)])
+    yield to_vector(4_096, 4_095, 0, [(1, 0, 1)])
+
+
+def many_to_vectors(large):
+    """As many alleles as a case may have, with a fault and without, into vectors about as long and longer ones."""
+    for count in (15, 16, 32, 62, 63, 64) if large else (16, 63, 64):
+        good = [(index, 0, index % 2) if index < 63 else (0, 1, 1) for index in range(count)]
+        last, above = count - 1, (63, 0, 0)
+        faults = ({}, {0: above}, {last: above}, {last: (1, 1, 0)}, {0: above, last: (9, 1, 0)})
+        for length, changes in itertools.product((0, count - 1, count, count + 1, 100, 300), faults):
+            alleles = replaced(good, changes)
+            yield to_vector(length, length + 3, 2, alleles)
+            yield to_vector(length, length, 1, alleles)
+    yield to_vector(4_096, 4_096, 0, [(62, 0, 1)] * 64)
+
+
+def short_vectors(large):
+    """Every byte, every two bytes, and all vectors of up to three entries (at large: four) at the edges, longer ones of
+    fewer kinds; into rows from none to more than needed."""
+    for byte, row in itertools.product(range(256), range(3)):
+        yield ask("bcfread", row, bytes([byte]))
+    for vector in sequences_of_two():
+        for row in (1, 2) if large else (2,):
+            yield ask("bcfread", row, vector)
+    for vector in short_texts(EDGE_ENTRIES, 4 if large else 3):
+        for row in range(len(vector) + 2):
+            yield ask("bcfread", row, vector)
+    for vector in itertools.product(FEWER_ENTRIES, repeat=4):
+        for row in range(6) if large else (3, 4):
+            yield ask("bcfread", row, bytes(vector))
+
+
+def entries_in_each_place(large):
+    """Each byte in every place of vectors of alleles, of alleles and padding, and of padding."""
+    for front, length in ((b"\x02\x03\x04\x05", 4), (b"\x02\x05", 4), (b"\x02", 4), (b"", 4), (b"\x00" * 9, 9)):
+        vector = front.ljust(length, PADDING)
+        for at, byte in itertools.product(range(length), range(0 if large else 0x7C, 256)):
+            yield ask("bcfread", length, vector[:at] + bytes([byte]) + vector[at + 1 :])
+
+
+def vector_rows(large):
+    """Vectors of up to 66 alleles, with padding and without, into rows about as long as the list and as the vector;
+    with a bad entry first, last and behind the padding, which goes before a row too short."""
+    alleles = bytes(2 + 5 * index % 126 for index in range(66))
+    for count in range(1, 67) if large else (1, 2, 3, 4, 8, 15, 16, 17, 63, 64, 65, 66):
+        front = alleles[:count]
+        for pads in (0, 1, 2, 64 - count, 65 - count) if count < 63 else (0, 1, 2):
+            vector = front + PADDING * pads
+            rows = {0, 1, count - 1, count, count + 1, count + pads, 64}
+            for row in sorted(row for row in rows if row <= 64):
+                yield ask("bcfread", row, vector)
+            for row in sorted({0, min(count - 1, 64), min(count, 64)}):
+                for bad in (b"\x80", b"\x82", b"\xff"):
+                    yield ask("bcfread", row, bad + vector)
+                    yield ask("bcfread", row, vector + bad)
+                yield ask("bcfread", row, PADDING + vector)
+                yield ask("bcfread", row, vector + PADDING + b"\x02")
+    for row in (0, 1, 2, 63, 64):
+        yield ask("bcfread", row, b"")
+
+
+def long_vectors(large):
+    """Vectors of more entries than a row has: of 1, 64 and 65 alleles and padding, of padding alone, of alleles alone;
+    with another entry first, in the middle, before the last and last."""
+    fronts = (b"\x05", b"\x00\x7f" * 32, b"\x04" * 65, b"")
+    for length in (100, 255, 256, 257, 1_000, 4_095, 4_096, 4_097, 10_000) if large else (100, 257, 1_000):
+        for vector in (*(front.ljust(length, PADDING) for front in fronts), b"\x02" * length):
+            yield ask("bcfread", 64, vector)
+            for at in (0, 1, 64, length // 2, length - 2, length - 1):
+                for byte in b"\x02\x80\x81\xff" if large or length == 100 else b"\x80":
+                    yield ask("bcfread", 64, vector[:at] + bytes([byte]) + vector[at + 1 :])
+
+
+def random_vector_allele(dice):
+    """Nearly always one that fits."""
+    if dice.roll(5) == 0:
+        return dice.pick((0, 0, 0, 0, 0, 1)), dice.pick((1, 1, 2, 255)), dice.roll(2)
+    return dice.pick((dice.roll(63), dice.roll(63), 62, dice.roll(66))), 0, dice.pick((0, 1, 1, 2))
+
+
+def random_vectors(large, dice):
+    """Lists into vectors, and vectors into rows, about as long as needed; vectors with a byte changed; any bytes."""
+    for _ in range(12_000 if large else 250):
+        alleles = [random_vector_allele(dice) for _ in range(1 + dice.roll(dice.pick((4, 4, 12))))]
+        length, at = max(0, len(alleles) + dice.roll(8) - 2), dice.roll(4)
+        yield to_vector(length, at + max(0, length + dice.roll(5) - 1), at, alleles)
+        vector = bytes(dice.roll(0x80) for _ in alleles) + PADDING * dice.roll(4)
+        row = max(0, len(alleles) + dice.roll(4) - 1)
+        yield ask("bcfread", row, vector)
+        yield ask("bcfread", row, damaged(dice, vector))
+        yield ask("bcfread", row, damaged(dice, vector, EDGE_ENTRIES))
+        yield ask("bcfread", dice.roll(6), bytes(dice.roll(256) for _ in range(dice.roll(6))))
+        yield ask("bcfread", dice.roll(6), bytes(dice.pick(FEWER_ENTRIES) for _ in range(dice.roll(9))))
+
+
+def bcf_vectors(large, dice):
+    yield from lists_to_vectors(large)
+    yield from numbers_to_vectors(large)
+    yield from marks_to_vectors()
+    yield from mixed_vector_faults(large)
+    yield from vector_rooms(large)
+    yield from far_lengths(large)
+    yield from many_to_vectors(large)
+    yield from short_vectors(large)
+    yield from entries_in_each_place(large)
+    yield from vector_rows(large)
+    yield from long_vectors(large)
+    yield from random_vectors(large, dice)
+
+
 # ---- the form of a case
 
 NO_CASES = (
@@ -2469,25 +2671,30 @@ NO_PLAIN_CASES = (
 GOOD_NUMBERINGS = (b"number 2 0,1", b"genotype 1 2 2 2", b"genotypes 2 2 6", b"genotypecount 2 2")
 
 
+def without_form(line, numbers, bad, more):
+    """A good case with each of its first `numbers` arguments, which are numbers alone, replaced by one that is none; an
+    argument less, one more, spaces."""
+    verb, *arguments = line.split(b" ")
+    for index in range(len(arguments)):
+        yield b" ".join((verb, *arguments[:index], *arguments[index + 1 :]))
+        for other in bad if index < numbers else ():
+            yield b" ".join((verb, *replaced(arguments, {index: other})))
+    for rest in more:
+        yield line + rest
+    for front in (verb, verb + b" ", verb + b"  ", verb + b" -", b" " + line, line.replace(b" ", b"  ", 1)):
+        yield front
+    yield line.replace(b" ", b"\t", 1)
+    yield line.replace(b" ", b"", 1)
+
+
 def with_bad_numberings():
-    """Each argument of these that is a number alone, replaced by one that is none; an argument less and one more."""
     bad = (
         b"", b"00", b"01", b"02", b"+2", b"-2", b"-", b"--", b"a", b"2a", b"2.0", b"2,2", b"0x2", b"2e0", b"\xff",
         b"\xb2", b"2\x00", b"2\r", b"2\t", b"18446744073709551616", b"18446744073709551618", b"36893488147419103234",
         b"99999999999999999999", b"340282366920938463463374607431768211458",
     )
-    for line in GOOD_NUMBERINGS:
-        verb, *arguments = line.split(b" ")
-        for index, argument in enumerate(arguments):
-            yield b" ".join((verb, *arguments[:index], *arguments[index + 1 :]))
-            for other in bad if b"," not in argument else ():
-                yield b" ".join((verb, *replaced(arguments, {index: other})))
-        for more in (b" 2", b" -", b" 0,1", b" ", b" 2 2", b"\r", b"\x00"):
-            yield line + more
-        for front in (verb, verb + b" ", verb + b"  ", verb + b" -", b" " + line, line.replace(b" ", b"  ", 1)):
-            yield front
-        yield line.replace(b" ", b"\t", 1)
-        yield line.replace(b" ", b"", 1)
+    for line, numbers in zip(GOOD_NUMBERINGS, (1, 4, 3, 2)):
+        yield from without_form(line, numbers, bad, (b" 2", b" -", b" 0,1", b" ", b" 2 2", b"\r", b"\x00"))
 
 
 # The same of number, genotype, genotypes and genotypecount.
@@ -2522,6 +2729,61 @@ NO_NUMBER_CASES = (
     b"genotype 1 2 2 18446744073709551615", b"genotype 9 9 9 4097", b"genotypes 2 2 4097", b"genotypes 2 2 5000",
     b"genotypes 2 2 65542", b"genotypes 2 2 4294967302", b"genotypes 2 2 18446744073709551615", b"genotypes 0 0 4097",
     *with_bad_numberings(),
+)
+
+
+# The two verbs on BCF, each with good arguments.
+GOOD_BCF_CASES = (b"bcfwrite 2 2 0 0:0:1", b"bcfread 2 02")
+
+
+def with_bad_bcf_numbers():
+    bad = (
+        b"", b"00", b"01", b"02", b"+2", b"-2", b"-", b"--", b"a", b"2a", b"2.0", b"2,2", b"2:0:0", b"0x2", b"2e0",
+        b"\xff", b"\xb2", b"2\x00", b"2\r", b"2\t", b"18446744073709551616", b"18446744073709551618",
+        b"36893488147419103234", b"99999999999999999999", b"340282366920938463463374607431768211458",
+    )
+    for line, numbers in zip(GOOD_BCF_CASES, (3, 1)):
+        yield from without_form(line, numbers, bad, (b" 02", b" -", b" ", b"  ", b" 2 2", b" x", b"\r", b"\x00"))
+
+
+# The same of bcfwrite and bcfread.
+NO_BCF_CASES = (
+    # an unknown verb
+    b"bcfwrit 2 2 0 0:0:1", b"bcfwrites 2 2 0 0:0:1", b"bcfwritf 2 2 0 0:0:1", b"Bcfwrite 2 2 0 0:0:1",
+    b"BCFWRITE 2 2 0 0:0:1", b"bcfWrite 2 2 0 0:0:1", b"bcf_write 2 2 0 0:0:1", b"bcf write 2 2 0 0:0:1",
+    b"cfwrite 2 2 0 0:0:1", b"xbcfwrite 2 2 0 0:0:1", b"bcfwriteunequal 1 1 1 9", b"bcfwritealleles 2 2 0 0:0:1",
+    b"bcfrea 2 02", b"bcfreads 2 02", b"bcfreae 2 02", b"Bcfread 2 02", b"BCFREAD 2 02", b"bcfRead 2 02",
+    b"bcf_read 2 02", b"bcf read 2 02", b"cfread 2 02", b"xbcfread 2 02", b"bcfreadalt 2 02 41", b"bcf 2 02",
+    b"bcf 2 2 0 0:0:1", b"vcfread 2 02", b"bcgread 2 02", b"write 2 2 0 0:0:1", b"bcfunequal 1 1 1 02",
+    # a verb with the arguments of another
+    b"bcfwrite 2 02", b"bcfwrite 4 4 2 0 0:0:1", b"bcfwrite 4.4 2 0 0:0:1", b"bcfread 2 2 0 0:0:1", b"bcfread 2 0:0:1",
+    b"bcfread 02 2", b"bcfread 2", b"bcfread 02", b"bcfread -", b"bcfread - -", b"bcfread 2 02 41",
+    # hex that is odd, upper case or none
+    b"bcfread 2 0", b"bcfread 2 020", b"bcfread 2 7F", b"bcfread 2 7G", b"bcfread 2 7g", b"bcfread 2 0x02",
+    b"bcfread 2 --", b"bcfread 2 02-", b"bcfread 2 -02", b"bcfread 2 02,04", b"bcfread 2 0|1", b"bcfread 2 .",
+    b"bcfread 2 \x81\x81", b"bcfread 2 \xff",
+    # a row or an output that is longer than may be
+    b"bcfread 65 02", b"bcfread 66 02", b"bcfread 128 02", b"bcfread 256 02", b"bcfread 4096 02", b"bcfread 65 -",
+    b"bcfread 4294967298 02", b"bcfread 18446744073709551615 02", b"bcfwrite 2 4097 0 0:0:1",
+    b"bcfwrite 2 5000 0 0:0:1", b"bcfwrite 2 65538 0 0:0:1", b"bcfwrite 2 4294967298 0 0:0:1",
+    b"bcfwrite 2 18446744073709551615 0 0:0:1", b"bcfwrite 2 4097 4098 0:0:1", b"bcfwrite 0 4097 0 -",
+    # alleles
+    *(
+        b"bcfwrite 2 2 0 " + alleles
+        for alleles in (
+            b"0", b"0:0", b"0:0:", b":0:0", b"0::0", b"::", b"0:0:0:0", b"0:0:0:", b"0:0:256", b"0:256:0", b"0:256:256",
+            b"00:0:0", b"0:00:0", b"0:0:01", b"+1:0:0", b"-1:0:0", b"-:0:0", b".:1:0", b"0:-:0", b"0:0:-", b"0:0:a",
+            b"a:0:0", b"0,0,0", b"0/0/0", b"0:0:1,0:0:1", b"0:0:1;", b"18446744073709551616:0:0",
+            b"0:18446744073709551616:0", b"0:0:18446744073709551616", b"- -", b"- 0:0:1", b"--", b"0:0:1 0:0",
+            b"0:0:1 0:0:256", b"0:0:1 0:256:0", b"0:0:1  0:0:1", b"x 0:0:1", b"0:0:\xff", b"02", b"0281", b"0:0:0x1",
+            b"0:true:0",
+        )
+    ),
+    # one too many, the last of as many as may be none
+    b"bcfwrite 65 65 0" + b" 0:0:1" * 65, b"bcfwrite 65 65 66" + b" 0:0:1" * 65, b"bcfwrite 2 2 0" + b" 63:0:0" * 65,
+    b"bcfwrite 64 64 0" + b" 0:0:1" * 63 + b" 0:0:x", b"bcfwrite 64 64 0" + b" 0:0:1" * 63 + b" 0:256:0",
+    b"bcfwrite 2 2 0" + b" 0:0:1" * 1_000,
+    *with_bad_bcf_numbers(),
 )
 
 
@@ -2724,6 +2986,31 @@ def long_number_lines(large):
         yield none(b"genotypecount 2 2" + b" " * LONGEST_LINE)
 
 
+def long_bcf_lines(large):
+    """Vectors as long as a case may have, and the longest list: what decides stands at the end."""
+    padded = (b"\x02" * 64).ljust(32_762, PADDING)
+    yield ask("bcfread", 64, padded)
+    yield ask("bcfread", 64, padded[:-1] + b"\x80")
+    yield none(ask("bcfread", 64, padded + PADDING)[0])
+    yield to_vector(LARGEST, 4_096, 4_096, [(62, 255, 255)] * 63 + [(LARGEST, 255, 255)])
+    yield to_vector(LARGEST, 4_096, 4_096, [(LARGEST, 0, 255)] * 64)
+    if large:
+        yield ask("bcfread", 9, b"\x02" + padded)
+        yield ask("bcfread", 64, padded[:-1] + b"\x02")
+        yield ask("bcfread", 64, PADDING * 32_762)
+        yield ask("bcfread", 64, PADDING * 32_761 + b"\x02")
+        yield ask("bcfread", 64, b"\x7f" * 32_762)
+        yield ask("bcfread", 64, b"\x7f" * 32_761 + b"\xff")
+        yield ask("bcfread", 0, b"\x00" * 32_763)
+        yield none(ask("bcfread", 0, b"\x00" * 32_764)[0])
+        yield none(b"bcfread 2 " + b"0" * (LONGEST_LINE - 9))
+        yield none(b"bcfread %s 02" % b"2".rjust(LONGEST_LINE - 11, b"0"))
+        yield none(b"bcfread 2 02" + b" " * LONGEST_LINE)
+        yield none(b"bcfwrite %s 2 0 0:0:1" % b"2".rjust(LONGEST_LINE - 19, b"0"))
+        yield none(b"bcfwrite 2 2 0 " + b"0".rjust(LONGEST_LINE - 19, b"0") + b":0:1")
+        yield none(b"bcfwrite 2 2 0" + b" 0:0:1" * 10_900)
+
+
 def form(large):
     """Lines that are none and long lines, each before a case with an answer of its own: a shift shows at once."""
     good = (b"utf8 41", b"print 5 70", b"space -", b"decimal 2b37") if large else (b"utf8 41", b"print 5 70")
@@ -2746,6 +3033,7 @@ def form(large):
         *map(none, (*NO_FORM_CASES, *spoilt(formed, large))), *long_form_lines(large),
         *map(none, (*NO_PLAIN_CASES, *spoilt(plain, large))), *long_plain_lines(large),
         *map(none, (*NO_NUMBER_CASES, *spoilt(GOOD_NUMBERINGS, large))), *long_number_lines(large),
+        *map(none, (*NO_BCF_CASES, *spoilt(GOOD_BCF_CASES, large))), *long_bcf_lines(large),
     )
     for index, case in enumerate(lines):
         yield case
@@ -2760,7 +3048,7 @@ def areas(large):
         infos(large, Dice(8)), samples(large, Dice(9)), genotypes(large, Dice(10)), written_genotypes(large, Dice(11)),
         entry_lists(large, Dice(12)), genotype_steps(large, Dice(13)), offsets(large, Dice(14)),
         alt_counts(large, Dice(15)), line_endings(large, Dice(16)), forms_of_lines(large, Dice(17)),
-        lines_in_passes(large, Dice(18)), genotype_numbers(large, Dice(19)),
+        lines_in_passes(large, Dice(18)), genotype_numbers(large, Dice(19)), bcf_vectors(large, Dice(20)),
     )
 
 

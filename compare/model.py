@@ -25,7 +25,7 @@ LONGEST_SLICE = 9_223_372_036_854_775_807
 DONE, AT_END, EMPTY, LINE_ENDS, CUT, NOT_UTF8, BEYOND, KEY_ENDS, NO_KEY, VALUE_ENDS, NONE_SUCH = range(11)
 NO_ALLELES, BAD_NUMBER, NOT_IMPLIED, BAD_FILTER, BAD_ALT = 11, 12, 13, 14, 15
 BAD_ENDS, TOO_SHORT, BAD_COLUMN, BAD_COUNT, ABOVE_ALT, BAD_POS = 16, 17, 18, 19, 20, 21
-OUT_OF_RANGE, NOT_MADE = 23, 32
+OUT_OF_RANGE, TOO_LARGE, TOO_MANY, NO_VECTOR, NOT_MADE = 23, 24, 25, 26, 32
 UNEQUAL = BAD_ENDS
 
 FIELDS = (b"chrom", b"pos", b"id", b"ref", b"alt", b"qual", b"filter", b"info", b"format", b"samples")
@@ -437,13 +437,19 @@ def checked_genotype(text, alt):
     return made
 
 
-def spelt_genotype(alleles, file_format):
-    """The shortest permitted spelling of a list; or the numbers of a refusal."""
+def list_fault(alleles):
+    """The numbers of the refusal of a list that means no genotype; None where it means one."""
     if not alleles:
         return (NO_ALLELES,)
     bad = [missing != 0 and value != 0 for value, missing, _ in alleles]
-    if any(bad):
-        return BAD_NUMBER, bad.index(True)
+    return (BAD_NUMBER, bad.index(True)) if any(bad) else None
+
+
+def spelt_genotype(alleles, file_format):
+    """The shortest permitted spelling of a list; or the numbers of a refusal."""
+    fault = list_fault(alleles)
+    if fault:
+        return fault
     marks = [b"|" if phased else b"/" for _, _, phased in alleles]
     bodies = [b"." if missing else str(value).encode() for value, missing, _ in alleles]
     if marks[0] == implied(marks[1:]):
@@ -451,6 +457,50 @@ def spelt_genotype(alleles, file_format):
     elif file_format < (4, 4):
         return (NOT_IMPLIED,)
     return b"".join(itertools.chain(*zip(marks, bodies)))
+
+
+# By the bytes of each entry of a BCF vector: the entry that pads it, and the largest allele.
+WIDTHS = {1: (b"\x81", 62)}
+
+
+def bcf_entry(one, width):
+    value, missing, phased = one
+    above = 0 if missing else value + 1
+    return (2 * above + (phased != 0)).to_bytes(width, "little")
+
+
+def bcf_vector(alleles, length, width=1):
+    """A list as a BCF vector of so many entries; or the numbers of a refusal.
+
+    One that is longer than any output is made one entry longer than these: it fits nowhere either way.
+    """
+    padding, largest = WIDTHS[width]
+    fault = list_fault(alleles)
+    if fault:
+        return fault
+    if any(value > largest for value, _, _ in alleles):
+        return (TOO_LARGE,)
+    if len(alleles) > length:
+        return (TOO_MANY,)
+    entries = [bcf_entry(one, width) for one in alleles]
+    entries += [padding] * (min(length, LARGEST_ROOM + 1) - len(entries))
+    return b"".join(entries)
+
+
+def bcf_list(vector, width=1):
+    """The list that a BCF vector means; or the numbers of a refusal.
+
+    It is what stands before the padding at the end: one entry or more, none of them negative.
+    """
+    padding, _ = WIDTHS[width]
+    entries = [vector[at : at + width] for at in range(0, len(vector), width)]
+    while entries[-1:] == [padding]:
+        entries.pop()
+    values = [int.from_bytes(entry, "little", signed=True) for entry in entries]
+    if not values or min(values) < 0:
+        return (NO_VECTOR,)
+    halves = (divmod(value, 2) for value in values)
+    return [(above - 1, 0, phased) if above else (0, 1, phased) for above, phased in halves]
 
 
 # The limits of the numbers of genotypes.
@@ -821,6 +871,14 @@ def write_unequal(numbers, missing, phased, length):
     return write(4, 4, length, 0, [(0, 0, 0)] * numbers)
 
 
+def bcf_write(entries, length, at, listed):
+    return laid_out(length, at, bcf_vector(listed, entries))
+
+
+def bcf_read(length, vector):
+    return row_words(*laid_in_row(length, ROW_START, bcf_list(vector)))
+
+
 # What each place of a row of numbers alone starts as.
 NUMBER_START = 7
 
@@ -900,6 +958,8 @@ VERBS = {
     b"genotype": (genotype_of, (number, number, number, long_row)),
     b"genotypes": (all_genotypes, (number, number, long_row)),
     b"genotypecount": (count_genotypes, (number, number)),
+    b"bcfwrite": (bcf_write, (number, room, number), alleles_of_bytes),
+    b"bcfread": (bcf_read, (row_length, hexed)),
 }
 
 

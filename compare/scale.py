@@ -67,11 +67,17 @@ def more_orders(dice):
     return generate.random_orders(True, dice)
 
 
+def more_vectors(dice):
+    return generate.random_vectors(True, dice)
+
+
 # ---- all short texts
 
 # The bytes at the edges of UTF-8's table, and those of white space; then fewer of them.
 UTF8_EDGES = b" a\x7f\x80\x85\x8f\x90\x9f\xa0\xbf\xc0\xc1\xc2\xdf\xe0\xe1\xe2\xe3\xec\xed\xee\xf0\xf1\xf3\xf4\xf5\xff"
 FEWER_EDGES = b"a\x80\x8f\x90\x9f\xa0\xbf\xc2\xe0\xe2\xed\xf0\xf4"
+# Entries of a BCF vector with each bit alone, and about each limit.
+VECTOR_EDGES = bytes(sorted({*(1 << bit for bit in range(8)), *generate.EDGE_ENTRIES, 5, 0x7D, 0x83, 0xC0, 0xC1, 0xFD}))
 
 
 def of_length(alphabet, length):
@@ -284,6 +290,30 @@ def short_order_limits():
             yield ask("genotype", value, ploidy, alleles, row)
 
 
+def short_bcf_vectors():
+    """All vectors of up to five entries of the kinds that count, and of three at more edges, into rows about as long;
+    every two bytes behind an allele, before one and before padding."""
+    for vector in short_texts(generate.FEWER_ENTRIES, 5):
+        for row in sorted({0, max(0, len(vector) - 2), max(0, len(vector) - 1), len(vector)}):
+            yield ask("bcfread", row, vector)
+    for vector in of_length(VECTOR_EDGES, 3):
+        for row in (2, 3):
+            yield ask("bcfread", row, vector)
+    for pair in generate.sequences_of_two():
+        for vector in (b"\x04" + pair, pair + b"\x04", pair + generate.PADDING):
+            yield ask("bcfread", 3, vector)
+
+
+def short_bcf_lists():
+    """Every list of up to four alleles, in vectors about as long as it, into rooms about as long as these."""
+    kinds = ((0, 0, 0), (0, 1, 0), (62, 0, 1), (63, 0, 1), (1, 1, 1))
+    for count in range(5):
+        for alleles in itertools.product(kinds, repeat=count):
+            for length in range(max(0, count - 1), count + 3):
+                for room, at in itertools.product(range(max(0, length - 1), length + 3), range(4)):
+                    yield generate.to_vector(length, room, at, alleles)
+
+
 # ---- random ones about each boundary
 
 LIMITS = (*(10**power for power in range(1, 21)), 2**32, 2**63, LARGEST, 2 * LARGEST, generate.TENTH)
@@ -428,6 +458,26 @@ def near_orders(dice):
         yield ask("number", alleles, tuple(sorted(genotype)))
 
 
+def near_vectors(dice):
+    """Alleles about the largest that fits and about each limit; lengths about the list's and the largest number, rooms
+    about the length and places about the output's end; vectors of about as many alleles as a row has."""
+    for _ in range(8_000):
+        alleles = [generate.random_vector_allele(dice) for _ in range(1 + dice.roll(6))]
+        if dice.roll(2):
+            value = near(dice, dice.pick((62, 62, 127, 255, 2**16, 2**32, 2**63, LARGEST - 3)), 3)
+            alleles[dice.roll(len(alleles))] = value, dice.pick((0, 0, 0, 1)), dice.roll(2)
+        length = near(dice, len(alleles), 2)
+        room, at = near(dice, length + 2, 2), dice.roll(5)
+        yield generate.to_vector(length, room, at, alleles)
+        yield generate.to_vector(length, length + at, near(dice, length + at, 1), alleles)
+        far = dice.pick((2**32, 2**63, LARGEST - 9)) + dice.roll(10)
+        yield generate.to_vector(far, room, dice.pick((at, LARGEST + 1 - far, near_place(dice, b""))), alleles)
+        row = 1 + dice.roll(64)
+        vector = bytes(dice.roll(0x80) for _ in range(near(dice, row, 2))) + generate.PADDING * dice.roll(4)
+        yield ask("bcfread", row, vector)
+        yield ask("bcfread", row, vector + bytes([near(dice, 0x81, 3)]))
+
+
 # ---- damaged copies
 
 
@@ -549,6 +599,20 @@ def harmed_orders(dice):
         yield ask("genotypecount", *asked[1:])
 
 
+def harmed_vectors(dice):
+    """Vectors with up to three bytes damaged; lists with a number or a mark changed by a bit, and a length."""
+    for _ in range(10_000):
+        alleles = [list(generate.random_vector_allele(dice)) for _ in range(1 + dice.roll(5))]
+        vector = bytes(dice.roll(0x80) for _ in alleles) + generate.PADDING * dice.roll(5)
+        for alphabet in (range(256), generate.EDGE_ENTRIES):
+            yield ask("bcfread", near(dice, len(alleles), 1), harmed(dice, vector, 1 + dice.roll(3), alphabet))
+        length, bits = len(vector), dice.pick((4, 64))
+        yield generate.to_vector(length ^ 1 << dice.roll(bits), length + 1, dice.roll(2), alleles)
+        part, bits = dice.pick(((0, 7), (0, 64), (1, 8), (2, 8)))
+        alleles[dice.roll(len(alleles))][part] ^= 1 << dice.roll(bits)
+        yield generate.to_vector(length, length + 1, dice.roll(2), alleles)
+
+
 # A good case of each verb, and of each of its answers that is easily damaged.
 GOOD_CASES = (
     b"utf8 c3a9", b"space 61e3808062", b"decimal 2b303132", b"print 5 70", b"line 6309310a 0", b"field alt 6309 1",
@@ -569,6 +633,7 @@ GOOD_CASES = (
     b"plain 6309310a 0", b"plain 6109620963096409650966096709680d0a 0",
     b"number 3 0,1", b"number 64 8,8,20,63", b"genotype 4 2 3 3", b"genotype 65 3 40 2", b"genotypes 2 2 7",
     b"genotypes 3 2 11", b"genotypecount 8 64",
+    b"bcfwrite 3 5 1 0:0:0 62:0:1", b"bcfwrite 2 2 0 0:1:0 61:0:255", b"bcfread 3 02058181", b"bcfread 2 007f81",
 )
 
 
@@ -586,21 +651,21 @@ def harmed_cases(dice):
 
 AGAIN = (
     more_texts, more_lines, more_fields, more_columns, more_samples, more_genotypes, more_lists, more_alts,
-    more_endings, more_forms, more_rows, more_orders,
+    more_endings, more_forms, more_rows, more_orders, more_vectors,
 )
 EXHAUSTIVE = (
     short_characters, short_numbers, short_line_ends, short_line_tails, columns_of_every_kind, dots_of_every_kind,
     short_info_steps, short_info_keys, short_samples, short_genotypes, short_phasings, short_genotype_steps,
     short_checked, short_slices, short_lists_of_alleles, short_entries, short_joins, short_faults, short_alts,
-    short_endings, short_forms, short_orders, short_order_limits,
+    short_endings, short_forms, short_orders, short_order_limits, short_bcf_vectors, short_bcf_lists,
 )
 NEAR = (
     near_numbers, near_places, near_line_ends, near_rooms, near_alt_counts, near_faults, near_no_alt, near_forms,
-    near_orders,
+    near_orders, near_vectors,
 )
 HARMED = (
     harmed_lines, harmed_columns, harmed_samples, harmed_genotypes, harmed_entries, harmed_cases, harmed_forms,
-    harmed_orders,
+    harmed_orders, harmed_vectors,
 )
 ROUNDS = 3
 
