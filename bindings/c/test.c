@@ -610,6 +610,105 @@ static void genotypes_there_and_back(void) {
     }
 }
 
+static void read_vectors(void) {
+    uint64_t numbers[3] = {7, 7, 7};
+    uint8_t missing[3] = {7, 7, 7};
+    uint8_t phased[3] = {7, 7, 7};
+    uint64_t values[BRUNCADORZA_VALUES];
+
+    CHECK(bruncadorza_read_vector(BYTES("\x02\x05"), numbers, 3, missing, 2, phased, 3, values) == BRUNCADORZA_BAD_LENGTHS && none(values));
+    CHECK(bruncadorza_read_vector(BYTES("\x02\x05"), numbers, 3, missing, 3, phased, 2, values) == BRUNCADORZA_BAD_LENGTHS && none(values));
+    CHECK(bruncadorza_read_vector(BYTES("\x02\x05"), numbers, 2, missing, 3, phased, 3, values) == BRUNCADORZA_BAD_LENGTHS && none(values));
+    CHECK(bruncadorza_read_vector(BYTES(""), numbers, 3, missing, 3, phased, 3, values) == BRUNCADORZA_NO_VECTOR && none(values));
+    CHECK(bruncadorza_read_vector(BYTES("\x81\x81"), numbers, 3, missing, 3, phased, 3, values) == BRUNCADORZA_NO_VECTOR && none(values));
+    CHECK(bruncadorza_read_vector(BYTES("\x80\x81"), numbers, 3, missing, 3, phased, 3, values) == BRUNCADORZA_NO_VECTOR && none(values));
+    CHECK(bruncadorza_read_vector(BYTES("\x02\x80"), numbers, 3, missing, 3, phased, 3, values) == BRUNCADORZA_NO_VECTOR && none(values));
+    CHECK(bruncadorza_read_vector(BYTES("\x02\xFF"), numbers, 3, missing, 3, phased, 3, values) == BRUNCADORZA_NO_VECTOR && none(values));
+    CHECK(bruncadorza_read_vector(BYTES("\x02\x81\x04"), numbers, 3, missing, 3, phased, 3, values) == BRUNCADORZA_NO_VECTOR && none(values));
+    CHECK(bruncadorza_read_vector(BYTES("\x02\x81\x80"), numbers, 3, missing, 3, phased, 3, values) == BRUNCADORZA_NO_VECTOR && none(values));
+    CHECK(bruncadorza_read_vector(BYTES("\x02\x04\x06\x08"), numbers, 3, missing, 3, phased, 3, values) == BRUNCADORZA_SHORT && none(values));
+    CHECK(bruncadorza_read_vector(BYTES("\x02\x81"), numbers, 0, missing, 0, phased, 0, values) == BRUNCADORZA_SHORT && none(values));
+    /* Lengths that differ are refused first, and a short row last. */
+    CHECK(bruncadorza_read_vector(BYTES("\x80"), numbers, 0, missing, 1, phased, 0, values) == BRUNCADORZA_BAD_LENGTHS && none(values));
+    CHECK(bruncadorza_read_vector(BYTES("\x02\x04\x80"), numbers, 1, missing, 1, phased, 1, values) == BRUNCADORZA_NO_VECTOR && none(values));
+    CHECK(numbers[0] == 7 && numbers[1] == 7 && numbers[2] == 7);
+    CHECK(missing[0] == 7 && missing[1] == 7 && missing[2] == 7);
+    CHECK(phased[0] == 7 && phased[1] == 7 && phased[2] == 7);
+    CHECK(bruncadorza_read_vector(BYTES("\x01\x0C\x81"), numbers, 3, missing, 3, phased, 3, values) == BRUNCADORZA_DONE && one(values, 2));
+    CHECK(numbers[0] == 0 && numbers[1] == 5 && numbers[2] == 7);
+    CHECK(missing[0] == 1 && missing[1] == 0 && missing[2] == 7);
+    CHECK(phased[0] == 1 && phased[1] == 0 && phased[2] == 7);
+    CHECK(bruncadorza_read_vector(BYTES("\x7F\x00\x7E"), numbers, 3, missing, 3, phased, 3, values) == BRUNCADORZA_DONE && one(values, 3));
+    CHECK(numbers[0] == 62 && numbers[1] == 0 && numbers[2] == 62);
+    CHECK(missing[0] == 0 && missing[1] == 1 && missing[2] == 0);
+    CHECK(phased[0] == 1 && phased[1] == 0 && phased[2] == 0);
+    /* Padding needs no room. */
+    CHECK(bruncadorza_read_vector(BYTES("\x04\x81\x81\x81\x81"), numbers, 1, missing, 1, phased, 1, values) == BRUNCADORZA_DONE && one(values, 1));
+    CHECK(numbers[0] == 1 && numbers[1] == 0 && numbers[2] == 62);
+    CHECK(missing[0] == 0 && missing[1] == 1 && missing[2] == 0);
+    CHECK(phased[0] == 0 && phased[1] == 0 && phased[2] == 0);
+}
+
+static void written_vectors(void) {
+    const uint64_t numbers[3] = {0, 12, 62};
+    const uint64_t large[2] = {0, 63};
+    const uint64_t far[2] = {UINT64_MAX, 0};
+    const uint8_t missing[3] = {9, 0, 0};
+    const uint8_t both[2] = {1, 1};
+    const uint8_t phased[3] = {200, 0, 1};
+    uint8_t out[8] = "eeeeeee";
+    uint64_t values[BRUNCADORZA_VALUES];
+
+    CHECK(bruncadorza_write_vector(numbers, 2, missing, 2, phased, 2, 3, out, 8, 9, values) == BRUNCADORZA_BEYOND && none(values));
+    CHECK(bruncadorza_write_vector(numbers, 2, missing, 2, phased, 2, 3, out, 8, SIZE_MAX, values) == BRUNCADORZA_BEYOND && none(values));
+    CHECK(bruncadorza_write_vector(numbers, 2, missing, 1, phased, 2, 3, out, 8, 1, values) == BRUNCADORZA_BAD_LENGTHS && none(values));
+    CHECK(bruncadorza_write_vector(numbers, 2, missing, 2, phased, 3, 3, out, 8, 1, values) == BRUNCADORZA_BAD_LENGTHS && none(values));
+    CHECK(bruncadorza_write_vector(numbers, 0, missing, 0, phased, 0, 3, out, 8, 1, values) == BRUNCADORZA_GENOTYPE_EMPTY && none(values));
+    CHECK(bruncadorza_write_vector(numbers, 2, both, 2, phased, 2, 3, out, 8, 1, values) == BRUNCADORZA_BAD_NUMBER && one(values, 1));
+    CHECK(bruncadorza_write_vector(large, 2, missing, 2, phased, 2, 3, out, 8, 1, values) == BRUNCADORZA_LARGE_ALLELE && none(values));
+    CHECK(bruncadorza_write_vector(far, 2, &missing[1], 2, phased, 2, 3, out, 8, 1, values) == BRUNCADORZA_LARGE_ALLELE && none(values));
+    CHECK(bruncadorza_write_vector(numbers, 2, missing, 2, phased, 2, 1, out, 8, 1, values) == BRUNCADORZA_LONG_LIST && none(values));
+    CHECK(bruncadorza_write_vector(numbers, 2, missing, 2, phased, 2, 0, out, 8, 8, values) == BRUNCADORZA_LONG_LIST && none(values));
+    CHECK(bruncadorza_write_vector(numbers, 2, missing, 2, phased, 2, 8, out, 8, 1, values) == BRUNCADORZA_SHORT && none(values));
+    CHECK(bruncadorza_write_vector(numbers, 2, missing, 2, phased, 2, 2, out, 8, 7, values) == BRUNCADORZA_SHORT && none(values));
+    /* No sum of a place and a length can wrap. */
+    CHECK(bruncadorza_write_vector(numbers, 2, missing, 2, phased, 2, SIZE_MAX, out, 8, 0, values) == BRUNCADORZA_SHORT && none(values));
+    CHECK(bruncadorza_write_vector(numbers, 2, missing, 2, phased, 2, SIZE_MAX, out, 8, 1, values) == BRUNCADORZA_SHORT && none(values));
+    CHECK(bruncadorza_write_vector(numbers, 2, missing, 2, phased, 2, SIZE_MAX - 1, out, 8, 4, values) == BRUNCADORZA_SHORT && none(values));
+    CHECK(bruncadorza_write_vector(numbers, 2, missing, 2, phased, 2, SIZE_MAX / 2 + 1, out, 8, 8, values) == BRUNCADORZA_SHORT && none(values));
+    CHECK(memcmp(out, "eeeeeee", 8) == 0);
+    CHECK(bruncadorza_write_vector(numbers, 2, missing, 2, phased, 2, 4, out, 8, 1, values) == BRUNCADORZA_DONE && one(values, 4));
+    CHECK(memcmp(out, "e\x01\x1A\x81\x81" "ee", 8) == 0);
+    CHECK(bruncadorza_write_vector(numbers, 3, missing, 3, phased, 3, 3, out, 8, 5, values) == BRUNCADORZA_DONE && one(values, 3));
+    CHECK(memcmp(out, "e\x01\x1A\x81\x81\x01\x1A\x7F", 8) == 0);
+}
+
+/* Each byte alone, and before padding: one that is no code is refused, and any other is read and written back. */
+static void vectors_there_and_back(void) {
+    uint8_t vector[3] = {0x81, 0x81, 0x81};
+    uint8_t out[3];
+    uint64_t number;
+    uint8_t missing;
+    uint8_t phased;
+    uint64_t values[BRUNCADORZA_VALUES];
+    unsigned code;
+    size_t n;
+
+    for (code = 0; code < 256; code += 1) {
+        vector[0] = (uint8_t)code;
+        for (n = 1; n <= 3; n += 1) {
+            if (code >= 128) {
+                CHECK(bruncadorza_read_vector(vector, n, &number, 1, &missing, 1, &phased, 1, values) == BRUNCADORZA_NO_VECTOR && none(values));
+                continue;
+            }
+            CHECK(bruncadorza_read_vector(vector, n, &number, 1, &missing, 1, &phased, 1, values) == BRUNCADORZA_DONE && one(values, 1));
+            CHECK(number == (code < 2 ? 0 : code / 2 - 1) && missing == (code < 2) && phased == code % 2);
+            CHECK(bruncadorza_write_vector(&number, 1, &missing, 1, &phased, 1, n, out, n, 0, values) == BRUNCADORZA_DONE && one(values, n));
+            CHECK(memcmp(out, vector, n) == 0);
+        }
+    }
+}
+
 static void written_lists(void) {
     const size_t ends[2] = {2, 4};
     const size_t fallen[2] = {2, 1};
@@ -728,6 +827,24 @@ static void behind_numbers(void) {
     CHECK(row_is(&values[2], 0, NULL, 6));
 }
 
+/* Nor behind those of the reader and the writer of vectors. */
+static void behind_vectors(void) {
+    uint64_t number = 63;
+    uint8_t missing = 1;
+    uint8_t phased = 1;
+    uint8_t out[1];
+    uint64_t values[BRUNCADORZA_VALUES] = {77, 77, 77, 77, 77, 77, 77, 77};
+
+    CHECK(bruncadorza_read_vector(BYTES("\x80"), &number, 1, &missing, 1, &phased, 1, values) == BRUNCADORZA_NO_VECTOR && none(values));
+    CHECK(bruncadorza_read_vector(BYTES("\x02\x04"), &number, 1, &missing, 1, &phased, 1, values) == BRUNCADORZA_SHORT && none(values));
+    CHECK(row_is(&values[1], 0, NULL, 7));
+    CHECK(bruncadorza_write_vector(&number, 1, &missing, 1, &phased, 1, 1, out, 1, 0, values) == BRUNCADORZA_BAD_NUMBER && one(values, 0));
+    CHECK(row_is(&values[2], 0, NULL, 6));
+    CHECK(bruncadorza_read_vector(BYTES("\x06"), &number, 1, &missing, 1, &phased, 1, values) == BRUNCADORZA_DONE && one(values, 1));
+    CHECK(bruncadorza_write_vector(&number, 1, &missing, 1, &phased, 1, 1, out, 1, 0, values) == BRUNCADORZA_DONE && one(values, 1));
+    CHECK(row_is(&values[2], 0, NULL, 6));
+}
+
 /* A place beyond the output is refused first and missing room last, whatever else is wrong. Only the joiner has a refusal before
    these: of a number that is no ending. */
 static void order_of_writers(void) {
@@ -770,6 +887,26 @@ static void order_of_writers(void) {
     CHECK(out[0] == 0xEE);
 }
 
+/* The same of the writer of vectors: each refusal before those below it. */
+static void order_of_vectors(void) {
+    const uint64_t large[2] = {0, 63};
+    const uint64_t numbers[2] = {0, 62};
+    const uint8_t none_missing[2] = {0, 0};
+    const uint8_t both_missing[2] = {1, 1};
+    uint8_t out[1] = {0xEE};
+    uint64_t values[BRUNCADORZA_VALUES];
+
+    CHECK(bruncadorza_write_vector(large, 2, both_missing, 1, none_missing, 2, 1, out, 1, 2, values) == BRUNCADORZA_BEYOND && none(values));
+    CHECK(bruncadorza_write_vector(large, 2, both_missing, 1, none_missing, 2, 1, out, 1, 1, values) == BRUNCADORZA_BAD_LENGTHS && none(values));
+    CHECK(bruncadorza_write_vector(large, 0, both_missing, 1, none_missing, 0, 0, out, 1, 1, values) == BRUNCADORZA_BAD_LENGTHS && none(values));
+    CHECK(bruncadorza_write_vector(large, 0, both_missing, 0, none_missing, 0, 1, out, 1, 1, values) == BRUNCADORZA_GENOTYPE_EMPTY && none(values));
+    CHECK(bruncadorza_write_vector(large, 2, both_missing, 2, none_missing, 2, 1, out, 1, 1, values) == BRUNCADORZA_BAD_NUMBER && one(values, 1));
+    CHECK(bruncadorza_write_vector(large, 2, none_missing, 2, none_missing, 2, 1, out, 1, 1, values) == BRUNCADORZA_LARGE_ALLELE && none(values));
+    CHECK(bruncadorza_write_vector(numbers, 2, none_missing, 2, none_missing, 2, 1, out, 1, 1, values) == BRUNCADORZA_LONG_LIST && none(values));
+    CHECK(bruncadorza_write_vector(numbers, 2, none_missing, 2, none_missing, 2, 2, out, 1, 1, values) == BRUNCADORZA_SHORT && none(values));
+    CHECK(out[0] == 0xEE);
+}
+
 /* Where the count of a slice is 0, its pointer may be null. */
 static void empty_slices(void) {
     uint64_t values[BRUNCADORZA_LINE_VALUES];
@@ -800,6 +937,8 @@ static void empty_slices(void) {
     CHECK(bruncadorza_genotype_number(NULL, 0, 2, values) == BRUNCADORZA_OUT_OF_RANGE && none(values));
     CHECK(bruncadorza_genotype_at(0, 1, 1, NULL, 0, values) == BRUNCADORZA_SHORT && none(values));
     CHECK(bruncadorza_list_genotypes(1, 1, NULL, 0, values) == BRUNCADORZA_SHORT && none(values));
+    CHECK(bruncadorza_read_vector(NULL, 0, NULL, 0, NULL, 0, NULL, 0, values) == BRUNCADORZA_NO_VECTOR && none(values));
+    CHECK(bruncadorza_write_vector(NULL, 0, NULL, 0, NULL, 0, 0, NULL, 0, 0, values) == BRUNCADORZA_GENOTYPE_EMPTY && none(values));
     CHECK(bruncadorza_judge_filter(NULL, 0) == BRUNCADORZA_BAD_FILTER);
     CHECK(bruncadorza_judge_alt(NULL, 0) == BRUNCADORZA_BAD_ALT);
     CHECK(bruncadorza_alt_count(NULL, 0) == 0);
@@ -829,12 +968,17 @@ int main(void) {
     placed_genotypes();
     listed_genotypes();
     genotypes_there_and_back();
+    read_vectors();
+    written_vectors();
+    vectors_there_and_back();
     written_lists();
     joined_columns();
     joined_endings();
     behind_values();
     behind_numbers();
+    behind_vectors();
     order_of_writers();
+    order_of_vectors();
     empty_slices();
     printf("%d of %d checks hold\n", checks - wrong, checks);
     return wrong == 0 ? 0 : 1;

@@ -94,6 +94,17 @@ extern "C" {
         values: &mut [u64; VALUES],
     ) -> u64;
 
+    fn bruncadorza_read_vector(
+        bytes: *const u8, bytes_n: usize,
+        numbers: *mut u64, numbers_n: usize, missing: *mut u8, missing_n: usize, phased: *mut u8, phased_n: usize,
+        values: &mut [u64; VALUES],
+    ) -> u64;
+    fn bruncadorza_write_vector(
+        numbers: *const u64, numbers_n: usize, missing: *const u8, missing_n: usize, phased: *const u8, phased_n: usize,
+        entries: usize, out: *mut u8, out_n: usize, at: usize,
+        values: &mut [u64; VALUES],
+    ) -> u64;
+
     fn bruncadorza_judge_filter(filter: *const u8, filter_n: usize) -> u64;
     fn bruncadorza_judge_alt(alt: *const u8, alt_n: usize) -> u64;
     fn bruncadorza_alt_count(column: *const u8, column_n: usize) -> u64;
@@ -386,6 +397,52 @@ pub(crate) fn genotype_at(number: u64, ploidy: u64, alleles: u64, row: &mut [u64
 pub(crate) fn list_genotypes(ploidy: u64, alleles: u64, row: &mut [u64]) -> Told {
     Told::by(|values| unsafe {
         bruncadorza_list_genotypes(ploidy, alleles, row.as_mut_ptr(), row.len(), values)
+    })
+}
+
+pub(crate) fn read_vector(
+    bytes: &[u8],
+    numbers: &mut [u64],
+    missing: &mut [u8],
+    phased: &mut [u8],
+) -> Told {
+    Told::by(|values| unsafe {
+        bruncadorza_read_vector(
+            bytes.as_ptr(),
+            bytes.len(),
+            numbers.as_mut_ptr(),
+            numbers.len(),
+            missing.as_mut_ptr(),
+            missing.len(),
+            phased.as_mut_ptr(),
+            phased.len(),
+            values,
+        )
+    })
+}
+
+pub(crate) fn write_vector(
+    numbers: &[u64],
+    missing: &[u8],
+    phased: &[u8],
+    entries: usize,
+    out: &mut [u8],
+    at: usize,
+) -> Told {
+    Told::by(|values| unsafe {
+        bruncadorza_write_vector(
+            numbers.as_ptr(),
+            numbers.len(),
+            missing.as_ptr(),
+            missing.len(),
+            phased.as_ptr(),
+            phased.len(),
+            entries,
+            out.as_mut_ptr(),
+            out.len(),
+            at,
+            values,
+        )
     })
 }
 

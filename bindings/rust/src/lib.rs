@@ -36,6 +36,7 @@
 #![deny(unsafe_code)]
 
 pub mod alleles;
+pub mod bcf;
 pub mod decimal;
 #[allow(unsafe_code)]
 mod ffi;

@@ -3,7 +3,8 @@
 //!
 //! Functions that no verb asks for (the judges of a genotype and of an entry, the iterators) are held to the answers of the verbs
 //! beside them, and so are all steps over a genotype together. The line reader and the joiner are held to each other, and so are the
-//! two line readers, the ways between the two forms of a line's record, and the four functions on the numbers of genotypes.
+//! two line readers, the ways between the two forms of a line's record, the four functions on the numbers of genotypes, and the
+//! reader and the writer of vectors.
 
 use std::collections::BTreeMap;
 use std::fmt::Write as _;
@@ -13,7 +14,7 @@ use std::path::Path;
 
 use bruncadorza::text::Range;
 use bruncadorza::{
-    alleles, decimal, fields, forms, genotype, info, join, line, lists, numbering, samples,
+    alleles, bcf, decimal, fields, forms, genotype, info, join, line, lists, numbering, samples,
     spelling, splitter, text,
 };
 use forms::{Narrowed, SmallRecord, Wide, Widened};
@@ -22,7 +23,7 @@ use line::Ending;
 use numbering::{Filled, Numbered};
 
 /// Every verb that a case can have.
-const VERBS: [&str; 39] = [
+const VERBS: [&str; 41] = [
     "utf8",
     "space",
     "decimal",
@@ -58,6 +59,8 @@ const VERBS: [&str; 39] = [
     "genotype",
     "genotypes",
     "genotypecount",
+    "bcfread",
+    "bcfwrite",
     "filters",
     "alts",
     "altcount",
@@ -191,6 +194,20 @@ fn a_wrong_answer_is_seen() {
         ("genotypes 9 1 0", "17 -"),
         ("genotypecount 2 3", "0 5"),
         ("genotypecount 9 1", "0 1"),
+        ("bcfread 2 0281", "0 2 0:0:0 7:7:7"),
+        ("bcfread 2 0381", "0 1 0:0:0 7:7:7"),
+        ("bcfread 2 0081", "0 1 0:0:0 7:7:7"),
+        ("bcfread 1 81", "0 0 7:7:7"),
+        ("bcfread 0 80", "17 -"),
+        ("bcfread 1 0204", "17 0:0:0"),
+        ("bcfwrite 2 2 0 1:0:0", "0 1 04ee"),
+        ("bcfwrite 2 2 0 1:0:0", "0 2 0481ee"),
+        ("bcfwrite 0 1 0 -", "25 ee"),
+        ("bcfwrite 1 1 0 1:1:0", "12 1 ee"),
+        ("bcfwrite 1 1 0 62:0:0", "24 ee"),
+        ("bcfwrite 0 1 0 63:0:0", "25 ee"),
+        ("bcfwrite 0 0 0 1:0:0", "17 -"),
+        ("bcfwrite 18446744073709551615 1 1 1:0:0", "6 ee"),
         ("filters 1 0 - -", "0 1 2f"),
         ("alts 1 0 2c 1", "15 1 ee"),
         ("altcount -", "1"),
@@ -286,6 +303,22 @@ fn a_small_record_takes_twelve_words() {
     assert_eq!(size_of::<SmallRecord>(), 12 * size_of::<usize>());
 }
 
+/// No verb lends slices whose lengths differ to the reader or the writer of vectors.
+#[test]
+fn unequal_slices_hold_no_vector() {
+    for (n, m, p) in [(0, 1, 0), (1, 0, 0), (2, 2, 1), (2, 1, 2), (1, 2, 2)] {
+        let given = (vec![7; n], vec![7; m], vec![7; p]);
+        let mut row = given.clone();
+        let read = bcf::read_vector(b"\x80", &mut row.0, &mut row.1, &mut row.2);
+        assert_eq!((read, read.number()), (bcf::Read::Lengths, 16));
+        assert_eq!(row, given);
+        let mut out = [0xEE; 2];
+        let written = bcf::write_vector(&row.0, &row.1, &row.2, 2, &mut out, 0);
+        assert_eq!((written, written.number()), (bcf::Write::Lengths, 16));
+        assert_eq!(out, [0xEE; 2]);
+    }
+}
+
 /// How many cases of each verb were held, or the first difference. A line that is stored as no case is passed over, and counted
 /// under `?`.
 fn hold(cases: &[u8], answers: &[u8]) -> Result<BTreeMap<String, usize>, String> {
@@ -369,6 +402,10 @@ fn answer(words: &[&str]) -> String {
         ["genotypecount", ploidy, alleles] => {
             said_numbered(numbering::count_of(number(ploidy), number(alleles)))
         }
+        ["bcfread", row, s] => read_vector(size(row), &bytes(s)),
+        ["bcfwrite", entries, room, at, ref list @ ..] => {
+            write_vector(size(entries), size(room), size(at), list)
+        }
         ["filters", room, at, s, e] => filters(size(room), size(at), &bytes(s), &ends(e)),
         ["alts", room, at, s, e] => alts(size(room), size(at), &bytes(s), &ends(e)),
         ["altcount", s] => lists::alt_count(&bytes(s)).to_string(),
@@ -442,6 +479,17 @@ fn list_of(words: &[&str]) -> Vec<[u64; 3]> {
         parts.try_into().expect("three numbers")
     };
     words.iter().map(record).collect()
+}
+
+/// The same as three slices.
+fn slices_of(words: &[&str]) -> (Vec<u64>, Vec<u8>, Vec<u8>) {
+    let list = list_of(words);
+    let mark = |i: usize| {
+        list.iter()
+            .map(move |record| u8::try_from(record[i]).expect("a mark"))
+    };
+    let numbers = list.iter().map(|record| record[0]).collect();
+    (numbers, mark(1).collect(), mark(2).collect())
 }
 
 // What is printed
@@ -866,14 +914,7 @@ fn said_write(write: spelling::Write, out: &[u8]) -> String {
 }
 
 fn write(file_format: (u32, u32), room: usize, at: usize, words: &[&str]) -> String {
-    let list = list_of(words);
-    let mark = |i: usize| {
-        list.iter()
-            .map(move |record| u8::try_from(record[i]).expect("a mark"))
-    };
-    let numbers: Vec<u64> = list.iter().map(|record| record[0]).collect();
-    let missing: Vec<u8> = mark(1).collect();
-    let phased: Vec<u8> = mark(2).collect();
+    let (numbers, missing, phased) = slices_of(words);
     let mut out = vec![0xEE; room];
     let written = spelling::write_genotype(&numbers, &missing, &phased, file_format, &mut out, at);
     said_write(written, &out)
@@ -951,6 +992,61 @@ fn list_all(ploidy: u64, alleles: u64, room: usize) -> String {
         Filled::Short => assert!(matches!(count, Numbered::Is(n) if n * ploidy > room as u64)),
     }
     said_filled(filled, &row)
+}
+
+// Vectors
+
+fn read_vector(room: usize, s: &[u8]) -> String {
+    let (mut numbers, mut missing, mut phased) = (vec![7; room], vec![7; room], vec![7; room]);
+    let read = bcf::read_vector(s, &mut numbers, &mut missing, &mut phased);
+    let count = match read {
+        bcf::Read::Done(n) => {
+            let mut out = vec![0xEE; s.len()];
+            let written = bcf::write_vector(
+                &numbers[..n],
+                &missing[..n],
+                &phased[..n],
+                s.len(),
+                &mut out,
+                0,
+            );
+            assert_eq!((written, &out[..]), (bcf::Write::Done(s.len()), s));
+            Some(n)
+        }
+        bcf::Read::Lengths | bcf::Read::Short | bcf::Read::Bad => None,
+    };
+    let rows = (0..room).map(|i| (numbers[i], missing[i], phased[i]));
+    format!("{} {}", said(read.number(), count), rows_of(rows))
+}
+
+fn write_vector(entries: usize, room: usize, at: usize, words: &[&str]) -> String {
+    let (numbers, missing, phased) = slices_of(words);
+    let mut out = vec![0xEE; room];
+    let written = bcf::write_vector(&numbers, &missing, &phased, entries, &mut out, at);
+    let value = match written {
+        bcf::Write::Done(n) => {
+            held_by_vector_reader(&out[at..at + n], &numbers, &missing, &phased);
+            Some(n)
+        }
+        bcf::Write::Bad(n) => Some(n),
+        bcf::Write::Beyond
+        | bcf::Write::Empty
+        | bcf::Write::Lengths
+        | bcf::Write::Short
+        | bcf::Write::Large
+        | bcf::Write::Long => None,
+    };
+    format!("{} {}", said(written.number(), value), hex(&out))
+}
+
+/// Reads a vector that was written: its alleles are those that were given.
+fn held_by_vector_reader(vector: &[u8], numbers: &[u64], missing: &[u8], phased: &[u8]) {
+    let n = numbers.len();
+    let mut row = (vec![7; n], vec![7; n], vec![7; n]);
+    let read = bcf::read_vector(vector, &mut row.0, &mut row.1, &mut row.2);
+    let marks = |given: &[u8]| given.iter().map(|&mark| u8::from(mark != 0)).collect();
+    assert_eq!(read, bcf::Read::Done(n));
+    assert_eq!(row, (numbers.to_vec(), marks(missing), marks(phased)));
 }
 
 // Lists and columns

@@ -152,7 +152,13 @@ pub fn said(read: Read) -> Said {
 }
 
 // A space and `number:missing:phased` for each record, or a space and `-` for none.
-fn then_row(numbers: &[u64], missing: &[u8], phased: &[u8], out: &mut Buffer, at: Place) -> Place {
+pub fn then_row(
+    numbers: &[u64],
+    missing: &[u8],
+    phased: &[u8],
+    out: &mut Buffer,
+    at: Place,
+) -> Place {
     if numbers.len() == 0 {
         return then_bytes(out, at, b"-");
     }

@@ -12,6 +12,7 @@ mod rows;
 mod sampling;
 mod spellings;
 mod turning;
+mod vectors;
 mod verbs;
 mod words;
 

@@ -17,6 +17,7 @@ use crate::words::index_in;
 use crate::words::number;
 use crate::words::number_of;
 use crate::words::word;
+use crate::words::words_from;
 use pieces::count::count_byte;
 use spelling::write::Write;
 use spelling::write::write_genotype;
@@ -140,10 +141,7 @@ pub fn terms(case: &[u8]) -> Asked {
     let Numeral::Of(minor) = number(case, 2, VERSION) else {
         return Asked::Bad;
     };
-    let Numeral::Of(size) = number(case, 3, ROOM) else {
-        return Asked::Bad;
-    };
-    let Numeral::Of(from) = number(case, 4, u64::MAX) else {
+    let Lent::In(room) = room_of(words_from(case, 3)) else {
         return Asked::Bad;
     };
     Asked::For(
@@ -151,16 +149,33 @@ pub fn terms(case: &[u8]) -> Asked {
             major: version(major),
             minor: version(minor),
         },
-        Room {
-            size: size as usize,
-            from: from as usize,
-        },
+        room,
     )
 }
 
-type Numbers = [u64; 64];
+// An output and a place in it, or that two words don't say it.
+pub enum Lent {
+    In(Room),
+    Bad,
+}
 
-type Marks = [u8; 64];
+// What the first two words lend: the room and the place.
+pub fn room_of(words: &[u8]) -> Lent {
+    let Numeral::Of(size) = number(words, 0, ROOM) else {
+        return Lent::Bad;
+    };
+    let Numeral::Of(from) = number(words, 1, u64::MAX) else {
+        return Lent::Bad;
+    };
+    Lent::In(Room {
+        size: size as usize,
+        from: from as usize,
+    })
+}
+
+pub type Numbers = [u64; 64];
+
+pub type Marks = [u8; 64];
 
 // The largest number of a version.
 const VERSION: u64 = 4294967295;
@@ -210,7 +225,7 @@ fn answer_list(
     out: &mut Buffer,
     at: Place,
 ) -> Answer {
-    let Counted::Of(n) = list(case, rows.words, numbers, missing, phased) else {
+    let Counted::Of(n) = list(words_from(case, 5), rows.words, numbers, missing, phased) else {
         return Answer::NoCase;
     };
     Answer::Given(write(
@@ -246,23 +261,23 @@ pub fn allele_of(s: &[u8], most: u64) -> Listed {
     Listed::Of(n, missing, phased)
 }
 
-// The alleles of a case, from word 5 on, put into slices: how many there are, `-` alone being none.
-fn list(
-    case: &[u8],
-    words: usize,
+// So many words, an allele each, put into slices: how many alleles there are, `-` alone being none.
+pub fn list(
+    words: &[u8],
+    count: usize,
     numbers: &mut Numbers,
     missing: &mut Marks,
     phased: &mut Marks,
 ) -> Counted {
-    if words > 64 {
+    if count > 64 {
         return Counted::Bad;
     }
-    if words == 1 && same_bytes(word(case, 5), b"-") {
+    if count == 1 && same_bytes(word(words, 0), b"-") {
         return Counted::Of(0);
     }
     let mut k = 0;
-    while k < words {
-        let Listed::Of(number, absent, joined) = allele_of(word(case, 5 + k), MARK) else {
+    while k < count {
+        let Listed::Of(number, absent, joined) = allele_of(word(words, k), MARK) else {
             return Counted::Bad;
         };
         numbers[k] = number;
@@ -270,5 +285,5 @@ fn list(
         phased[k] = mark(joined);
         k += 1;
     }
-    Counted::Of(words)
+    Counted::Of(count)
 }

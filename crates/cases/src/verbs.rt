@@ -14,6 +14,7 @@ use crate::rows;
 use crate::sampling;
 use crate::spellings;
 use crate::turning;
+use crate::vectors;
 use crate::words::Text;
 use pieces::count::count_byte;
 
@@ -52,6 +53,17 @@ fn ask(case: &[u8], text: &mut Text, out: &mut Buffer, at: Place) -> Answer {
     if let Answer::Given(_) = given {
         return given;
     }
+    ask_genotypes(case, arguments, text, out, at)
+}
+
+// The areas of genotypes.
+fn ask_genotypes(
+    case: &[u8],
+    arguments: usize,
+    text: &mut Text,
+    out: &mut Buffer,
+    at: Place,
+) -> Answer {
     let given = genotypes::answer(case, arguments, text, out, at);
     if let Answer::Given(_) = given {
         return given;
@@ -61,6 +73,10 @@ fn ask(case: &[u8], text: &mut Text, out: &mut Buffer, at: Place) -> Answer {
         return given;
     }
     let given = spellings::answer(case, arguments, out, at);
+    if let Answer::Given(_) = given {
+        return given;
+    }
+    let given = vectors::answer(case, arguments, text, out, at);
     if let Answer::Given(_) = given {
         return given;
     }

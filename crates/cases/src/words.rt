@@ -51,6 +51,11 @@ pub fn word(case: &[u8], k: usize) -> &[u8] {
     between(case, b' ', k)
 }
 
+// The words of a case from word k on, which is word 0 of them.
+pub fn words_from(case: &[u8], k: usize) -> &[u8] {
+    part(case, start_of(case, b' ', k), case.len())
+}
+
 // Part k of s between marks.
 pub fn between(s: &[u8], mark: u8, k: usize) -> &[u8] {
     let start = start_of(s, mark, k);

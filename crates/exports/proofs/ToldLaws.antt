@@ -4,10 +4,9 @@ use mathlib.Core.Path.{_≡_}
 use mathlib.Core.List.{List, [], _∷_}
 use Rattle.text.specs.Answer.{Answer, says}
 use Rattle.text.specs.declared.range.Range.{Range}
-use Rattle.genotype.specs.Answers.{Reads}
-use Rattle.genotype.specs.Paper.{readPaper}
+use Rattle.text.specs.Over.{laid}
+use Rattle.allele.specs.Row.{numbersOf, missingOf, phasedOf}
 use Rattle.allele.specs.declared.allele.Allele.{Allele}
-use Rattle.genotype.specs.declared.read.Read.{Read}
 use Rattle.exports.specs.Told.{Tells, TellsWriting, TellsReading}
 
 module _ {r : ℕ} {l l′ : List ℕ} where
@@ -35,9 +34,9 @@ module _ {r : ℕ} {l l′ : List ℕ} where
   pub told-writing : {a p : Answer} {left out′ : List ℕ} → p ≡ a → out′ ≡ left → Tells p l r l′ → TellsWriting a left l r out′ l′
   told-writing e q t = record { told = told-as e t; output = q }
 
-  pub told-reading : {a : Answer} {as′ : List Allele} {n m p n′ m′ p′ : List ℕ} {x : Read} → Reads a as′ n m p x n′ m′ p′ → Tells (readPaper x) l r l′
-      → TellsReading a as′ n m p l r n′ m′ p′ l′
-  told-reading w t = record { told = told-as (w .answer) t; numbers = w .numbers; missing = w .missing; phased = w .phased }
+  pub told-reading : {a q : Answer} {as′ : List Allele} {n m p n′ m′ p′ : List ℕ} → q ≡ a → n′ ≡ laid a (numbersOf as′) n → m′ ≡ laid a (missingOf as′) m
+      → p′ ≡ laid a (phasedOf as′) p → Tells q l r l′ → TellsReading a as′ n m p l r n′ m′ p′ l′
+  told-reading e f g h t = record { told = told-as e t; numbers = f; missing = g; phased = h }
 
 pub ruleset arms = (told-case, told-one, told-number)
 

@@ -6,7 +6,7 @@ use mathlib.Core.List.{List}
 use lib.ListN.{length}
 use Rattle.text.specs.Answer.{says}
 use Rattle.text.specs.Outcome.{OneAnswer, OneOutcome}
-use Rattle.text.specs.Over.{roomAnswer, roomLeft}
+use Rattle.text.specs.Over.{roomAnswer, roomLeft, laidAt}
 use Rattle.text.specs.Range.{rangeAt, rangePlaces}
 use Rattle.text.specs.Space.{spaceAnswer}
 use Rattle.text.specs.Utf8.{utf8Answer}
@@ -25,9 +25,13 @@ use Rattle.lists.specs.Judge.{entryAnswer}
 use Rattle.lists.specs.Write as Lists
 use Rattle.lists.specs.declared.write.Kind.the-variants.{Filters, Alts}
 use Rattle.allele.specs.Reading as Genotype
+use Rattle.allele.specs.Row.{rowOf}
 use Rattle.genotype.specs.Answers.{textAnswer, checkedText, slicesAnswer, checkedSlices}
 use Rattle.spelling.specs.Permitted.{from44}
 use Rattle.spelling.specs.Write as Spelling
+use Rattle.bcf.specs.Layout.{w8}
+use Rattle.bcf.specs.Reading as Vector
+use Rattle.bcf.specs.Writing.{rowAnswer, vectorOf}
 use Rattle.numbering.specs.Answers.{countAnswer, numberAnswer, genotypeAnswer, listAnswer, genotypeLeft, allLeft}
 use Rattle.exports.specs.Told.{Judges, Tells, TellsWriting, TellsReading}
 use Rattle.exports.specs.Places.{namedAnswer, endedAnswer, endedLeft, widenedAnswer, narrowedAnswer}
@@ -133,6 +137,15 @@ PlacesGenotype i p n row l r row′ l′ = TellsWriting (genotypeAnswer i p n (l
 abbrev pub ListsGenotypes : ℕ → ℕ → List ℕ → List ℕ → ℕ → List ℕ → List ℕ → Type 0
 ListsGenotypes p n row l r row′ l′ = TellsWriting (listAnswer p n (length row)) (allLeft p n row) l r row′ l′
 
+-- ---- genotypes in BCF
+
+abbrev pub ReadsVector : List ℕ → List ℕ → List ℕ → List ℕ → List ℕ → ℕ → List ℕ → List ℕ → List ℕ → List ℕ → Type 0
+ReadsVector v n m p l r n′ m′ p′ l′ = TellsReading (Vector.slicesAnswer w8 v n m p) (Vector.listRead w8 v) n m p l r n′ m′ p′ l′
+
+abbrev pub WritesVector : List ℕ → List ℕ → List ℕ → ℕ → List ℕ → ℕ → List ℕ → ℕ → List ℕ → List ℕ → Type 0
+WritesVector n m p entries out at l r out′ l′ =
+    TellsWriting (rowAnswer w8 entries n m p out at) (laidAt (rowAnswer w8 entries n m p out at) at (vectorOf w8 entries (rowOf n m p)) out) l r out′ l′
+
 -- ---- filters, ALT and joining
 
 abbrev pub JudgesFilter : List ℕ → ℕ → Type 0
@@ -195,6 +208,8 @@ pub record Determined : Type 0 where
   pub genotype-number : (g : List ℕ) (n : ℕ) (l : List ℕ) → OneOutcome (NumbersGenotype g n l)
   pub genotype-at : (i p n : ℕ) (row l : List ℕ) → OneWriting (PlacesGenotype i p n row l)
   pub list-genotypes : (p n : ℕ) (row l : List ℕ) → OneWriting (ListsGenotypes p n row l)
+  pub read-vector : (v n m p l : List ℕ) → OneReading (ReadsVector v n m p l)
+  pub write-vector : (n m p : List ℕ) (entries : ℕ) (out : List ℕ) (at : ℕ) (l : List ℕ) → OneWriting (WritesVector n m p entries out at l)
   pub judge-filter : (filter : List ℕ) → OneAnswer (JudgesFilter filter)
   pub judge-alt : (alt : List ℕ) → OneAnswer (JudgesAlt alt)
   pub alt-count : (column : List ℕ) → OneAnswer (CountsAlts column)

@@ -11,3 +11,4 @@ pub mod plain;
 pub mod records;
 pub mod sampling;
 mod told;
+pub mod vectors;

@@ -5,10 +5,10 @@ use Rattle.cases.proofs.spellings.list.Statement.{statement}
 use Rattle.cases.proofs.spellings.list.Tie as tie
 
 abbrev Inv-loop : tie.InvT-loop
-Inv-loop case words numbers₀ missing₀ phased₀ k₀ numbers missing phased k = words ≤ 64
+Inv-loop words count numbers₀ missing₀ phased₀ k₀ numbers missing phased k = count ≤ 64
 
 abbrev μ-loop : tie.MeasureT-loop
-μ-loop case words numbers₀ missing₀ phased₀ k₀ numbers missing phased k = words - k
+μ-loop words count numbers₀ missing₀ phased₀ k₀ numbers missing phased k = count - k
 
 returns : tie.Need-returns Inv-loop μ-loop
 returns c = search needs
@@ -27,9 +27,6 @@ returns-2 c = search needs
 
 loop-holds : tie.Need-loop-holds Inv-loop μ-loop
 loop-holds c = search needs
-
-add-word : tie.Need-add-word Inv-loop μ-loop
-add-word c = search needs
 
 word-requires-2 : tie.Need-word-requires-2 Inv-loop μ-loop
 word-requires-2 c κs = search needs
@@ -88,7 +85,6 @@ list-spec =
     same-bytes-requires
     returns-2
     loop-holds
-    add-word
     word-requires-2
     allele-of-requires
     enum-known-number
