@@ -60,6 +60,9 @@ unfoldable pub rowAnswer : Width → ℕ → List ℕ → List ℕ → List ℕ 
 rowAnswer w k n m p out at = placed at out (G.rowAnswer n m p (listAnswer w k (rowOf n m p) (length (drop at out))))
 
 -- only an answer that is done changes the output
+abbrev pub rowLeft : Width → ℕ → List ℕ → List ℕ → List ℕ → List ℕ → ℕ → List ℕ
+rowLeft w k n m p out at = laidAt (rowAnswer w k n m p out at) at (vectorOf w k (rowOf n m p)) out
+
 pub record WritesVector (w : Width) (n m p : List ℕ) (k : ℕ) (out : List ℕ) (at : ℕ) (r : Write) (out′ : List ℕ) : Type 0 where
   pub answer : writePaper r ≡ rowAnswer w k n m p out at
-  pub output : out′ ≡ laidAt (rowAnswer w k n m p out at) at (vectorOf w k (rowOf n m p)) out
+  pub output : out′ ≡ rowLeft w k n m p out at

@@ -6,7 +6,7 @@ use mathlib.Core.List.{List}
 use lib.ListN.{length}
 use Rattle.text.specs.Answer.{says}
 use Rattle.text.specs.Outcome.{OneAnswer, OneOutcome}
-use Rattle.text.specs.Over.{roomAnswer, roomLeft, laidAt}
+use Rattle.text.specs.Over.{roomAnswer, roomLeft}
 use Rattle.text.specs.Range.{rangeAt, rangePlaces}
 use Rattle.text.specs.Space.{spaceAnswer}
 use Rattle.text.specs.Utf8.{utf8Answer}
@@ -25,13 +25,12 @@ use Rattle.lists.specs.Judge.{entryAnswer}
 use Rattle.lists.specs.Write as Lists
 use Rattle.lists.specs.declared.write.Kind.the-variants.{Filters, Alts}
 use Rattle.allele.specs.Reading as Genotype
-use Rattle.allele.specs.Row.{rowOf}
 use Rattle.genotype.specs.Answers.{textAnswer, checkedText, slicesAnswer, checkedSlices}
 use Rattle.spelling.specs.Permitted.{from44}
 use Rattle.spelling.specs.Write as Spelling
 use Rattle.bcf.specs.Layout.{w8}
 use Rattle.bcf.specs.Reading as Vector
-use Rattle.bcf.specs.Writing.{rowAnswer, vectorOf}
+use Rattle.bcf.specs.Writing.{rowAnswer, rowLeft}
 use Rattle.numbering.specs.Answers.{countAnswer, numberAnswer, genotypeAnswer, listAnswer, genotypeLeft, allLeft}
 use Rattle.exports.specs.Told.{Judges, Tells, TellsWriting, TellsReading}
 use Rattle.exports.specs.Places.{namedAnswer, endedAnswer, endedLeft, widenedAnswer, narrowedAnswer}
@@ -143,8 +142,7 @@ abbrev pub ReadsVector : List ℕ → List ℕ → List ℕ → List ℕ → Lis
 ReadsVector v n m p l r n′ m′ p′ l′ = TellsReading (Vector.slicesAnswer w8 v n m p) (Vector.listRead w8 v) n m p l r n′ m′ p′ l′
 
 abbrev pub WritesVector : List ℕ → List ℕ → List ℕ → ℕ → List ℕ → ℕ → List ℕ → ℕ → List ℕ → List ℕ → Type 0
-WritesVector n m p entries out at l r out′ l′ =
-    TellsWriting (rowAnswer w8 entries n m p out at) (laidAt (rowAnswer w8 entries n m p out at) at (vectorOf w8 entries (rowOf n m p)) out) l r out′ l′
+WritesVector n m p entries out at l r out′ l′ = TellsWriting (rowAnswer w8 entries n m p out at) (rowLeft w8 entries n m p out at) l r out′ l′
 
 -- ---- filters, ALT and joining
 

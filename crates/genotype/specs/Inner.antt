@@ -1,4 +1,4 @@
--- What the private functions of this crate promise each other. Assumes nothing.
+-- What the private functions of this crate promise each other; of three slices also those of `bcf`. Assumes nothing.
 use Prim.Native.Nat.{ℕ, _-_, _≤_}
 use mathlib.Core.Path.{_≡_}
 use mathlib.Core.Bool.{Bool, true, _||_}
