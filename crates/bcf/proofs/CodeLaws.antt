@@ -30,12 +30,6 @@ negative-fits w8 = omega arith
 negative-fits w16 = omega arith
 negative-fits w32 = omega arith
 
-pub some-bytes : (w : Width) → 0 < size w
-unfolding size
-some-bytes w8 = omega arith
-some-bytes w16 = omega arith
-some-bytes w32 = omega arith
-
 -- ---- an allele's code, and back
 
 pub back : (w : Width) (a : Allele) → Codable w a → alleleBy (codeOf a) ≡ a

@@ -12,7 +12,7 @@ use Rattle.bcf.specs.Demands.{Bytes, Whole}
 
 -- ---- one number
 
-pub little-length : (k c : ℕ) → length (littleOf k c) ≡ k
+little-length : (k c : ℕ) → length (littleOf k c) ≡ k
 unfolding littleOf
 little-length zero c = refl
 little-length (suc k) c = ap suc (little-length k (c / 256))

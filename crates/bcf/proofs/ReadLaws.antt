@@ -1,4 +1,5 @@
--- Reading: the codes still to count stand for all of them, and what is left to store lies over what stands; then the answer. Assumes nothing.
+-- Reading, over any width: the codes still to count stand for all of them, and what is left to store lies over what stands; then, at 8 bits,
+-- the answer. Assumes nothing.
 use Prim.Native.Nat.{ℕ, _+_, _-_, _*_, _/_, _%_, _≤_, _<_, zero-le}
 use mathlib.Core.Path.{_≡_, refl, sym, ap, _∙_}
 use mathlib.Core.Bool.{Bool, true, false, _&&_, and-false}
@@ -19,7 +20,7 @@ use Rattle.allele.specs.Row.{numbersOf, missingOf, phasedOf}
 use Rattle.genotype.specs.Inner.{Room, Laid}
 use Rattle.genotype.proofs.AnswerLaws.{row-even, row-uneven-nm, row-uneven-np}
 use Rattle.genotype.proofs.LayLaws.{Column, column-first, column-turn, column-past, number, missing, phased}
-use Rattle.bcf.specs.Layout.{w8, size, padding, littleOf, bytesOf}
+use Rattle.bcf.specs.Layout.{Width, w8, size, padding, littleOf, bytesOf}
 use Rattle.bcf.specs.Reading.{negative, alleleBy, numberBy, entriesFrom, entriesIn, codesIn, listIn, onlyPadding, isVector, readable, listRead, vectorAnswer, slicesAnswer, ReadsVector}
 use Rattle.bcf.specs.Inner.{Fillable}
 use Rattle.bcf.specs.Paper.{readPaper}
@@ -31,58 +32,71 @@ use Rattle.bcf.proofs.LayoutLaws.{coded-fit, vector-coded}
 
 -- ---- the codes
 
-pub record Counting (es : List ℕ) (i : ℕ) : Type 0 where
+pub record Counting (w : Width) (es : List ℕ) (i : ℕ) : Type 0 where
   pub within : i ≤ length es
-  pub same : i + length (codesIn w8 (drop i es)) ≡ length (codesIn w8 es)
+  pub same : i + length (codesIn w (drop i es)) ≡ length (codesIn w es)
 
-pub count-first : {es : List ℕ} → Counting es 0
+pub count-first : {w : Width} {es : List ℕ} → Counting w es 0
 count-first = record { within = zero-le; same = zero-add _ }
 
-module _ {es : List ℕ} {i : ℕ} (g : Counting es i) where
-  pub count-turn : i < length es → getD es i 0 < 128 → Counting es (i + 1)
-  unfolding negative
+module _ {w : Width} {es : List ℕ} {i : ℕ} (g : Counting w es i) where
+  count-turn : i < length es → getD es i 0 < negative w → Counting w es (i + 1)
   count-turn h l =
-      let e = ap (λ (s : List ℕ). length (codesIn w8 s)) (here es i h) ∙ ap length (codes-more w8 (getD es i 0) (drop (i + 1) es) l) in
+      let e = ap (λ (s : List ℕ). length (codesIn w s)) (here es i h) ∙ ap length (codes-more w (getD es i 0) (drop (i + 1) es) l) in
       let s = g .same in
       record { within = omega arith; same = omega arith }
 
-  pub count-stop : i < length es → 128 ≤ getD es i 0 → i ≡ length (codesIn w8 es)
-  unfolding negative
+  count-stop : i < length es → negative w ≤ getD es i 0 → i ≡ length (codesIn w es)
   count-stop h l =
-      let e = ap (λ (s : List ℕ). length (codesIn w8 s)) (here es i h) ∙ ap length (codes-stop w8 (getD es i 0) (drop (i + 1) es) l) in
+      let e = ap (λ (s : List ℕ). length (codesIn w s)) (here es i h) ∙ ap length (codes-stop w (getD es i 0) (drop (i + 1) es) l) in
       let s = g .same in
       omega arith
 
-  pub count-past : length es ≤ i → i ≡ length (codesIn w8 es)
+  pub count-past : length es ≤ i → i ≡ length (codesIn w es)
   count-past h =
-      let e = ap (λ (s : List ℕ). length (codesIn w8 s)) (drop-of-length-le es {i = i} h) ∙ ap length (codes-none w8) in
+      let e = ap (λ (s : List ℕ). length (codesIn w s)) (drop-of-length-le es {i = i} h) ∙ ap length (codes-none w) in
       let s = g .same in
       omega arith
 
-  pub count-within : i ≤ length es
-  count-within = g .within
+module _ {es : List ℕ} {i : ℕ} (g : Counting w8 es i) (h : i < length es) where
+  pub count-turn-8 : getD es i 0 < 128 → Counting w8 es (i + 1)
+  unfolding negative
+  count-turn-8 l = count-turn g h l
+
+  pub count-stop-8 : 128 ≤ getD es i 0 → i ≡ length (codesIn w8 es)
+  unfolding negative
+  count-stop-8 l = count-stop g h l
 
 -- ---- the padding
 
-pub record Padded (es : List ℕ) (from i : ℕ) : Type 0 where
+pub record Padded (w : Width) (es : List ℕ) (from i : ℕ) : Type 0 where
   pub within : i ≤ length es
-  pub same : onlyPadding w8 (drop i es) ≡ onlyPadding w8 (drop from es)
+  pub same : onlyPadding w (drop i es) ≡ onlyPadding w (drop from es)
 
-pub pad-first : {es : List ℕ} {from : ℕ} → from ≤ length es → Padded es from from
+pub pad-first : {w : Width} {es : List ℕ} {from : ℕ} → from ≤ length es → Padded w es from from
 pad-first h = record { within = h; same = refl }
 
-module _ {es : List ℕ} {from i : ℕ} (g : Padded es from i) where
-  pub pad-turn : i < length es → getD es i 0 ≡ 129 → Padded es from (i + 1)
-  unfolding onlyPadding padding
-  pad-turn h e = record { within = omega arith; same = rw (here es i h, eq-eqb (getD es i 0) 129 e) at (g .same) }
+module _ {w : Width} {es : List ℕ} {from i : ℕ} (g : Padded w es from i) where
+  pad-turn : i < length es → getD es i 0 ≡ padding w → Padded w es from (i + 1)
+  unfolding onlyPadding
+  pad-turn h e = record { within = omega arith; same = rw (here es i h, eq-eqb (getD es i 0) (padding w) e) at (g .same) }
 
-  pub pad-stop : i < length es → (getD es i 0 ≡ 129 → ⊥) → false ≡ onlyPadding w8 (drop from es)
-  unfolding onlyPadding padding
-  pad-stop h e = rw (here es i h, ne-eqb (getD es i 0) 129 e) at (g .same)
+  pad-stop : i < length es → (getD es i 0 ≡ padding w → ⊥) → false ≡ onlyPadding w (drop from es)
+  unfolding onlyPadding
+  pad-stop h e = rw (here es i h, ne-eqb (getD es i 0) (padding w) e) at (g .same)
 
-  pub pad-past : length es ≤ i → true ≡ onlyPadding w8 (drop from es)
+  pub pad-past : length es ≤ i → true ≡ onlyPadding w (drop from es)
   unfolding onlyPadding
   pad-past h = rw (drop-of-length-le es {i = i} h) at (g .same)
+
+module _ {es : List ℕ} {from i : ℕ} (g : Padded w8 es from i) (h : i < length es) where
+  pub pad-turn-8 : getD es i 0 ≡ 129 → Padded w8 es from (i + 1)
+  unfolding padding
+  pad-turn-8 e = pad-turn g h e
+
+  pub pad-stop-8 : (getD es i 0 ≡ 129 → ⊥) → false ≡ onlyPadding w8 (drop from es)
+  unfolding padding
+  pad-stop-8 e = pad-stop g h e
 
 -- ---- an entry
 
@@ -113,18 +127,18 @@ module _ (c : ℕ) where
 
 -- ---- filling
 
-pub record Filling (es n₀ m₀ p₀ n m p : List ℕ) (count k : ℕ) : Type 0 where
+pub record Filling (w : Width) (es n₀ m₀ p₀ n m p : List ℕ) (count k : ℕ) : Type 0 where
   pub within : k ≤ count
-  pub all : count ≡ length (codesIn w8 es)
+  pub all : count ≡ length (codesIn w es)
   pub room : Room count n₀ m₀ p₀
   pub len-n : length n ≡ length n₀
   pub len-m : length m ≡ length m₀
   pub len-p : length p ≡ length p₀
-  pub numbers : Column number (listIn w8 es) (drop k (listIn w8 es)) n₀ n k
-  pub missings : Column missing (listIn w8 es) (drop k (listIn w8 es)) m₀ m k
-  pub phases : Column phased (listIn w8 es) (drop k (listIn w8 es)) p₀ p k
+  pub numbers : Column number (listIn w es) (drop k (listIn w es)) n₀ n k
+  pub missings : Column missing (listIn w es) (drop k (listIn w es)) m₀ m k
+  pub phases : Column phased (listIn w es) (drop k (listIn w es)) p₀ p k
 
-pub fill-first : {es n m p : List ℕ} {count : ℕ} → Fillable es count n m p → Filling es n m p n m p count 0
+pub fill-first : {w : Width} {es n m p : List ℕ} {count : ℕ} → Fillable w es count n m p → Filling w es n m p n m p count 0
 fill-first f =
     record {
       within = zero-le;
@@ -138,10 +152,10 @@ fill-first f =
       phases = column-first _ _ _;
     }
 
-module _ {es n₀ m₀ p₀ n m p : List ℕ} {count k : ℕ} (g : Filling es n₀ m₀ p₀ n m p count k) where
+module _ {w : Width} {es n₀ m₀ p₀ n m p : List ℕ} {count k : ℕ} (g : Filling w es n₀ m₀ p₀ n m p count k) where
   module _ (h : k < count) where
     pub fill-bytes : k < length es
-    fill-bytes = let a = g .all in let f = codes-few w8 es in omega arith
+    fill-bytes = let a = g .all in let f = codes-few w es in omega arith
 
     pub fill-n : k < length n
     fill-n = let r = g .room .numbers in let e = g .len-n in omega arith
@@ -153,10 +167,10 @@ module _ {es n₀ m₀ p₀ n m p : List ℕ} {count k : ℕ} (g : Filling es n�
     fill-p = let r = g .room .phased in let e = g .len-p in omega arith
 
     pub fill-turn : {d x y z : ℕ} → d ≡ getD es k 0 → x ≡ alleleBy d .number → y ≡ oneIf (alleleBy d .missing) → z ≡ oneIf (alleleBy d .phased)
-        → Filling es n₀ m₀ p₀ (set n k x) (set m k y) (set p k z) count (k + 1)
+        → Filling w es n₀ m₀ p₀ (set n k x) (set m k y) (set p k z) count (k + 1)
     fill-turn {d} i a b c =
         let q = g .all in
-        let e : drop k (listIn w8 es) ≡ alleleBy d ∷ drop (k + 1) (listIn w8 es) = rw (i, add-one) (list-here w8 es k (omega arith)) in
+        let e : drop k (listIn w es) ≡ alleleBy d ∷ drop (k + 1) (listIn w es) = rw (i, add-one) (list-here w es k (omega arith)) in
         rw (a, b, c)
         (record {
           within = omega arith;
@@ -179,13 +193,13 @@ module _ {es n₀ m₀ p₀ n m p : List ℕ} {count k : ℕ} (g : Filling es n�
   pub fill-len-p : length p ≡ length p₀
   fill-len-p = g .len-p
 
-  pub fill-past : count ≤ k → Laid (listIn w8 es) n₀ m₀ p₀ n m p
+  pub fill-past : count ≤ k → Laid (listIn w es) n₀ m₀ p₀ n m p
   unfolding numbersOf missingOf phasedOf
   fill-past h =
-      let d = list-length w8 es in
+      let d = list-length w es in
       let a = g .all in
       let r = g .room in
-      let e : drop k (listIn w8 es) ≡ [] = drop-of-length-le (listIn w8 es) {i = k} (omega arith) in
+      let e : drop k (listIn w es) ≡ [] = drop-of-length-le (listIn w es) {i = k} (omega arith) in
       record {
         numbers = column-past (rw e at (g .numbers)) (omega arith);
         missing = column-past (rw e at (g .missings)) (omega arith);
@@ -199,7 +213,7 @@ unfolding entriesFrom numberBy
 entries-one [] = refl
 entries-one (b ∷ v) = let e : b + 256 * 0 ≡ b = omega arith in rw (e, entries-one v)
 
-pub entries-8 : (v : List ℕ) → entriesIn w8 v ≡ v
+entries-8 : (v : List ℕ) → entriesIn w8 v ≡ v
 unfolding entriesIn size
 entries-8 v = rw (div-one (length v)) (entries-one v)
 
@@ -270,7 +284,7 @@ module _ (v n m p : List ℕ) where
         read-short h = refused (vector ∙ rw (lt-leb c (length n) h)) (λ z. omega arith)
 
         module _ (h : c ≤ length n) where
-          pub read-room : Fillable v c n m p
+          pub read-room : Fillable w8 v c n m p
           read-room = record { count = q; room = record { numbers = h; missing = omega arith; phased = omega arith } }
 
           pub read-done : {n′ m′ p′ : List ℕ} → Laid (listIn w8 v) n m p n′ m′ p′ → ReadsVector w8 v n m p (R.Done c) n′ m′ p′
@@ -284,4 +298,4 @@ module _ (v n m p : List ℕ) where
                 phased = rw (a, list-8 v) (l .phased);
               }
 
-pub ruleset laws = (count-first, count-turn, count-stop, count-past, count-within, pad-first, pad-turn, pad-stop, pad-past, number-low, number-high, missing-low, missing-high, phased-odd, phased-even, fill-first, fill-bytes, fill-n, fill-m, fill-p, fill-turn, fill-len-n, fill-len-m, fill-len-p, fill-past, read-nm, read-np, read-none, read-within, read-more, read-short, read-room, read-done)
+pub ruleset laws = (count-first, count-turn-8, count-stop-8, count-past, pad-first, pad-turn-8, pad-stop-8, pad-past, number-low, number-high, missing-low, missing-high, phased-odd, phased-even, fill-first, fill-bytes, fill-n, fill-m, fill-p, fill-turn, fill-len-n, fill-len-m, fill-len-p, fill-past, read-nm, read-np, read-none, read-within, read-more, read-short, read-room, read-done)

@@ -19,7 +19,7 @@ slices-reader w v n m p r n′ m′ p′ q g =
     rw (row-length n m p q)
     (g .answer ∙ e, rw (g .numbers, g .missing, g .phased, e) (row-laid (vectorAnswer w v (length n)) (listRead w v) n m p q))
 
-pub row-placed : (w : Width) (n m p : List ℕ) (k : ℕ) (out : List ℕ) (at : ℕ) → Parallel n m p → rowAnswer w k n m p out at ≡ placedAnswer w k (rowOf n m p) out at
+row-placed : (w : Width) (n m p : List ℕ) (k : ℕ) (out : List ℕ) (at : ℕ) → Parallel n m p → rowAnswer w k n m p out at ≡ placedAnswer w k (rowOf n m p) out at
 unfolding rowAnswer placedAnswer
 row-placed w n m p k out at q = rw (row-even n m p (listAnswer w k (rowOf n m p) (length (drop at out))) (q .missing) (q .phased))
 

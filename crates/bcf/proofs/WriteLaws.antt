@@ -289,15 +289,12 @@ module _ {n m p : List ℕ} (k : ℕ) (l : List ℕ) (q : Parallel n m p) where
     sized-large h = written-by (rw (lt-ltb 62 (mostOf (rowOf n m p)) (omega arith))) (λ z. omega arith)
 
     module _ (s : x ≤ 62) where
-      small : mostOf (rowOf n m p) ≤ 62
-      small = omega arith
-
       pub sized-small : mostOf (rowOf n m p) ≤ 62
-      sized-small = small
+      sized-small = omega arith
 
       pub sized-long : k < length n → WritesSized k (rowOf n m p) l W.Long l
       unfolding sizedAnswer writePaper largest
-      sized-long h = let z = count in written-by (rw (le-ltb 62 (mostOf (rowOf n m p)) small, lt-ltb k (length (rowOf n m p)) (omega arith))) (λ z. omega arith)
+      sized-long h = let z = count in written-by (rw (le-ltb 62 (mostOf (rowOf n m p)) sized-small, lt-ltb k (length (rowOf n m p)) (omega arith))) (λ z. omega arith)
 
       module _ (h : length n ≤ k) where
         sized-room : sizedAnswer w8 k (rowOf n m p) (length l) ≡ pick (leb k (length l)) (says 0 (k ∷ [])) (says 17 [])
@@ -305,7 +302,7 @@ module _ {n m p : List ℕ} (k : ℕ) (l : List ℕ) (q : Parallel n m p) where
         sized-room =
             let z = count in
             let t : k * 1 ≡ k = omega arith in
-            rw (le-ltb 62 (mostOf (rowOf n m p)) small, le-ltb k (length (rowOf n m p)) (omega arith), t)
+            rw (le-ltb 62 (mostOf (rowOf n m p)) sized-small, le-ltb k (length (rowOf n m p)) (omega arith), t)
 
         pub sized-short : length l < k → WritesSized k (rowOf n m p) l W.Short l
         unfolding writePaper
@@ -328,7 +325,7 @@ module _ {n m p : List ℕ} (k : ℕ) (l : List ℕ) (q : Parallel n m p) where
                 let a : sizedAnswer w8 k (rowOf n m p) (length l) ≡ says 0 (k ∷ []) = sized-room ∙ rw (le-leb k (length l) j) in
                 let c = coded in
                 let v : over (vectorOf w8 k (rowOf n m p)) l ≡ overAt (length n) (replicate (k - length n) 129) (over (map codeOf (rowOf n m p)) l) =
-                rw (vector-8 k (rowOf n m p) small, count)
+                rw (vector-8 k (rowOf n m p) sized-small, count)
                 (over-append (map codeOf (rowOf n m p)) (replicate (k - length n) 129) l (omega arith) ∙ ap (λ (s : ℕ). overAt s (replicate (k - length n) 129) (over (map codeOf (rowOf n m p)) l)) c)
                 in
                 record { answer = sym a; output = rw a (o ∙ ap (overAt (length n) (replicate (k - length n) 129)) y ∙ sym v) }

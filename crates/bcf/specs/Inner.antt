@@ -10,7 +10,7 @@ use Rattle.text.specs.Over.{laid}
 use Rattle.allele.specs.Row.{alleleOf, rowOf, isSound, firstUnsound, Parallel}
 use Rattle.allele.specs.declared.allele.Allele.{Allele}
 use Rattle.genotype.specs.Inner.{Room}
-use Rattle.bcf.specs.Layout.{w8}
+use Rattle.bcf.specs.Layout.{Width, w8}
 use Rattle.bcf.specs.Reading.{codesIn}
 use Rattle.bcf.specs.Writing.{mostOf, sizedAnswer, listAnswer, vectorOf}
 use Rattle.bcf.specs.Paper.{writePaper}
@@ -20,9 +20,9 @@ use Rattle.bcf.specs.declared.write.Judged.the-variants as J
 
 -- ---- reading
 
--- so many codes begin the bytes, and the slices have room for them
-pub record Fillable (v : List ℕ) (k : ℕ) (n m p : List ℕ) : Type 0 where
-  pub count : k ≡ length (codesIn w8 v)
+-- so many codes begin the entries, and the slices have room for them
+pub record Fillable (w : Width) (es : List ℕ) (k : ℕ) (n m p : List ℕ) : Type 0 where
+  pub count : k ≡ length (codesIn w es)
   pub room : Room k n m p
 
 -- ---- writing

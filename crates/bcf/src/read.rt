@@ -84,7 +84,7 @@ fn wide(b: u8) -> u64
 
 // Lays the alleles of the first `count` entries, which are codes, over the slices.
 fn fill(bytes: &[u8], count: usize, numbers: &mut [u64], missing: &mut [u8], phased: &mut [u8])
-    requires { ⌜ Fillable (now bytes) count (now numbers) (now missing) (now phased) ⌝ }
+    requires { ⌜ Fillable w8 (now bytes) count (now numbers) (now missing) (now phased) ⌝ }
     ensures { λ _. ⌜ Laid (listIn w8 (now (bytes .entry))) (now (numbers .entry)) (now (missing .entry)) (now (phased .entry)) (now (numbers .exit)) (now (missing .exit)) (now (phased .exit)) ⌝ }
 {
     let mut k = 0;

@@ -2,12 +2,13 @@
 use Prim.Native.Nat.{_-_}
 use lib.ListN.{length}
 use borrow.Author.Needs.{needs}
+use Rattle.bcf.specs.Layout.{w8}
 use Rattle.bcf.proofs.ReadLaws.{Padded, laws}
 use Rattle.bcf.proofs.read.all_padding.Statement.{statement}
 use Rattle.bcf.proofs.read.all_padding.Tie as tie
 
 abbrev Inv-loop : tie.InvT-loop
-Inv-loop bytes from i₀ i = Padded bytes from i
+Inv-loop bytes from i₀ i = Padded w8 bytes from i
 
 abbrev μ-loop : tie.MeasureT-loop
 μ-loop bytes from i₀ i = length bytes - i

@@ -2,12 +2,13 @@
 use Prim.Native.Nat.{_-_}
 use lib.ListN.{length}
 use borrow.Author.Needs.{needs}
+use Rattle.bcf.specs.Layout.{w8}
 use Rattle.bcf.proofs.ReadLaws.{Counting, laws}
 use Rattle.bcf.proofs.read.count_codes.Statement.{statement}
 use Rattle.bcf.proofs.read.count_codes.Tie as tie
 
 abbrev Inv-loop : tie.InvT-loop
-Inv-loop bytes i₀ i = Counting bytes i
+Inv-loop bytes i₀ i = Counting w8 bytes i
 
 abbrev μ-loop : tie.MeasureT-loop
 μ-loop bytes i₀ i = length bytes - i

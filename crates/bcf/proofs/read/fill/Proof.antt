@@ -1,12 +1,13 @@
 -- `bcf::read::fill` meets its contract: what is left to store lies over what stands, in each slice. Assumes nothing.
 use Prim.Native.Nat.{_-_}
 use borrow.Author.Needs.{needs}
+use Rattle.bcf.specs.Layout.{w8}
 use Rattle.bcf.proofs.ReadLaws.{Filling, laws}
 use Rattle.bcf.proofs.read.fill.Statement.{statement}
 use Rattle.bcf.proofs.read.fill.Tie as tie
 
 abbrev Inv-loop : tie.InvT-loop
-Inv-loop bytes count numbers₀ missing₀ phased₀ k₀ numbers missing phased k = Filling bytes numbers₀ missing₀ phased₀ numbers missing phased count k
+Inv-loop bytes count numbers₀ missing₀ phased₀ k₀ numbers missing phased k = Filling w8 bytes numbers₀ missing₀ phased₀ numbers missing phased count k
 
 abbrev μ-loop : tie.MeasureT-loop
 μ-loop bytes count numbers₀ missing₀ phased₀ k₀ numbers missing phased k = count - k
