@@ -2,7 +2,7 @@
 -- entries that are no vector have something else at or behind the first that is negative. Assumes nothing.
 use Prim.Native.Nat.{ℕ, zero, suc, _+_, _≤_, _<_}
 use mathlib.Core.Path.{_≡_, refl, ap, _∙_}
-use mathlib.Core.Bool.{Bool, true, false, _&&_}
+use mathlib.Core.Bool.{Bool, true, false, _&&_, and-eq-true-iff}
 use mathlib.Core.List.{List, [], _∷_}
 use native.Mathlib.Omega.{arith}
 use native.Mathlib.Nat.{le-of-suc-le-suc}
@@ -82,13 +82,8 @@ not-only w (x ∷ es) e = by (eqb x (padding w)) refl e (λ f. not-only w es f)
 each-only : (w : Width) (es : List ℕ) → onlyPadding w es ≡ true → (i : ℕ) → i < length es → getD es i 0 ≡ padding w
 unfolding onlyPadding
 each-only w [] e i h = absurd (omega arith)
-each-only w (x ∷ es) e i h = by (eqb x (padding w)) refl e i h (λ f j l. each-only w es f j l)
-  where
-    by : (t : Bool) → eqb x (padding w) ≡ t → t && onlyPadding w es ≡ true → (i : ℕ) → i < suc (length es)
-        → (onlyPadding w es ≡ true → (j : ℕ) → j < length es → getD es j 0 ≡ padding w) → getD (x ∷ es) i 0 ≡ padding w
-    by true q f zero l r = eqb-true x (padding w) q
-    by true q f (suc i) l r = r f i (le-of-suc-le-suc l)
-    by false q f i l r = absurd (let z : _≡_ {A = ℕ} 0 1 = cc in omega arith)
+each-only w (x ∷ es) e zero h = eqb-true x (padding w) (and-eq-true-iff (eqb x (padding w)) (onlyPadding w es) .0 e .0)
+each-only w (x ∷ es) e (suc i) h = each-only w es (and-eq-true-iff (eqb x (padding w)) (onlyPadding w es) .0 e .1) i (le-of-suc-le-suc h)
 
 no-vector-faulty : (w : Width) (es : List ℕ) → isVector w es ≡ false → Faulty w es
 unfolding isVector

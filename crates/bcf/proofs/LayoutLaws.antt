@@ -2,7 +2,7 @@
 -- is laid out. Assumes nothing.
 use Prim.Native.Nat.{ℕ, _*_, _/_, _≤_}
 use mathlib.Core.Path.{_≡_, refl, sym, ap, _∙_, subst}
-use mathlib.Core.Bool.{Bool, true, false, _&&_}
+use mathlib.Core.Bool.{Bool, true, false, and-eq-true-iff}
 use mathlib.Core.List.{List, [], _∷_, map}
 use native.Mathlib.Omega.{arith}
 use lib.ListN.{length, drop}
@@ -91,19 +91,12 @@ lays-readable {w} {v = v} l =
 
 -- ---- what is readable is laid out
 
-true-left : (a b : Bool) → a && b ≡ true → a ≡ true
-true-left true b e = refl
-true-left false b e = e
-
-true-right : (a b : Bool) → a && b ≡ true → b ≡ true
-true-right true b e = e
-true-right false b e = absurd (let z : _≡_ {A = ℕ} 0 1 = cc in omega arith)
-
 only-padding : (w : Width) (es : List ℕ) → onlyPadding w es ≡ true → Coded w [] es
 unfolding onlyPadding
 only-padding w [] h = end
 only-padding w (e ∷ es) h =
-    rw (eqb-true e (padding w) (true-left (eqb e (padding w)) (onlyPadding w es) h)) (pad (only-padding w es (true-right (eqb e (padding w)) (onlyPadding w es) h)))
+    let b = and-eq-true-iff (eqb e (padding w)) (onlyPadding w es) .0 h in
+    rw (eqb-true e (padding w) (b .0)) (pad (only-padding w es (b .1)))
 
 padded-coded : (w : Width) (es : List ℕ) → onlyPadding w (drop (length (codesIn w es)) es) ≡ true → Coded w (listIn w es) es
 unfolding listIn
@@ -120,18 +113,18 @@ padded-coded w (e ∷ es) h = by (ltb e (negative w)) refl (λ k. padded-coded w
 
 pub vector-coded : (w : Width) (es : List ℕ) → isVector w es ≡ true → Coded w (listIn w es) es
 unfolding isVector
-vector-coded w es h = padded-coded w es (true-right (ltb 0 (length (codesIn w es))) _ h)
+vector-coded w es h = padded-coded w es (and-eq-true-iff (ltb 0 (length (codesIn w es))) _ .0 h .1)
 
 pub readable-lays : (w : Width) (v : List ℕ) → readable w v ≡ true → Lays w (listRead w v) (length (entriesIn w v)) v
 unfolding readable listRead isVector
 readable-lays w v h =
-    let b = true-right (same (bytesOf w (entriesIn w v)) v) _ h in
-    let c = ltb-true 0 (length (codesIn w (entriesIn w v))) (true-left _ (onlyPadding w (drop (length (codesIn w (entriesIn w v))) (entriesIn w v))) b) in
+    let b = and-eq-true-iff (same (bytesOf w (entriesIn w v)) v) (isVector w (entriesIn w v)) .0 h in
+    let c = ltb-true 0 (length (codesIn w (entriesIn w v))) (and-eq-true-iff _ (onlyPadding w (drop (length (codesIn w (entriesIn w v))) (entriesIn w v))) .0 (b .1) .0) in
     let l = list-length w (entriesIn w v) in
     record {
       some = omega arith;
       entries = entriesIn w v;
       count = refl;
-      coded = vector-coded w (entriesIn w v) b;
-      bytes = sym (same-is _ _ (true-left _ (isVector w (entriesIn w v)) h));
+      coded = vector-coded w (entriesIn w v) (b .1);
+      bytes = sym (same-is _ _ (b .0));
     }

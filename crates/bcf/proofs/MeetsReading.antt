@@ -10,6 +10,7 @@ use lib.ListN.{length}
 use borrow.Author.Tests.{ne-eqb, le-leb, lt-leb}
 use Rattle.text.specs.Answer.{Answer, says, numberOf}
 use Rattle.text.specs.Over.{over}
+use Rattle.text.proofs.OutcomeLaws.{alike}
 use Rattle.allele.specs.declared.allele.Allele.{Allele}
 use Rattle.genotype.specs.Demands.{Reader, Untouched}
 use Rattle.genotype.proofs.Refusals.{one-outcome}
@@ -86,18 +87,11 @@ module _ {w : Width} {read : Reader} (m : MeetsReading w read) {as′ : List All
 
 pub one-reader : OneReader
 unfolding OneReader Untouched
-one-reader w read other m m′ v row = by (ℕ-discrete (numberOf (read v row .answer)) 0) (ℕ-discrete (numberOf (other v row .answer)) 0)
+one-reader w read other m m′ v row = alike (m .refusals v row) (m′ .refusals v row) both (λ e n n′. one-outcome _ _ e (m .untouched v row n ∙ sym (m′ .untouched v row n′)))
   where
-    -- what one refuses the other does, alike
-    same : (read other : Reader) → MeetsReading w read → MeetsReading w other → (numberOf (read v row .answer) ≡ 0 → ⊥) → other v row .answer ≡ read v row .answer
-    same read other m m′ n = m′ .refusals v row _ n .1 (m .refusals v row _ n .0 refl)
-
-    by : Dec (numberOf (read v row .answer) ≡ 0) → Dec (numberOf (other v row .answer) ≡ 0) → read v row ≡ other v row
-    by (yes z) (yes z′) =
+    both : numberOf (read v row .answer) ≡ 0 → numberOf (other v row .answer) ≡ 0 → read v row ≡ other v row
+    both z z′ =
         let r = m .reads v row z in
         let o = m′ .reads v row z′ in
         let e = o .only (r .list) (r .entries) (r .lays) in
         one-outcome _ _ (r .count ∙ rw e (sym (o .count))) (r .holds ∙ rw e (sym (o .holds)))
-    by (no n) (no n′) = one-outcome _ _ (sym (same read other m m′ n)) (m .untouched v row n ∙ sym (m′ .untouched v row n′))
-    by (yes z) (no n′) = absurd (n′ (sym (ap numberOf (same other read m′ m n′)) ∙ z))
-    by (no n) (yes z′) = absurd (n (sym (ap numberOf (same read other m m′ n)) ∙ z′))

@@ -25,7 +25,7 @@ negative w8 = 128
 negative w16 = 32768
 negative w32 = 2147483648
 
--- the allele that has a code
+-- the allele that has a code: below 2 it is missing, and has the number 0
 unfoldable pub alleleBy : ℕ → Allele
 alleleBy c = record { number = c / 2 - 1; missing = ltb c 2; phased = eqb (c % 2) 1 }
 
