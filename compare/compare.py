@@ -152,16 +152,94 @@ def difference(case, rust, ours, theirs):
     return f"an answer differs\n  {line!r}, built as {built}\n{answers}"
 
 
+# ---- round trips in BCF: the program's own answers are put to it again, and neither the model nor the Rust is asked
+
+TRIP = "trip"
+
+
+def as_read(alleles):
+    """The words of alleles with their marks as a reader gives them, 0 or 1."""
+    parts = (allele.split(":") for allele in alleles)
+    return [f"{number}:{int(missing != '0')}:{int(phased != '0')}" for number, missing, phased in parts]
+
+
+def in_width(vector, width, other):
+    """A vector's entries in another width, with fewer of their bytes or with zeros behind them, and its padding."""
+    entries = [vector[at : at + width] for at in range(0, len(vector), width)]
+    pads, other_pads = generate.PADDINGS[width], generate.PADDINGS[other]
+    return b"".join(other_pads if one == pads else one[:other].ljust(other, b"\x00") for one in entries)
+
+
+def vector_written(line, answer):
+    """The width, the bytes and the alleles' words of a vector that was written."""
+    _, _, _, at, *alleles = line.decode().split(" ")
+    _, width, length, output = answer.split(" ")
+    return int(width), bytes.fromhex(output)[int(at) : int(at) + int(length)], alleles
+
+
+def vector_read(line, answer):
+    """The same of a vector that was read."""
+    _, width, _, vector = line.decode().split(" ")
+    _, count, *row = answer.split(" ")
+    return int(width), bytes.fromhex(vector), row[: int(count)]
+
+
+def hold_written(program, pairs):
+    """Holds each vector that was written to its list: it reads as that in the width answered. So do its entries in
+    every wider one; in a smaller one they don't, as the list has no vector there."""
+    questions, wanted = [], []
+    for width, vector, alleles in itertools.starmap(vector_written, pairs):
+        for other in generate.WIDTHS:
+            questions.append(generate.ask("bcfread", other, len(alleles), in_width(vector, width, other))[0])
+            wanted.append((" ".join(("0", str(len(alleles)), *as_read(alleles))), other >= width))
+    for question, answer, (whole, same) in zip(questions, replies(program, questions), wanted, strict=True):
+        if (answer == whole) != same:
+            said = "not read as it was written" if same else "read in a smaller width than it was written in"
+            raise Failed(f"a list in BCF is {said}\n  {question!r}\n  the program: {answer}\n  the list:    {whole}")
+
+
+def is_written_again(width, vector, question, answer):
+    """Whether it is the same bytes, or as many entries in a smaller width."""
+    if not answer.startswith("0 "):
+        return False
+    least, made, _ = vector_written(question, answer)
+    return made == vector if least == width else least < width and len(made) * width == len(vector) * least
+
+
+def hold_read(program, pairs):
+    """Holds each vector that was read, where an output can hold it, to the one that its list gives with as many
+    entries. Gives these questions and their answers."""
+    found = [one for one in itertools.starmap(vector_read, pairs) if len(one[1]) <= model.LARGEST_ROOM]
+    questions = [
+        generate.ask("bcfwrite", len(vector) // width, len(vector), 0, *alleles)[0] for width, vector, alleles in found
+    ]
+    again = list(zip(questions, replies(program, questions), strict=True))
+    for (width, vector, _), pair in zip(found, again):
+        if not is_written_again(width, vector, *pair):
+            shown = f"  {pair[0]!r}\n  the program: {pair[1]}\n  read was:    {vector.hex()}, width {width}"
+            raise Failed(f"a vector that was read is not written again\n{shown}")
+    return again
+
+
+def hold_trips(program, lines, answers):
+    """Counts of vectors that were written and read back, and read and written again."""
+    done = [(line, answer) for line, answer in zip(lines, answers) if answer.startswith("0 ")]
+    writes, reads = ([one for one in done if one[0].startswith(verb)] for verb in (b"bcfwrite ", b"bcfread "))
+    again = hold_read(program, reads)
+    hold_written(program, writes + again)
+    return collections.Counter({("written", TRIP): len(writes), ("read", TRIP): len(again)})
+
+
 def hold(cases, oracle, program):
-    """Counts of (kind, who answered). Raises Failed at the first answer that differs."""
+    """Counts of (kind, who answered), and of round trips. Raises Failed at the first answer that differs."""
     lines = [line for line, _ in cases]
-    counts = collections.Counter()
-    all_answers = zip(the_rust(oracle, cases), map(model.answer, lines), replies(program, lines), strict=True)
+    counts, answers = collections.Counter(), replies(program, lines)
+    all_answers = zip(the_rust(oracle, cases), map(model.answer, lines), answers, strict=True)
     for case, (rust, ours, theirs) in zip(cases, all_answers):
         if theirs != expected(case, rust, ours):
             raise Failed(difference(case, rust, ours, theirs))
         counts[kind(case), "model" if rust is None else "listed" if listed(case[0], rust, ours) else "rust"] += 1
-    return counts
+    return counts + hold_trips(program, lines, answers)
 
 
 def distinct(cases):
@@ -197,9 +275,10 @@ def hold_all(oracle, program):
             if isinstance(found, str):
                 raise Failed(found)
             counts += found
-            if counts.total() // 1_000_000 > told:
-                told = counts.total() // 1_000_000
-                print(f"{counts.total():,} answers are equal", flush=True)
+            equal = sum(number for (_, who), number in counts.items() if who != TRIP)
+            if equal // 1_000_000 > told:
+                told = equal // 1_000_000
+                print(f"{equal:,} answers are equal", flush=True)
     return counts
 
 
@@ -248,7 +327,7 @@ def show(counts):
     row = "{:16}{:>12}{:>20}{:>18}".format
     print(row("verb", "answers", "compared with", "resting on"))
     print(row("", "", "the Rust", "the model alone"))
-    kinds = sorted({what for what, _ in counts}, key=lambda what: (what.startswith("("), what))
+    kinds = sorted({what for what, who in counts if who != TRIP}, key=lambda what: (what.startswith("("), what))
     totals = collections.Counter()
     for what in kinds:
         totals += collections.Counter({who: counts[what, who] for who in ("rust", "listed", "model")})
@@ -257,6 +336,8 @@ def show(counts):
     asked = totals["rust"] + totals["listed"]
     print(row("all", f"{totals.total():,}", f"{asked:,}", f"{totals['model']:,}"))
     print(f"listed differences, counted as compared: {totals['listed']:,}; others: 0")
+    print(f"in BCF {counts['written', TRIP]:,} vectors written read as their lists, in no smaller width;", end=" ")
+    print(f"{counts['read', TRIP]:,} vectors read are written again, in the smallest width")
 
 
 def main(arguments):

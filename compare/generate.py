@@ -2159,24 +2159,77 @@ def genotype_numbers(large, dice):
 
 # ---- bcfwrite and bcfread
 
-# Alleles about the largest that fits, and missing ones, of both phasings.
+# By the bytes of each entry: the largest allele, and the padding.
+LARGEST_ALLELES = {1: 62, 2: 16_382, 4: 1_073_741_822}
+PADDINGS = {1: b"\x81", 2: b"\x01\x80", 4: b"\x01\x00\x00\x80"}
+WIDTHS, WIDER = (1, 2, 4), (2, 4)
+PADDING = PADDINGS[1]
+TOO_LARGE = LARGEST_ALLELES[4] + 1
+# Alleles about the largest of 8 bits, and missing ones; then those about the largest of each width. Of both phasings.
 VECTOR_ALLELES = tuple(
     (value, missing, phased) for value, missing in ((0, 0), (1, 0), (62, 0), (63, 0), (0, 1)) for phased in (0, 1)
 )
-# Past the largest: about each limit, and those that would fit if they, one more or twice that were cut.
-PAST_LARGEST = (
-    *range(63, 70), *range(124, 132), *range(188, 194), *range(252, 260), 2**15 - 1, 2**16 - 1, 2**16, 2**31 - 1, 2**31,
-    2**32 - 2, 2**32 - 1, 2**32, 2**32 + 1, 2**62, *range(2**63 - 3, 2**63 + 4), LARGEST - 2, LARGEST - 1, LARGEST,
+LIMIT_NUMBERS = (62, 63, 16_382, 16_383, 1_073_741_822, 1_073_741_823)
+LIMIT_ALLELES = (
+    *((value, 0, phased) for value in (0, *LIMIT_NUMBERS) for phased in (0, 1)), (0, 1, 0), (0, 1, 1),
 )
-# Entries at the edges: missing, the lowest and the highest allele, the padding and the negative ones about it.
-EDGE_ENTRIES = b"\x00\x01\x02\x03\x7e\x7f\x80\x81\x82\xfe\xff"
-FEWER_ENTRIES = b"\x00\x03\x7e\x80\x81\x82\xff"
-PADDING = b"\x81"
+# Past the largest of 8 bits: about each limit, and those that would fit in fewer bits if they, one more or twice that
+# were cut.
+PAST_LARGEST = (
+    *range(63, 70), *range(124, 132), *range(188, 194), *range(252, 260), 2**9 - 1, 2**9, *range(2**14 - 5, 2**14 + 5),
+    *range(2**15 - 2, 2**15 + 3), *range(2**16 - 2, 2**16 + 3), 2**16 + 62, 2**16 + 63, 2**16 + 16_382, 2**17, 2**24,
+    *range(2**30 - 5, 2**30 + 5), *range(2**31 - 2, 2**31 + 3), *range(2**32 - 2, 2**32 + 3), 2**32 + 62, 2**32 + 63,
+    2**32 + 16_382, 2**32 + 16_383, 2**32 + 2**30 - 2, 2**62, *range(2**63 - 3, 2**63 + 4), 2**63 + 62, 2**63 + 16_382,
+    2**63 + 2**30 - 2, LARGEST - 2, LARGEST - 1, LARGEST,
+)
+# Widths that the reader may be told: the three, all others about them, and those that would be one if they were cut.
+TOLD_WIDTHS = (
+    *range(18), 24, 31, 32, 33, 64, 127, 128, 129, *range(255, 262), 512, *range(2**16, 2**16 + 5), 2**31,
+    *range(2**32 - 1, 2**32 + 6), *range(2**63 - 1, 2**63 + 5), LARGEST - 3, LARGEST - 1, LARGEST,
+)
+
+
+def bcf_entry(width, value):
+    """An entry of a vector, of a number without sign."""
+    return value.to_bytes(width, "little")
+
+
+def bcf_entries(width, values):
+    return b"".join(bcf_entry(width, value) for value in values)
+
+
+def edge_entries(width):
+    """Entries at the edges: missing, the lowest and the highest allele, the padding and the negative ones about it."""
+    low = 2 ** (8 * width - 1)
+    values = (0, 1, 2, 3, low - 2, low - 1, low, low + 1, low + 2, 2 * low - 2, 2 * low - 1)
+    return [bcf_entry(width, value) for value in values]
+
+
+def fewer_entries(width):
+    found = edge_entries(width)
+    return [found[index] for index in (0, 3, 4, 6, 7, 8, 10)]
+
+
+# Of 8 bits, so that an entry is a byte.
+EDGE_ENTRIES, FEWER_ENTRIES = b"".join(edge_entries(1)), b"".join(fewer_entries(1))
+
+
+def vectors_of(some, longest):
+    """All vectors of up to so many of some entries, with how many these are."""
+    for count in range(longest + 1):
+        for chosen in itertools.product(some, repeat=count):
+            yield count, b"".join(chosen)
 
 
 def to_vector(length, room, at, alleles):
     """A list to be written as a vector of so many entries."""
     return ask("bcfwrite", length, room, at, *allele_words(alleles))
+
+
+def entry_size(alleles):
+    """The bytes that an entry needs to hold every allele of a list, where one can."""
+    most = max((value for value, _, _ in alleles), default=0)
+    return next((width for width in WIDTHS if most <= LARGEST_ALLELES[width]), 4)
 
 
 def lists_to_vectors(large):
@@ -2185,36 +2238,55 @@ def lists_to_vectors(large):
     for count in range(5 if large else 4):
         for alleles in itertools.product(VECTOR_ALLELES, repeat=count):
             for length in range(6):
-                yield to_vector(length, length, 0, alleles)
+                need = length * entry_size(alleles)
+                yield to_vector(length, need, 0, alleles)
                 if count < (4 if large else 3):
-                    yield to_vector(length, length + 2, 1, alleles)
+                    yield to_vector(length, need + 2, 1, alleles)
+
+
+def limits_to_vectors(large):
+    """Every list of one or two alleles (at large: three) about the largest of each width, into rooms one byte short,
+    filled and longer; then of three (at large: four) of each number, so that the largest is first, last or between."""
+    for count in range(1, 4 if large else 3):
+        for alleles in itertools.product(LIMIT_ALLELES, repeat=count):
+            for length in (count, count + 1):
+                need = length * entry_size(alleles)
+                for room in (need - 1, need, need + 1):
+                    yield to_vector(length, room, 0, alleles)
+    for chosen in itertools.product((*LIMIT_NUMBERS, None), repeat=4 if large else 3):
+        alleles = [(0, 1, 1) if value is None else (value, 0, index % 2) for index, value in enumerate(chosen)]
+        need = len(alleles) * entry_size(alleles)
+        yield to_vector(len(alleles), need, 0, alleles)
+        yield to_vector(len(alleles) + 2, 2 * need, 1, alleles)
 
 
 def numbers_to_vectors(large):
     """Each number to past the largest, and far ones: alone, and in each place among others."""
     for value, phased in itertools.product((*range(63), *PAST_LARGEST), (0, 1)):
         allele, other = (value, 0, phased), (62, 0, 1 - phased)
-        yield to_vector(2, 4, 1, [allele])
+        size = entry_size([allele])
+        yield to_vector(2, 2 * size + 2, 1, [allele])
         for alleles in ([allele, other], [other, allele], [other, allele, (0, 1, phased)]) if large or phased else ():
-            yield to_vector(4, 4, 0, alleles)
+            yield to_vector(4, 4 * size, 0, alleles)
 
 
 def marks_to_vectors():
     """Marks that are neither 0 nor 1."""
     for missing, phased in itertools.product((0, 1, 2, 3, 127, 128, 254, 255), repeat=2):
-        for value in (0, 5, 63):
-            yield to_vector(3, 3, 0, [(value, missing, phased), (0, phased, missing)])
+        for value in (0, 5, 63, 16_383, TOO_LARGE):
+            alleles = [(value, missing, phased), (0, phased, missing)]
+            yield to_vector(3, 3 * entry_size(alleles), 0, alleles)
 
 
 def mixed_vector_faults(large):
     """Lists of every mixture of faults, into vectors too short, filled and longer, into enough room, too little and
     none, and beyond the output: the order of the refusals."""
-    choices = ((0, 0), (0, 1), (1, 1), (63, 0), (63, 2))
+    choices = ((0, 0), (0, 1), (1, 1), (16_383, 0), (TOO_LARGE, 0), (TOO_LARGE, 2))
     for count in range(5 if large else 4):
         for chosen in itertools.product(choices, repeat=count):
             alleles = [(value, missing, (index + count) % 2) for index, (value, missing) in enumerate(chosen)]
             for length in sorted({max(0, count - 1), count, count + 1, *((0, LARGEST) if large or count < 3 else ())}):
-                whole = min(length, 6)
+                whole = min(length, 6) * entry_size(alleles)
                 for room, at in ((whole + 1, 1), (whole, 1), (whole, whole), (whole, whole + 1), (0, LARGEST)):
                     yield to_vector(length, room, at, alleles)
 
@@ -2230,14 +2302,34 @@ def vector_rooms(large):
         yield to_vector(2, room, at, [(0, 0, 1)])
 
 
+def wide_vector_rooms(large):
+    """The same of 16 and of 32 bits: rooms about the bytes needed and about the entries, an entry less and one more."""
+    for width, count, length in itertools.product(WIDER, (1, 2, 3), range(5)):
+        alleles = [*VECTOR_ALLELES[: count - 1], (LARGEST_ALLELES[width], 0, 1)]
+        need = length * width
+        rooms = {0, length, need - width, need - 1, need, need + 1, need + width}
+        for room in range(need + width + 2) if large else sorted(room for room in rooms if room >= 0):
+            some = {0, 1, room - need - 1, room - need, room - need + 1, room, room + 1}
+            for at in sorted(at for at in some if at >= 0):
+                yield to_vector(length, room, at, alleles)
+    for width, at, room in itertools.product(WIDER, FAR, (0, 9)):
+        yield to_vector(2, room, at, [(LARGEST_ALLELES[width], 0, 1)])
+
+
 def far_lengths(large):
-    """Lengths about each limit, and those that would fit if they were cut, from the start of an output and from places
-    with which they pass the largest number; of lists that may be written, that may not be, and of none."""
-    lengths = {2**bits + step for bits in (8, 16, 31, 32, 33, 62, 63) for step in (-1, 0, 1, 2)}
-    lengths |= {LARGEST - step for step in range(6)} | {4_094, 4_095, 4_096, 4_097, 4_098}
-    lists = ([(0, 0, 0)], [(62, 0, 1), (0, 1, 0)], [(63, 0, 0)], [(0, 0, 0), (7, 1, 0)], [])
+    """Lengths about each limit, and those that would fit if they, or their bytes, were cut, from the start of an output
+    and from places with which they pass the largest number; of lists that may be written, that may not be, and of
+    none."""
+    lengths = {2**bits + step for bits in (8, 16, 31, 32, 33, 61, 62, 63) for step in (-1, 0, 1, 2)}
+    lengths |= {3 * 2**62 + step for step in (-1, 0, 1)} | {LARGEST - step for step in range(6)}
+    lengths |= {4_094, 4_095, 4_096, 4_097, 4_098}
+    lists = (
+        [(0, 0, 0)], [(62, 0, 1), (0, 1, 0)], [(63, 0, 0)], [(16_383, 0, 1), (0, 0, 0)], [(TOO_LARGE, 0, 0)],
+        [(0, 0, 0), (7, 1, 0)], [],
+    )
+    rooms = ((0, 0), (2, 0), (2, 2), (2, 3), (5, 1), (5, 3), (5, LARGEST), (8, 0), *(((300, 3),) if large else ()))
     for length, alleles in itertools.product(sorted(lengths), lists):
-        for room, at in ((0, 0), (2, 0), (2, 2), (2, 3), (5, 1), (5, 3), (5, LARGEST), *(((300, 3),) if large else ())):
+        for room, at in rooms:
             yield to_vector(length, room, at, alleles)
     for length, at in (
         (4_095, 0), (4_095, 1), (4_095, 2), (4_096, 0), (4_096, 1), (4_097, 0), (2**16 + 2, 0), (2**32 + 2, 0),
@@ -2248,33 +2340,78 @@ def far_lengths(large):
     yield to_vector(4_096, 4_095, 0, [(1, 0, 1)])
 
 
+def far_wide_lengths():
+    """Of 16 and of 32 bits: lengths about those that fill the longest output, and those of which the bytes would fill
+    it, or be few, if they were cut to 64 or to 32 bits."""
+    for width in WIDER:
+        alleles, full = [(LARGEST_ALLELES[width], 0, 1)], 4_096 // width
+        for past, step in itertools.product((0, 2**32 // width, 2**64 // width), (-1, 0, 1)):
+            for at in (0, 1, width, 4_096 - width, 4_096):
+                yield to_vector(past + full + step, 4_096, at, alleles)
+        for past, few in itertools.product((2**32 // width, 2**64 // width, (width - 1) * 2**64 // width), range(4)):
+            for room, at in itertools.product((0, 1, width, few * width, few * width + 1), (0, 1)):
+                yield to_vector(past + few, room, at, alleles)
+
+
 def many_to_vectors(large):
-    """As many alleles as a case may have, with a fault and without, into vectors about as long and longer ones."""
+    """As many alleles as a case may have, with a fault, with wider ones and without, into vectors about as long and
+    longer ones."""
     for count in (15, 16, 32, 62, 63, 64) if large else (16, 63, 64):
         good = [(index, 0, index % 2) if index < 63 else (0, 1, 1) for index in range(count)]
-        last, above = count - 1, (63, 0, 0)
+        last, above = count - 1, (TOO_LARGE, 0, 0)
         faults = ({}, {0: above}, {last: above}, {last: (1, 1, 0)}, {0: above, last: (9, 1, 0)})
-        for length, changes in itertools.product((0, count - 1, count, count + 1, 100, 300), faults):
+        wide = ({0: (63, 0, 1)}, {7: (16_382, 0, 0)}, {last: (16_383, 0, 1)}, {8: (16_383, 0, 0), last: (63, 0, 1)})
+        for length, changes in itertools.product((0, count - 1, count, count + 1, 100, 300), (*faults, *wide)):
             alleles = replaced(good, changes)
-            yield to_vector(length, length + 3, 2, alleles)
-            yield to_vector(length, length, 1, alleles)
-    yield to_vector(4_096, 4_096, 0, [(62, 0, 1)] * 64)
+            need = length * entry_size(alleles)
+            yield to_vector(length, need + 3, 2, alleles)
+            yield to_vector(length, need, 1, alleles)
+    for width in WIDTHS:
+        for length in (4_096 // width, 4_096 // width + 1):
+            yield to_vector(length, 4_096, 0, [(LARGEST_ALLELES[width], 0, 1)] * 64)
 
 
 def short_vectors(large):
     """Every byte, every two bytes, and all vectors of up to three entries (at large: four) at the edges, longer ones of
     fewer kinds; into rows from none to more than needed."""
     for byte, row in itertools.product(range(256), range(3)):
-        yield ask("bcfread", row, bytes([byte]))
+        yield ask("bcfread", 1, row, bytes([byte]))
     for vector in sequences_of_two():
         for row in (1, 2) if large else (2,):
-            yield ask("bcfread", row, vector)
+            yield ask("bcfread", 1, row, vector)
     for vector in short_texts(EDGE_ENTRIES, 4 if large else 3):
         for row in range(len(vector) + 2):
-            yield ask("bcfread", row, vector)
+            yield ask("bcfread", 1, row, vector)
     for vector in itertools.product(FEWER_ENTRIES, repeat=4):
         for row in range(6) if large else (3, 4):
-            yield ask("bcfread", row, bytes(vector))
+            yield ask("bcfread", 1, row, bytes(vector))
+
+
+def short_wide_vectors(large):
+    """All vectors of up to two entries (at large: three) of 16 and of 32 bits at the edges, and of three (at large:
+    four) of fewer kinds, into rows from none to more than needed; and each of their bytes reversed, one entry long."""
+    for width in WIDER:
+        for count, vector in vectors_of(edge_entries(width), 3 if large else 2):
+            for row in range(count + 2):
+                yield ask("bcfread", width, row, vector)
+        for count, vector in vectors_of(fewer_entries(width), 4 if large else 3):
+            for row in range(count + 2) if large else (2, 3):
+                yield ask("bcfread", width, row, vector)
+        for one in edge_entries(width):
+            for vector in (one[::-1], bcf_entry(width, 2) + one[::-1], one[::-1] + PADDINGS[width]):
+                yield ask("bcfread", width, 2, vector)
+
+
+def near_entries(width):
+    """Entries with one bit alone, all but one, or one bit other than the padding; with bytes of the paddings of other
+    widths, and the padding with the highest byte first."""
+    bits, ones, padding = 8 * width, 256**width - 1, int.from_bytes(PADDINGS[width], "little")
+    found = {value ^ 1 << bit for value in (0, ones, padding) for bit in range(bits)}
+    some = {bcf_entry(width, value) for value in found} | {PADDINGS[width][::-1]}
+    for pattern in (b"\x80", b"\x81", b"\x00\x80", b"\x01\x80", b"\x02\x80", b"\x80\x01"):
+        one = pattern[:width]
+        some |= {(pattern * width)[:width], one.ljust(width, b"\x00"), one.rjust(width, b"\x00")}
+    return sorted(some)
 
 
 def entries_in_each_place(large):
@@ -2282,76 +2419,153 @@ def entries_in_each_place(large):
     for front, length in ((b"\x02\x03\x04\x05", 4), (b"\x02\x05", 4), (b"\x02", 4), (b"", 4), (b"\x00" * 9, 9)):
         vector = front.ljust(length, PADDING)
         for at, byte in itertools.product(range(length), range(0 if large else 0x7C, 256)):
-            yield ask("bcfread", length, vector[:at] + bytes([byte]) + vector[at + 1 :])
+            yield ask("bcfread", 1, length, vector[:at] + bytes([byte]) + vector[at + 1 :])
 
 
-def vector_rows(large):
+def wide_entries_in_each_place(large):
+    """The same of entries of 16 and of 32 bits, with those that are almost others."""
+    for width in WIDER:
+        some, padding = (*edge_entries(width), *near_entries(width)), PADDINGS[width]
+        for count in range(4):
+            for at, one in itertools.product(range(3), some):
+                vector = [bcf_entry(width, 2 + index) for index in range(count)] + [padding] * (3 - count)
+                yield ask("bcfread", width, 3, b"".join(replaced(vector, {at: one})))
+                if large:
+                    yield ask("bcfread", width, count, one + b"".join(replaced(vector, {at: one})))
+
+
+def numbers_in_vectors(large):
+    """Each number of 8 bits, and numbers about each limit, in each width that holds them, so also in wider ones than
+    they need: first, and last before padding."""
+    for value, width in itertools.product((*range(63), *PAST_LARGEST), WIDTHS):
+        for phased in (0, 1) if value <= LARGEST_ALLELES[width] else ():
+            one, other = bcf_entry(width, 2 * value + 2 + phased), bcf_entry(width, 4 - phased)
+            yield ask("bcfread", width, 2 if large else 1, one)
+            yield ask("bcfread", width, 2, other + one + PADDINGS[width])
+            if large:
+                yield ask("bcfread", width, 3, one + other)
+
+
+def told_widths(large):
+    """Every width told, with bytes that are a vector of one width, of several, of none, or leave a part over in some;
+    into rows too short and long enough: 27 goes before 26, and that before 17."""
+    vectors = (
+        "", "02", "80", "81", "0203", "0281", "8102", "0180", "0080", "020304", "02000180", "02000400", "01000080",
+        "02000080", "020003000400", "0200000001000080", "0200000000000080", "0200000000000000", "ff" * 8,
+    )
+    for width, vector in itertools.product(TOLD_WIDTHS, map(bytes.fromhex, vectors)):
+        for row in (0, 1, 2, 8, 64) if large else (0, 8):
+            yield ask("bcfread", width, row, vector)
+
+
+def parts_of_entries(large):
+    """Vectors of 16 and of 32 bits with bytes dropped at either end or put behind them, up to a whole entry, into rows
+    too short and long enough; and all short texts of the bytes that count."""
+    for width, count in itertools.product(WIDER, range(4)):
+        for front in range(count + 1):
+            vector = bcf_entries(width, range(3, 3 + front)) + PADDINGS[width] * (count - front)
+            for length, row in itertools.product(range(1, width + 1), (0, 4)):
+                yield ask("bcfread", width, row, vector[:-length])
+                yield ask("bcfread", width, row, vector[length:])
+                for rest in (b"\x00", b"\x81", b"\xff", PADDINGS[width]):
+                    yield ask("bcfread", width, row, vector + (rest * width)[:length])
+    for width, text in itertools.product(WIDER, short_texts(b"\x00\x01\x02\x80", 6 if large else 4)):
+        for row in (0, 1, 2) if large else (1,):
+            yield ask("bcfread", width, row, text)
+
+
+def vector_rows(large, width):
     """Vectors of up to 66 alleles, with padding and without, into rows about as long as the list and as the vector;
     with a bad entry first, last and behind the padding, which goes before a row too short."""
-    alleles = bytes(2 + 5 * index % 126 for index in range(66))
-    for count in range(1, 67) if large else (1, 2, 3, 4, 8, 15, 16, 17, 63, 64, 65, 66):
-        front = alleles[:count]
+    low, step = 2 ** (8 * width - 1), {1: 5, 2: 4_999, 4: 700_000_001}[width]
+    alleles = [2 + step * index % (low - 2) for index in range(66)]
+    counts = (1, 2, 3, 4, 8, 15, 16, 17, 63, 64, 65, 66) if width == 1 else (1, 2, 3, 16, 63, 64, 65)
+    for count in range(1, 67) if large else counts:
+        front = bcf_entries(width, alleles[:count])
         for pads in (0, 1, 2, 64 - count, 65 - count) if count < 63 else (0, 1, 2):
-            vector = front + PADDING * pads
+            vector = front + PADDINGS[width] * pads
             rows = {0, 1, count - 1, count, count + 1, count + pads, 64}
             for row in sorted(row for row in rows if row <= 64):
-                yield ask("bcfread", row, vector)
+                yield ask("bcfread", width, row, vector)
             for row in sorted({0, min(count - 1, 64), min(count, 64)}):
-                for bad in (b"\x80", b"\x82", b"\xff"):
-                    yield ask("bcfread", row, bad + vector)
-                    yield ask("bcfread", row, vector + bad)
-                yield ask("bcfread", row, PADDING + vector)
-                yield ask("bcfread", row, vector + PADDING + b"\x02")
+                for bad in (bcf_entry(width, low), bcf_entry(width, low + 2), bcf_entry(width, 2 * low - 1)):
+                    yield ask("bcfread", width, row, bad + vector)
+                    yield ask("bcfread", width, row, vector + bad)
+                yield ask("bcfread", width, row, PADDINGS[width] + vector)
+                yield ask("bcfread", width, row, vector + PADDINGS[width] + bcf_entry(width, 2))
     for row in (0, 1, 2, 63, 64):
-        yield ask("bcfread", row, b"")
+        yield ask("bcfread", width, row, b"")
 
 
-def long_vectors(large):
+def long_vectors(large, width):
     """Vectors of more entries than a row has: of 1, 64 and 65 alleles and padding, of padding alone, of alleles alone;
     with another entry first, in the middle, before the last and last."""
-    fronts = (b"\x05", b"\x00\x7f" * 32, b"\x04" * 65, b"")
-    for length in (100, 255, 256, 257, 1_000, 4_095, 4_096, 4_097, 10_000) if large else (100, 257, 1_000):
-        for vector in (*(front.ljust(length, PADDING) for front in fronts), b"\x02" * length):
-            yield ask("bcfread", 64, vector)
+    low, padding = 2 ** (8 * width - 1), PADDINGS[width]
+    fronts = [[5], [0, low - 1] * 32, [4] * 65, []]
+    some = [bcf_entry(width, value) for value in (2, low, low + 1, 2 * low - 1)]
+    stored_lengths = (100, 257, 1_000) if width == 1 else (100, 257)
+    for length in (100, 255, 256, 257, 1_000, 4_095, 4_096, 4_097, 8_000) if large else stored_lengths:
+        padded = (bcf_entries(width, front) + padding * (length - len(front)) for front in fronts)
+        for vector in (*padded, bcf_entries(width, [2] * length)):
+            yield ask("bcfread", width, 64, vector)
             for at in (0, 1, 64, length // 2, length - 2, length - 1):
-                for byte in b"\x02\x80\x81\xff" if large or length == 100 else b"\x80":
-                    yield ask("bcfread", 64, vector[:at] + bytes([byte]) + vector[at + 1 :])
+                for one in some if large or length == 100 else some[1:2]:
+                    yield ask("bcfread", width, 64, vector[: at * width] + one + vector[(at + 1) * width :])
 
 
-def random_vector_allele(dice):
-    """Nearly always one that fits."""
+def random_vector_allele(dice, width=1):
+    """Nearly always one that fits in a width; half of them in 8 bits."""
     if dice.roll(5) == 0:
         return dice.pick((0, 0, 0, 0, 0, 1)), dice.pick((1, 1, 2, 255)), dice.roll(2)
-    return dice.pick((dice.roll(63), dice.roll(63), 62, dice.roll(66))), 0, dice.pick((0, 1, 1, 2))
+    largest = LARGEST_ALLELES[width]
+    value = dice.pick((dice.roll(63), dice.roll(63), largest, dice.roll(largest + 1), largest - 62 + dice.roll(66)))
+    return value, 0, dice.pick((0, 1, 1, 2))
+
+
+def random_bcf_entries(dice, width, count):
+    """Alleles of any number that fits, and of low ones."""
+    most = 2 ** (8 * width - 1)
+    return bcf_entries(width, [dice.roll(dice.pick((most, most, 0x80))) for _ in range(count)])
 
 
 def random_vectors(large, dice):
     """Lists into vectors, and vectors into rows, about as long as needed; vectors with a byte changed; any bytes."""
-    for _ in range(12_000 if large else 250):
-        alleles = [random_vector_allele(dice) for _ in range(1 + dice.roll(dice.pick((4, 4, 12))))]
+    for _, width in itertools.product(range(8_000 if large else 200), WIDTHS):
+        alleles = [random_vector_allele(dice, width) for _ in range(1 + dice.roll(dice.pick((4, 4, 12))))]
         length, at = max(0, len(alleles) + dice.roll(8) - 2), dice.roll(4)
-        yield to_vector(length, at + max(0, length + dice.roll(5) - 1), at, alleles)
-        vector = bytes(dice.roll(0x80) for _ in alleles) + PADDING * dice.roll(4)
+        yield to_vector(length, at + max(0, length * entry_size(alleles) + dice.roll(5) - 1), at, alleles)
+        vector = random_bcf_entries(dice, width, len(alleles)) + PADDINGS[width] * dice.roll(4)
         row = max(0, len(alleles) + dice.roll(4) - 1)
-        yield ask("bcfread", row, vector)
-        yield ask("bcfread", row, damaged(dice, vector))
-        yield ask("bcfread", row, damaged(dice, vector, EDGE_ENTRIES))
-        yield ask("bcfread", dice.roll(6), bytes(dice.roll(256) for _ in range(dice.roll(6))))
-        yield ask("bcfread", dice.roll(6), bytes(dice.pick(FEWER_ENTRIES) for _ in range(dice.roll(9))))
+        yield ask("bcfread", width, row, vector)
+        yield ask("bcfread", width, row, damaged(dice, vector))
+        yield ask("bcfread", width, row, damaged(dice, vector, EDGE_ENTRIES))
+        yield ask("bcfread", width, dice.roll(6), bytes(dice.roll(256) for _ in range(width * dice.roll(6))))
+        few = fewer_entries(width)
+        yield ask("bcfread", width, dice.roll(6), b"".join(dice.pick(few) for _ in range(dice.roll(9))))
+        yield ask("bcfread", dice.pick(TOLD_WIDTHS), row, vector)
 
 
 def bcf_vectors(large, dice):
     yield from lists_to_vectors(large)
+    yield from limits_to_vectors(large)
     yield from numbers_to_vectors(large)
     yield from marks_to_vectors()
     yield from mixed_vector_faults(large)
     yield from vector_rooms(large)
+    yield from wide_vector_rooms(large)
     yield from far_lengths(large)
+    yield from far_wide_lengths()
     yield from many_to_vectors(large)
     yield from short_vectors(large)
+    yield from short_wide_vectors(large)
     yield from entries_in_each_place(large)
-    yield from vector_rows(large)
-    yield from long_vectors(large)
+    yield from wide_entries_in_each_place(large)
+    yield from numbers_in_vectors(large)
+    yield from told_widths(large)
+    yield from parts_of_entries(large)
+    for width in WIDTHS:
+        yield from vector_rows(large, width)
+        yield from long_vectors(large, width)
     yield from random_vectors(large, dice)
 
 
@@ -2733,7 +2947,7 @@ NO_NUMBER_CASES = (
 
 
 # The two verbs on BCF, each with good arguments.
-GOOD_BCF_CASES = (b"bcfwrite 2 2 0 0:0:1", b"bcfread 2 02")
+GOOD_BCF_CASES = (b"bcfwrite 2 2 0 0:0:1", b"bcfread 1 2 02")
 
 
 def with_bad_bcf_numbers():
@@ -2742,7 +2956,7 @@ def with_bad_bcf_numbers():
         b"\xff", b"\xb2", b"2\x00", b"2\r", b"2\t", b"18446744073709551616", b"18446744073709551618",
         b"36893488147419103234", b"99999999999999999999", b"340282366920938463463374607431768211458",
     )
-    for line, numbers in zip(GOOD_BCF_CASES, (3, 1)):
+    for line, numbers in zip(GOOD_BCF_CASES, (3, 2)):
         yield from without_form(line, numbers, bad, (b" 02", b" -", b" ", b"  ", b" 2 2", b" x", b"\r", b"\x00"))
 
 
@@ -2752,21 +2966,37 @@ NO_BCF_CASES = (
     b"bcfwrit 2 2 0 0:0:1", b"bcfwrites 2 2 0 0:0:1", b"bcfwritf 2 2 0 0:0:1", b"Bcfwrite 2 2 0 0:0:1",
     b"BCFWRITE 2 2 0 0:0:1", b"bcfWrite 2 2 0 0:0:1", b"bcf_write 2 2 0 0:0:1", b"bcf write 2 2 0 0:0:1",
     b"cfwrite 2 2 0 0:0:1", b"xbcfwrite 2 2 0 0:0:1", b"bcfwriteunequal 1 1 1 9", b"bcfwritealleles 2 2 0 0:0:1",
-    b"bcfrea 2 02", b"bcfreads 2 02", b"bcfreae 2 02", b"Bcfread 2 02", b"BCFREAD 2 02", b"bcfRead 2 02",
-    b"bcf_read 2 02", b"bcf read 2 02", b"cfread 2 02", b"xbcfread 2 02", b"bcfreadalt 2 02 41", b"bcf 2 02",
-    b"bcf 2 2 0 0:0:1", b"vcfread 2 02", b"bcgread 2 02", b"write 2 2 0 0:0:1", b"bcfunequal 1 1 1 02",
-    # a verb with the arguments of another
-    b"bcfwrite 2 02", b"bcfwrite 4 4 2 0 0:0:1", b"bcfwrite 4.4 2 0 0:0:1", b"bcfread 2 2 0 0:0:1", b"bcfread 2 0:0:1",
-    b"bcfread 02 2", b"bcfread 2", b"bcfread 02", b"bcfread -", b"bcfread - -", b"bcfread 2 02 41",
+    b"bcfrea 1 2 02", b"bcfreads 1 2 02", b"bcfreae 1 2 02", b"Bcfread 1 2 02", b"BCFREAD 1 2 02", b"bcfRead 1 2 02",
+    b"bcf_read 1 2 02", b"bcf read 1 2 02", b"cfread 1 2 02", b"xbcfread 1 2 02", b"bcfreadalt 1 2 02 41",
+    b"bcf 1 2 02", b"bcf 2 2 0 0:0:1", b"vcfread 1 2 02", b"bcgread 1 2 02", b"write 2 2 0 0:0:1",
+    b"bcfunequal 1 1 1 02", b"bcfread1 2 02", b"bcfread8 2 02", b"bcfread16 2 0200", b"bcfwrite1 2 2 0 0:0:1",
+    # a verb with the arguments of another, without the width, or with one where none is told
+    b"bcfwrite 2 02", b"bcfwrite 4 4 2 0 0:0:1", b"bcfwrite 4.4 2 0 0:0:1", b"bcfwrite 1 2 2 0 0:0:1",
+    b"bcfwrite 1 2 2 0 -", b"bcfwrite 1 2 02", b"bcfread 2 2 0 0:0:1", b"bcfread 1 2 0:0:1", b"bcfread 2 0:0:1",
+    b"bcfread 02 2", b"bcfread 1 02 2", b"bcfread 02 1 2", b"bcfread 1 2", b"bcfread 2 02", b"bcfread 1 02",
+    b"bcfread 64 02", b"bcfread 2 -", b"bcfread 2", b"bcfread 02", b"bcfread -", b"bcfread - -", b"bcfread - - -",
+    b"bcfread 1 2 02 41", b"bcfread 1 1 2 02", b"bcfread 1 2 02 1",
+    # a width that is no number
+    *(
+        b"bcfread %s 2 0200" % width
+        for width in (
+            b"w8", b"w16", b"8bit", b"1b", b"one", b"int8", b"i16", b"u8", b"1/2", b"1:2", b"1,2", b"1.", b"1.5", b".",
+            b"001", b"04", b"+1", b"-1", b"-4", b"0x1", b"0x4", b"1_0", b"1e0", b"\xc2\xb2", b"02000000",
+        )
+    ),
     # hex that is odd, upper case or none
-    b"bcfread 2 0", b"bcfread 2 020", b"bcfread 2 7F", b"bcfread 2 7G", b"bcfread 2 7g", b"bcfread 2 0x02",
-    b"bcfread 2 --", b"bcfread 2 02-", b"bcfread 2 -02", b"bcfread 2 02,04", b"bcfread 2 0|1", b"bcfread 2 .",
-    b"bcfread 2 \x81\x81", b"bcfread 2 \xff",
+    b"bcfread 1 2 0", b"bcfread 1 2 020", b"bcfread 1 2 7F", b"bcfread 1 2 7G", b"bcfread 1 2 7g", b"bcfread 1 2 0x02",
+    b"bcfread 1 2 --", b"bcfread 1 2 02-", b"bcfread 1 2 -02", b"bcfread 1 2 02,04", b"bcfread 1 2 0|1",
+    b"bcfread 1 2 .", b"bcfread 1 2 \x81\x81", b"bcfread 1 2 \xff", b"bcfread 2 2 020", b"bcfread 2 2 02000",
+    b"bcfread 4 2 0200000", b"bcfread 2 2 0200,0400", b"bcfread 2 2 0200 0400", b"bcfread 3 2 0", b"bcfread 3 2 7F",
+    b"bcfread 9 2 x", b"bcfread 0 2 0",
     # a row or an output that is longer than may be
-    b"bcfread 65 02", b"bcfread 66 02", b"bcfread 128 02", b"bcfread 256 02", b"bcfread 4096 02", b"bcfread 65 -",
-    b"bcfread 4294967298 02", b"bcfread 18446744073709551615 02", b"bcfwrite 2 4097 0 0:0:1",
+    b"bcfread 1 65 02", b"bcfread 1 66 02", b"bcfread 1 128 02", b"bcfread 1 256 02", b"bcfread 1 4096 02",
+    b"bcfread 1 65 -", b"bcfread 2 65 0200", b"bcfread 4 65 02000000", b"bcfread 3 65 02", b"bcfread 0 65 -",
+    b"bcfread 64 65 02", b"bcfread 1 4294967298 02", b"bcfread 1 18446744073709551615 02", b"bcfwrite 2 4097 0 0:0:1",
     b"bcfwrite 2 5000 0 0:0:1", b"bcfwrite 2 65538 0 0:0:1", b"bcfwrite 2 4294967298 0 0:0:1",
     b"bcfwrite 2 18446744073709551615 0 0:0:1", b"bcfwrite 2 4097 4098 0:0:1", b"bcfwrite 0 4097 0 -",
+    b"bcfwrite 2 4097 0 63:0:1",
     # alleles
     *(
         b"bcfwrite 2 2 0 " + alleles
@@ -2988,24 +3218,39 @@ def long_number_lines(large):
 
 def long_bcf_lines(large):
     """Vectors as long as a case may have, and the longest list: what decides stands at the end."""
-    padded = (b"\x02" * 64).ljust(32_762, PADDING)
-    yield ask("bcfread", 64, padded)
-    yield ask("bcfread", 64, padded[:-1] + b"\x80")
-    yield none(ask("bcfread", 64, padded + PADDING)[0])
+    padded = (b"\x02" * 64).ljust(32_761, PADDING)
+    yield ask("bcfread", 1, 64, padded)
+    yield ask("bcfread", 1, 64, padded[:-1] + b"\x80")
+    yield none(ask("bcfread", 1, 64, padded + PADDING)[0])
+    for width in WIDER:
+        yield ask("bcfread", width, 64, bcf_entries(width, [2] * 64) + PADDINGS[width] * (32_760 // width - 64))
     yield to_vector(LARGEST, 4_096, 4_096, [(62, 255, 255)] * 63 + [(LARGEST, 255, 255)])
     yield to_vector(LARGEST, 4_096, 4_096, [(LARGEST, 0, 255)] * 64)
     if large:
-        yield ask("bcfread", 9, b"\x02" + padded)
-        yield ask("bcfread", 64, padded[:-1] + b"\x02")
-        yield ask("bcfread", 64, PADDING * 32_762)
-        yield ask("bcfread", 64, PADDING * 32_761 + b"\x02")
-        yield ask("bcfread", 64, b"\x7f" * 32_762)
-        yield ask("bcfread", 64, b"\x7f" * 32_761 + b"\xff")
-        yield ask("bcfread", 0, b"\x00" * 32_763)
-        yield none(ask("bcfread", 0, b"\x00" * 32_764)[0])
-        yield none(b"bcfread 2 " + b"0" * (LONGEST_LINE - 9))
-        yield none(b"bcfread %s 02" % b"2".rjust(LONGEST_LINE - 11, b"0"))
-        yield none(b"bcfread 2 02" + b" " * LONGEST_LINE)
+        yield ask("bcfread", 1, 9, b"\x02" + padded)
+        yield ask("bcfread", 1, 64, padded[:-1] + b"\x02")
+        yield ask("bcfread", 1, 64, PADDING * 32_761)
+        yield ask("bcfread", 1, 64, PADDING * 32_760 + b"\x02")
+        yield ask("bcfread", 1, 64, b"\x7f" * 32_761)
+        yield ask("bcfread", 1, 64, b"\x7f" * 32_760 + b"\xff")
+        yield ask("bcfread", 1, 0, b"\x00" * 32_762)
+        yield none(ask("bcfread", 1, 0, b"\x00" * 32_763)[0])
+        yield ask("bcfread", LARGEST, 0, padded[:32_751])
+        for width in WIDER:
+            most = 32_760 // width
+            wide = bcf_entries(width, [2] * 64) + PADDINGS[width] * (most - 64)
+            yield ask("bcfread", width, 64, wide + PADDINGS[width][:1])
+            yield ask("bcfread", width, 64, wide[:-1] + b"\x00")
+            yield ask("bcfread", width, 64, PADDINGS[width] * most)
+            yield ask("bcfread", width, 64, PADDINGS[width] * (most - 1) + bcf_entry(width, 2))
+            yield ask("bcfread", width, 64, b"\x7f" * most * width)
+            yield ask("bcfread", width, 64, b"\x7f" * (most * width - 1) + b"\xff")
+            yield ask("bcfread", width, 0, b"\x00" * 32_762)
+            yield none(ask("bcfread", width, 0, b"\x00" * 32_763)[0])
+        yield none(b"bcfread 1 2 " + b"0" * (LONGEST_LINE - 11))
+        yield none(b"bcfread 1 %s 02" % b"2".rjust(LONGEST_LINE - 13, b"0"))
+        yield none(b"bcfread %s 2 02" % b"1".rjust(LONGEST_LINE - 13, b"0"))
+        yield none(b"bcfread 1 2 02" + b" " * LONGEST_LINE)
         yield none(b"bcfwrite %s 2 0 0:0:1" % b"2".rjust(LONGEST_LINE - 19, b"0"))
         yield none(b"bcfwrite 2 2 0 " + b"0".rjust(LONGEST_LINE - 19, b"0") + b":0:1")
         yield none(b"bcfwrite 2 2 0" + b" 0:0:1" * 10_900)

@@ -25,7 +25,7 @@ LONGEST_SLICE = 9_223_372_036_854_775_807
 DONE, AT_END, EMPTY, LINE_ENDS, CUT, NOT_UTF8, BEYOND, KEY_ENDS, NO_KEY, VALUE_ENDS, NONE_SUCH = range(11)
 NO_ALLELES, BAD_NUMBER, NOT_IMPLIED, BAD_FILTER, BAD_ALT = 11, 12, 13, 14, 15
 BAD_ENDS, TOO_SHORT, BAD_COLUMN, BAD_COUNT, ABOVE_ALT, BAD_POS = 16, 17, 18, 19, 20, 21
-OUT_OF_RANGE, TOO_LARGE, TOO_MANY, NO_VECTOR, NOT_MADE = 23, 24, 25, 26, 32
+OUT_OF_RANGE, TOO_LARGE, TOO_MANY, NO_VECTOR, NO_WIDTH, NOT_MADE = 23, 24, 25, 26, 27, 32
 UNEQUAL = BAD_ENDS
 
 FIELDS = (b"chrom", b"pos", b"id", b"ref", b"alt", b"qual", b"filter", b"info", b"format", b"samples")
@@ -459,8 +459,14 @@ def spelt_genotype(alleles, file_format):
     return b"".join(itertools.chain(*zip(marks, bodies)))
 
 
-# By the bytes of each entry of a BCF vector: the entry that pads it, and the largest allele.
-WIDTHS = {1: (b"\x81", 62)}
+# By the bytes of each entry of a BCF vector, from the fewest on: the entry that pads it, and the largest allele.
+WIDTHS = {1: (b"\x81", 62), 2: (b"\x01\x80", 16_382), 4: (b"\x01\x00\x00\x80", 1_073_741_822)}
+
+
+def bcf_width(alleles):
+    """The smallest width that holds every allele; None where none does."""
+    fitting = (width for width, (_, largest) in WIDTHS.items() if all(value <= largest for value, _, _ in alleles))
+    return next(fitting, None)
 
 
 def bcf_entry(one, width):
@@ -469,29 +475,33 @@ def bcf_entry(one, width):
     return (2 * above + (phased != 0)).to_bytes(width, "little")
 
 
-def bcf_vector(alleles, length, width=1):
+def bcf_vector(alleles, length):
     """A list as a BCF vector of so many entries; or the numbers of a refusal.
 
-    One that is longer than any output is made one entry longer than these: it fits nowhere either way.
+    One that is longer than any output is made one entry longer than these have bytes: it fits nowhere either way.
     """
-    padding, largest = WIDTHS[width]
-    fault = list_fault(alleles)
+    fault, width = list_fault(alleles), bcf_width(alleles)
     if fault:
         return fault
-    if any(value > largest for value, _, _ in alleles):
+    if width is None:
         return (TOO_LARGE,)
     if len(alleles) > length:
         return (TOO_MANY,)
+    padding, _ = WIDTHS[width]
     entries = [bcf_entry(one, width) for one in alleles]
     entries += [padding] * (min(length, LARGEST_ROOM + 1) - len(entries))
     return b"".join(entries)
 
 
-def bcf_list(vector, width=1):
+def bcf_list(vector, width):
     """The list that a BCF vector means; or the numbers of a refusal.
 
     It is what stands before the padding at the end: one entry or more, none of them negative.
     """
+    if width not in WIDTHS:
+        return (NO_WIDTH,)
+    if len(vector) % width:
+        return (NO_VECTOR,)
     padding, _ = WIDTHS[width]
     entries = [vector[at : at + width] for at in range(0, len(vector), width)]
     while entries[-1:] == [padding]:
@@ -647,8 +657,9 @@ def words(*values):
     return " ".join(map(str, values))
 
 
-def laid_out(length, at, made):
-    """A writer's answer and its whole output. What it makes is bytes, or the numbers of a refusal."""
+def laid_out(length, at, made, *told):
+    """A writer's answer and its whole output. What it makes is bytes, or the numbers of a refusal; what else it tells
+    of bytes that it wrote stands before how many they are."""
     output = bytearray(b"\xee" * length)
     if at > length:
         made = (BEYOND,)
@@ -657,7 +668,7 @@ def laid_out(length, at, made):
             made = (TOO_SHORT,)
         else:
             output[at : at + len(made)] = made
-            made = (DONE, len(made))
+            made = (DONE, *told, len(made))
     return words(*made, shown(output))
 
 
@@ -872,11 +883,11 @@ def write_unequal(numbers, missing, phased, length):
 
 
 def bcf_write(entries, length, at, listed):
-    return laid_out(length, at, bcf_vector(listed, entries))
+    return laid_out(length, at, bcf_vector(listed, entries), bcf_width(listed))
 
 
-def bcf_read(length, vector):
-    return row_words(*laid_in_row(length, ROW_START, bcf_list(vector)))
+def bcf_read(width, length, vector):
+    return row_words(*laid_in_row(length, ROW_START, bcf_list(vector, width)))
 
 
 # What each place of a row of numbers alone starts as.
@@ -959,7 +970,7 @@ VERBS = {
     b"genotypes": (all_genotypes, (number, number, long_row)),
     b"genotypecount": (count_genotypes, (number, number)),
     b"bcfwrite": (bcf_write, (number, room, number), alleles_of_bytes),
-    b"bcfread": (bcf_read, (row_length, hexed)),
+    b"bcfread": (bcf_read, (number, row_length, hexed)),
 }
 
 

@@ -295,13 +295,30 @@ def short_bcf_vectors():
     every two bytes behind an allele, before one and before padding."""
     for vector in short_texts(generate.FEWER_ENTRIES, 5):
         for row in sorted({0, max(0, len(vector) - 2), max(0, len(vector) - 1), len(vector)}):
-            yield ask("bcfread", row, vector)
+            yield ask("bcfread", 1, row, vector)
     for vector in of_length(VECTOR_EDGES, 3):
         for row in (2, 3):
-            yield ask("bcfread", row, vector)
+            yield ask("bcfread", 1, row, vector)
     for pair in generate.sequences_of_two():
         for vector in (b"\x04" + pair, pair + b"\x04", pair + generate.PADDING):
-            yield ask("bcfread", 3, vector)
+            yield ask("bcfread", 1, 3, vector)
+
+
+def short_wide_vectors():
+    """Every entry of 16 bits alone, behind an allele, before one and before padding; of 16 and of 32 bits all vectors
+    of up to five entries of the kinds that count, every two of the entries that are almost others, and every text of up
+    to nine bytes of the padding's."""
+    for one in generate.sequences_of_two():
+        for row, vector in ((0, one), (1, one), (2, b"\x04\x00" + one), (2, one + b"\x04\x00"), (1, one + b"\x01\x80")):
+            yield ask("bcfread", 2, row, vector)
+    for width in generate.WIDER:
+        for count, vector in generate.vectors_of(generate.fewer_entries(width), 5):
+            for row in sorted({0, max(0, count - 1), count}):
+                yield ask("bcfread", width, row, vector)
+        for pair in itertools.product((*generate.edge_entries(width), *generate.near_entries(width)), repeat=2):
+            yield ask("bcfread", width, 2, b"".join(pair))
+        for text in short_texts(b"\x00\x01\x80", 9):
+            yield ask("bcfread", width, 4, text)
 
 
 def short_bcf_lists():
@@ -310,8 +327,23 @@ def short_bcf_lists():
     for count in range(5):
         for alleles in itertools.product(kinds, repeat=count):
             for length in range(max(0, count - 1), count + 3):
-                for room, at in itertools.product(range(max(0, length - 1), length + 3), range(4)):
+                need = length * generate.entry_size(alleles)
+                for room, at in itertools.product(range(max(0, need - 1), need + 3), range(4)):
                     yield generate.to_vector(length, room, at, alleles)
+
+
+def short_wide_lists():
+    """Every list of up to five numbers at the largest of each width and past it, into vectors that fill the output;
+    each number of 16 bits, alone and behind another."""
+    for count in range(1, 6):
+        for values in itertools.product((0, *generate.LIMIT_NUMBERS), repeat=count):
+            alleles = [(value, 0, value % 2) for value in values]
+            yield generate.to_vector(count, count * generate.entry_size(alleles), 0, alleles)
+    for value in range(2**14 + 2):
+        for alleles in ([(value, 0, 0)], [(0, 1, 0), (value, 0, 1)]):
+            size = generate.entry_size(alleles)
+            yield generate.to_vector(2, 2 * size, 0, alleles)
+            yield generate.to_vector(3, 3 * size, 1, alleles)
 
 
 # ---- random ones about each boundary
@@ -460,22 +492,46 @@ def near_orders(dice):
 
 def near_vectors(dice):
     """Alleles about the largest that fits and about each limit; lengths about the list's and the largest number, rooms
-    about the length and places about the output's end; vectors of about as many alleles as a row has."""
-    for _ in range(8_000):
-        alleles = [generate.random_vector_allele(dice) for _ in range(1 + dice.roll(6))]
+    about the bytes and places about the output's end; vectors of about as many alleles as a row has."""
+    for _, width in itertools.product(range(4_000), generate.WIDTHS):
+        alleles = [generate.random_vector_allele(dice, width) for _ in range(1 + dice.roll(6))]
         if dice.roll(2):
-            value = near(dice, dice.pick((62, 62, 127, 255, 2**16, 2**32, 2**63, LARGEST - 3)), 3)
+            value = near(dice, dice.pick((62, 62, 127, 255, 2**14 - 2, 2**16, 2**30 - 2, 2**32, 2**63, LARGEST - 3)), 3)
             alleles[dice.roll(len(alleles))] = value, dice.pick((0, 0, 0, 1)), dice.roll(2)
-        length = near(dice, len(alleles), 2)
-        room, at = near(dice, length + 2, 2), dice.roll(5)
+        length, size = near(dice, len(alleles), 2), generate.entry_size(alleles)
+        need, at = length * size, dice.roll(5)
+        room = near(dice, need + 2, 2)
         yield generate.to_vector(length, room, at, alleles)
-        yield generate.to_vector(length, length + at, near(dice, length + at, 1), alleles)
-        far = dice.pick((2**32, 2**63, LARGEST - 9)) + dice.roll(10)
+        yield generate.to_vector(length, need + at, near(dice, need + at, 1), alleles)
+        far = dice.pick((2**32, 2**62, 2**63, LARGEST - 9)) + dice.roll(10)
         yield generate.to_vector(far, room, dice.pick((at, LARGEST + 1 - far, near_place(dice, b""))), alleles)
+        yield generate.to_vector(2**64 // size * dice.roll(size) + near(dice, length, 2), need + 8, at, alleles)
         row = 1 + dice.roll(64)
-        vector = bytes(dice.roll(0x80) for _ in range(near(dice, row, 2))) + generate.PADDING * dice.roll(4)
-        yield ask("bcfread", row, vector)
-        yield ask("bcfread", row, vector + bytes([near(dice, 0x81, 3)]))
+        vector = generate.random_bcf_entries(dice, width, near(dice, row, 2)) + generate.PADDINGS[width] * dice.roll(4)
+        yield ask("bcfread", width, row, vector)
+        last = near(dice, int.from_bytes(generate.PADDINGS[width], "little"), 3)
+        yield ask("bcfread", width, row, vector + generate.bcf_entry(width, last))
+
+
+def near_widths(dice):
+    """A list about the largest of each width, written; and its vector in each width that holds it, read as that and as
+    every other, whole, with a byte less and a byte more."""
+    for _ in range(6_000):
+        alleles, most = [], dice.pick(generate.WIDTHS)
+        for _ in range(1 + dice.roll(5)):
+            value = near(dice, generate.LARGEST_ALLELES[dice.pick(generate.WIDTHS)], 2)
+            value = min(value, generate.LARGEST_ALLELES[most])
+            alleles.append((value, 0, dice.roll(2)) if dice.roll(6) else (0, 1, dice.roll(2)))
+        length, size = len(alleles) + dice.roll(3), generate.entry_size(alleles)
+        yield generate.to_vector(length, length * size + dice.roll(3), dice.roll(2), alleles)
+        for width in generate.WIDTHS[generate.WIDTHS.index(size) :]:
+            values = [phased if missing else 2 * value + 2 + phased for value, missing, phased in alleles]
+            vector = generate.bcf_entries(width, values) + generate.PADDINGS[width] * (length - len(alleles))
+            for told in generate.WIDTHS:
+                yield ask("bcfread", told, len(alleles), vector)
+            yield ask("bcfread", dice.pick(generate.TOLD_WIDTHS), near(dice, len(alleles), 1), vector)
+            yield ask("bcfread", width, near(dice, len(alleles), 1), vector[:-1])
+            yield ask("bcfread", width, near(dice, len(alleles), 1), vector + bytes([dice.pick(generate.EDGE_ENTRIES)]))
 
 
 # ---- damaged copies
@@ -600,17 +656,21 @@ def harmed_orders(dice):
 
 
 def harmed_vectors(dice):
-    """Vectors with up to three bytes damaged; lists with a number or a mark changed by a bit, and a length."""
-    for _ in range(10_000):
-        alleles = [list(generate.random_vector_allele(dice)) for _ in range(1 + dice.roll(5))]
-        vector = bytes(dice.roll(0x80) for _ in alleles) + generate.PADDING * dice.roll(5)
+    """Vectors with up to three bytes damaged, or told another width; lists with a number or a mark changed by a bit,
+    and a length."""
+    for _, width in itertools.product(range(4_000), generate.WIDTHS):
+        alleles = [list(generate.random_vector_allele(dice, width)) for _ in range(1 + dice.roll(5))]
+        vector = generate.random_bcf_entries(dice, width, len(alleles)) + generate.PADDINGS[width] * dice.roll(5)
         for alphabet in (range(256), generate.EDGE_ENTRIES):
-            yield ask("bcfread", near(dice, len(alleles), 1), harmed(dice, vector, 1 + dice.roll(3), alphabet))
-        length, bits = len(vector), dice.pick((4, 64))
-        yield generate.to_vector(length ^ 1 << dice.roll(bits), length + 1, dice.roll(2), alleles)
-        part, bits = dice.pick(((0, 7), (0, 64), (1, 8), (2, 8)))
+            yield ask("bcfread", width, near(dice, len(alleles), 1), harmed(dice, vector, 1 + dice.roll(3), alphabet))
+        told = width ^ 1 << dice.pick((dice.roll(4), dice.roll(64)))
+        yield ask("bcfread", told, near(dice, len(alleles), 1), vector)
+        length, bits = len(vector) // width, dice.pick((4, 64))
+        room = length * generate.entry_size(alleles) + 1
+        yield generate.to_vector(length ^ 1 << dice.roll(bits), room, dice.roll(2), alleles)
+        part, bits = dice.pick(((0, 7), (0, 32), (0, 64), (1, 8), (2, 8)))
         alleles[dice.roll(len(alleles))][part] ^= 1 << dice.roll(bits)
-        yield generate.to_vector(length, length + 1, dice.roll(2), alleles)
+        yield generate.to_vector(length, length * generate.entry_size(alleles) + 1, dice.roll(2), alleles)
 
 
 # A good case of each verb, and of each of its answers that is easily damaged.
@@ -633,7 +693,9 @@ GOOD_CASES = (
     b"plain 6309310a 0", b"plain 6109620963096409650966096709680d0a 0",
     b"number 3 0,1", b"number 64 8,8,20,63", b"genotype 4 2 3 3", b"genotype 65 3 40 2", b"genotypes 2 2 7",
     b"genotypes 3 2 11", b"genotypecount 8 64",
-    b"bcfwrite 3 5 1 0:0:0 62:0:1", b"bcfwrite 2 2 0 0:1:0 61:0:255", b"bcfread 3 02058181", b"bcfread 2 007f81",
+    b"bcfwrite 3 5 1 0:0:0 62:0:1", b"bcfwrite 2 2 0 0:1:0 61:0:255", b"bcfread 1 3 02058181", b"bcfread 1 2 007f81",
+    b"bcfwrite 3 7 1 0:0:0 63:0:1", b"bcfwrite 2 8 0 16383:0:0", b"bcfread 2 3 020080000180",
+    b"bcfread 4 2 feffff7f01000080", b"bcfread 3 2 020304",
 )
 
 
@@ -658,10 +720,11 @@ EXHAUSTIVE = (
     short_info_steps, short_info_keys, short_samples, short_genotypes, short_phasings, short_genotype_steps,
     short_checked, short_slices, short_lists_of_alleles, short_entries, short_joins, short_faults, short_alts,
     short_endings, short_forms, short_orders, short_order_limits, short_bcf_vectors, short_bcf_lists,
+    short_wide_vectors, short_wide_lists,
 )
 NEAR = (
     near_numbers, near_places, near_line_ends, near_rooms, near_alt_counts, near_faults, near_no_alt, near_forms,
-    near_orders, near_vectors,
+    near_orders, near_vectors, near_widths,
 )
 HARMED = (
     harmed_lines, harmed_columns, harmed_samples, harmed_genotypes, harmed_entries, harmed_cases, harmed_forms,

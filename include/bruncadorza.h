@@ -69,9 +69,10 @@ enum bruncadorza_number {
     BRUNCADORZA_ABOVE_ALT = 20,       /* checked reader: an allele number is above the ALT count */
     BRUNCADORZA_BAD_POS = 21,         /* POS is bad */
     BRUNCADORZA_OUT_OF_RANGE = 23,    /* a ploidy, allele count, allele or genotype number out of range */
-    BRUNCADORZA_LARGE_ALLELE = 24,    /* BCF: an allele is above the largest that an entry holds */
+    BRUNCADORZA_LARGE_ALLELE = 24,    /* BCF: an allele is above the largest that any entry holds */
     BRUNCADORZA_LONG_LIST = 25,       /* BCF: the list is longer than the vector */
     BRUNCADORZA_NO_VECTOR = 26,       /* BCF: the bytes are no vector */
+    BRUNCADORZA_BAD_WIDTH = 27,       /* BCF: no entry has so many bytes */
     BRUNCADORZA_NOT_MADE = 32         /* a form of a line's record that bruncadorza_read_line makes on no input */
 };
 
@@ -274,21 +275,23 @@ uint64_t bruncadorza_genotype_at(uint64_t number, uint64_t ploidy, uint64_t alle
 uint64_t bruncadorza_list_genotypes(uint64_t ploidy, uint64_t alleles, uint64_t *row, size_t row_n,
                                     uint64_t values[BRUNCADORZA_VALUES]);
 
-/* Genotypes in BCF. A vector is one sample's genotype in entries of 8 bits, so that it has as many entries as bytes. First comes
-   an entry for each allele, one at least: its number + 1, or 0 where it is missing, shifted left once, and the low bit 1 where it
-   is phased. So no allele is above 62. What is left of the vector is padding, 81 hex. The list of alleles is three slices, as
-   above. */
+/* Genotypes in BCF. A vector is one sample's genotype in entries of one width: 1, 2 or 4 bytes each, the lowest byte first. First
+   comes an entry for each allele, one at least: its number + 1, or 0 where it is missing, shifted left once, and the low bit 1
+   where it is phased. So no allele is above 62, 16382 or 1073741822. What is left of the vector is padding: 81, 8001 or 80000001
+   hex. The list of alleles is three slices, as above. */
 
-/* Reads a vector. 0: how many alleles. 16 where the lengths of the three slices differ; 26 where the bytes are no vector; 17. Only
-   0 changes the slices, and only their first entries. */
-uint64_t bruncadorza_read_vector(const uint8_t *bytes, size_t bytes_n,
+/* Reads a vector whose entries have `width` bytes each, also where a smaller width would hold every allele. 0: how many alleles. 27
+   where `width` is not 1, 2 or 4, whatever else is wrong; 16 where the lengths of the three slices differ; 26 where the bytes are
+   no vector, or not a whole number of entries; 17. Only 0 changes the slices, and only their first entries. */
+uint64_t bruncadorza_read_vector(const uint8_t *bytes, size_t bytes_n, size_t width,
                                  uint64_t *numbers, size_t numbers_n, uint8_t *missing, size_t missing_n,
                                  uint8_t *phased, size_t phased_n,
                                  uint64_t values[BRUNCADORZA_VALUES]);
 
-/* Writes the vector of the length `entries` from the place `at` of `out` on. 0: how many bytes were written. 12: the index of the
-   first allele that is missing and has a number. 24 where an allele is above 62; 25 where the list is longer than the vector. Or 6,
-   11, 16, 17. Only 0 changes `out`. */
+/* Writes the vector of `entries` entries, of the smallest width that holds every allele, from the place `at` of `out` on. 0: the
+   width, then how many bytes were written, which is `entries` times the width. 12: the index of the first allele that is missing
+   and has a number. 24 where an allele is above 1073741822; 25 where the list is longer than the vector. Or 6, 11, 16, 17. Only 0
+   changes `out`. */
 uint64_t bruncadorza_write_vector(const uint64_t *numbers, size_t numbers_n, const uint8_t *missing, size_t missing_n,
                                   const uint8_t *phased, size_t phased_n, size_t entries,
                                   uint8_t *out, size_t out_n, size_t at,

@@ -1,11 +1,10 @@
 //! numbers: how fast genotypes are listed, numbered and found by their number, through the entries for C; prints a table. The Rust has
 //! no such functions, so the limit stands beside: a plain loop that fills the same row with numbers.
+mod calls;
 mod clock;
 
-use clock::{median, now};
+use calls::{Values, nanoseconds};
 use std::hint::black_box;
-
-type Values = [u64; 8];
 
 unsafe extern "C" {
     fn bruncadorza_count_genotypes(ploidy: u64, alleles: u64, values: &mut Values) -> u64;
@@ -18,23 +17,8 @@ unsafe extern "C" {
 const SHAPES: [(u64, u64); 13] =
     [(1, 1), (1, 2), (1, 64), (2, 1), (2, 2), (2, 4), (2, 64), (3, 4), (3, 64), (4, 4), (8, 1), (8, 4), (8, 12)];
 
-/// How often each is measured; the median counts.
-const RUNS: usize = 15;
-
 /// So many calls, or so many numbers, at least each time.
 const LEAST: usize = 1_000_000;
-
-/// The nanoseconds of one call.
-fn nanoseconds(calls: usize, mut call: impl FnMut()) -> f64 {
-    let times = (0..RUNS).map(|_| {
-        let start = now();
-        for _ in 0..calls {
-            call();
-        }
-        (now() - start) / calls as f64
-    });
-    median(times.collect()) * 1e9
-}
 
 fn main() {
     println!("| ploidy | alleles | genotypes | listing, million numbers/s | limit, million numbers/s | a number, ns | a genotype, ns |");

@@ -616,42 +616,146 @@ static void read_vectors(void) {
     uint8_t phased[3] = {7, 7, 7};
     uint64_t values[BRUNCADORZA_VALUES];
 
-    CHECK(bruncadorza_read_vector(BYTES("\x02\x05"), numbers, 3, missing, 2, phased, 3, values) == BRUNCADORZA_BAD_LENGTHS && none(values));
-    CHECK(bruncadorza_read_vector(BYTES("\x02\x05"), numbers, 3, missing, 3, phased, 2, values) == BRUNCADORZA_BAD_LENGTHS && none(values));
-    CHECK(bruncadorza_read_vector(BYTES("\x02\x05"), numbers, 2, missing, 3, phased, 3, values) == BRUNCADORZA_BAD_LENGTHS && none(values));
-    CHECK(bruncadorza_read_vector(BYTES(""), numbers, 3, missing, 3, phased, 3, values) == BRUNCADORZA_NO_VECTOR && none(values));
-    CHECK(bruncadorza_read_vector(BYTES("\x81\x81"), numbers, 3, missing, 3, phased, 3, values) == BRUNCADORZA_NO_VECTOR && none(values));
-    CHECK(bruncadorza_read_vector(BYTES("\x80\x81"), numbers, 3, missing, 3, phased, 3, values) == BRUNCADORZA_NO_VECTOR && none(values));
-    CHECK(bruncadorza_read_vector(BYTES("\x02\x80"), numbers, 3, missing, 3, phased, 3, values) == BRUNCADORZA_NO_VECTOR && none(values));
-    CHECK(bruncadorza_read_vector(BYTES("\x02\xFF"), numbers, 3, missing, 3, phased, 3, values) == BRUNCADORZA_NO_VECTOR && none(values));
-    CHECK(bruncadorza_read_vector(BYTES("\x02\x81\x04"), numbers, 3, missing, 3, phased, 3, values) == BRUNCADORZA_NO_VECTOR && none(values));
-    CHECK(bruncadorza_read_vector(BYTES("\x02\x81\x80"), numbers, 3, missing, 3, phased, 3, values) == BRUNCADORZA_NO_VECTOR && none(values));
-    CHECK(bruncadorza_read_vector(BYTES("\x02\x04\x06\x08"), numbers, 3, missing, 3, phased, 3, values) == BRUNCADORZA_SHORT && none(values));
-    CHECK(bruncadorza_read_vector(BYTES("\x02\x81"), numbers, 0, missing, 0, phased, 0, values) == BRUNCADORZA_SHORT && none(values));
+    CHECK(bruncadorza_read_vector(BYTES("\x02\x05"), 1, numbers, 3, missing, 2, phased, 3, values) == BRUNCADORZA_BAD_LENGTHS && none(values));
+    CHECK(bruncadorza_read_vector(BYTES("\x02\x05"), 1, numbers, 3, missing, 3, phased, 2, values) == BRUNCADORZA_BAD_LENGTHS && none(values));
+    CHECK(bruncadorza_read_vector(BYTES("\x02\x05"), 1, numbers, 2, missing, 3, phased, 3, values) == BRUNCADORZA_BAD_LENGTHS && none(values));
+    CHECK(bruncadorza_read_vector(BYTES(""), 1, numbers, 3, missing, 3, phased, 3, values) == BRUNCADORZA_NO_VECTOR && none(values));
+    CHECK(bruncadorza_read_vector(BYTES("\x81\x81"), 1, numbers, 3, missing, 3, phased, 3, values) == BRUNCADORZA_NO_VECTOR && none(values));
+    CHECK(bruncadorza_read_vector(BYTES("\x80\x81"), 1, numbers, 3, missing, 3, phased, 3, values) == BRUNCADORZA_NO_VECTOR && none(values));
+    CHECK(bruncadorza_read_vector(BYTES("\x02\x80"), 1, numbers, 3, missing, 3, phased, 3, values) == BRUNCADORZA_NO_VECTOR && none(values));
+    CHECK(bruncadorza_read_vector(BYTES("\x02\xFF"), 1, numbers, 3, missing, 3, phased, 3, values) == BRUNCADORZA_NO_VECTOR && none(values));
+    CHECK(bruncadorza_read_vector(BYTES("\x02\x81\x04"), 1, numbers, 3, missing, 3, phased, 3, values) == BRUNCADORZA_NO_VECTOR && none(values));
+    CHECK(bruncadorza_read_vector(BYTES("\x02\x81\x80"), 1, numbers, 3, missing, 3, phased, 3, values) == BRUNCADORZA_NO_VECTOR && none(values));
+    CHECK(bruncadorza_read_vector(BYTES("\x02\x04\x06\x08"), 1, numbers, 3, missing, 3, phased, 3, values) == BRUNCADORZA_SHORT && none(values));
+    CHECK(bruncadorza_read_vector(BYTES("\x02\x81"), 1, numbers, 0, missing, 0, phased, 0, values) == BRUNCADORZA_SHORT && none(values));
     /* Lengths that differ are refused first, and a short row last. */
-    CHECK(bruncadorza_read_vector(BYTES("\x80"), numbers, 0, missing, 1, phased, 0, values) == BRUNCADORZA_BAD_LENGTHS && none(values));
-    CHECK(bruncadorza_read_vector(BYTES("\x02\x04\x80"), numbers, 1, missing, 1, phased, 1, values) == BRUNCADORZA_NO_VECTOR && none(values));
+    CHECK(bruncadorza_read_vector(BYTES("\x80"), 1, numbers, 0, missing, 1, phased, 0, values) == BRUNCADORZA_BAD_LENGTHS && none(values));
+    CHECK(bruncadorza_read_vector(BYTES("\x02\x04\x80"), 1, numbers, 1, missing, 1, phased, 1, values) == BRUNCADORZA_NO_VECTOR && none(values));
     CHECK(numbers[0] == 7 && numbers[1] == 7 && numbers[2] == 7);
     CHECK(missing[0] == 7 && missing[1] == 7 && missing[2] == 7);
     CHECK(phased[0] == 7 && phased[1] == 7 && phased[2] == 7);
-    CHECK(bruncadorza_read_vector(BYTES("\x01\x0C\x81"), numbers, 3, missing, 3, phased, 3, values) == BRUNCADORZA_DONE && one(values, 2));
+    CHECK(bruncadorza_read_vector(BYTES("\x01\x0C\x81"), 1, numbers, 3, missing, 3, phased, 3, values) == BRUNCADORZA_DONE && one(values, 2));
     CHECK(numbers[0] == 0 && numbers[1] == 5 && numbers[2] == 7);
     CHECK(missing[0] == 1 && missing[1] == 0 && missing[2] == 7);
     CHECK(phased[0] == 1 && phased[1] == 0 && phased[2] == 7);
-    CHECK(bruncadorza_read_vector(BYTES("\x7F\x00\x7E"), numbers, 3, missing, 3, phased, 3, values) == BRUNCADORZA_DONE && one(values, 3));
+    CHECK(bruncadorza_read_vector(BYTES("\x7F\x00\x7E"), 1, numbers, 3, missing, 3, phased, 3, values) == BRUNCADORZA_DONE && one(values, 3));
     CHECK(numbers[0] == 62 && numbers[1] == 0 && numbers[2] == 62);
     CHECK(missing[0] == 0 && missing[1] == 1 && missing[2] == 0);
     CHECK(phased[0] == 1 && phased[1] == 0 && phased[2] == 0);
     /* Padding needs no room. */
-    CHECK(bruncadorza_read_vector(BYTES("\x04\x81\x81\x81\x81"), numbers, 1, missing, 1, phased, 1, values) == BRUNCADORZA_DONE && one(values, 1));
+    CHECK(bruncadorza_read_vector(BYTES("\x04\x81\x81\x81\x81"), 1, numbers, 1, missing, 1, phased, 1, values) == BRUNCADORZA_DONE && one(values, 1));
     CHECK(numbers[0] == 1 && numbers[1] == 0 && numbers[2] == 62);
     CHECK(missing[0] == 0 && missing[1] == 1 && missing[2] == 0);
     CHECK(phased[0] == 0 && phased[1] == 0 && phased[2] == 0);
 }
 
+/* The width is judged before all else. */
+static void refused_widths(void) {
+    const size_t widths[8] = {0, 3, 5, 6, 8, 257, ((size_t)1 << 32) + 1, SIZE_MAX};
+    uint64_t numbers[1] = {7};
+    uint8_t missing[1] = {7};
+    uint8_t phased[1] = {7};
+    uint64_t values[BRUNCADORZA_VALUES];
+    size_t i;
+
+    for (i = 0; i < 8; i += 1) {
+        CHECK(bruncadorza_read_vector(BYTES("\x02\x81\x81\x81"), widths[i], numbers, 1, missing, 1, phased, 1, values) == BRUNCADORZA_BAD_WIDTH && none(values));
+        CHECK(bruncadorza_read_vector(BYTES("\x02"), widths[i], numbers, 1, missing, 0, phased, 1, values) == BRUNCADORZA_BAD_WIDTH && none(values));
+        CHECK(bruncadorza_read_vector(BYTES("\x80"), widths[i], numbers, 1, missing, 1, phased, 1, values) == BRUNCADORZA_BAD_WIDTH && none(values));
+        CHECK(bruncadorza_read_vector(BYTES("\x80"), widths[i], numbers, 1, missing, 1, phased, 0, values) == BRUNCADORZA_BAD_WIDTH && none(values));
+        CHECK(bruncadorza_read_vector(BYTES("\x02"), widths[i], numbers, 0, missing, 0, phased, 0, values) == BRUNCADORZA_BAD_WIDTH && none(values));
+    }
+    CHECK(numbers[0] == 7 && missing[0] == 7 && phased[0] == 7);
+}
+
+/* Bytes that are not a whole number of entries are no vector. */
+static void left_over_bytes(void) {
+    const uint8_t bytes[9] = {2, 0, 0, 0, 2, 0, 0, 0, 2};
+    uint64_t numbers[4] = {7, 7, 7, 7};
+    uint8_t missing[4] = {7, 7, 7, 7};
+    uint8_t phased[4] = {7, 7, 7, 7};
+    uint64_t values[BRUNCADORZA_VALUES];
+    size_t n;
+
+    for (n = 1; n <= 9; n += 1) {
+        if (n % 2 != 0) {
+            CHECK(bruncadorza_read_vector(bytes, n, 2, numbers, 4, missing, 4, phased, 4, values) == BRUNCADORZA_NO_VECTOR && none(values));
+            CHECK(bruncadorza_read_vector(bytes, n, 2, numbers, 0, missing, 0, phased, 0, values) == BRUNCADORZA_NO_VECTOR && none(values));
+            CHECK(bruncadorza_read_vector(bytes, n, 2, numbers, 0, missing, 1, phased, 0, values) == BRUNCADORZA_BAD_LENGTHS && none(values));
+        }
+        if (n % 4 != 0) {
+            CHECK(bruncadorza_read_vector(bytes, n, 4, numbers, 4, missing, 4, phased, 4, values) == BRUNCADORZA_NO_VECTOR && none(values));
+            CHECK(bruncadorza_read_vector(bytes, n, 4, numbers, 0, missing, 0, phased, 0, values) == BRUNCADORZA_NO_VECTOR && none(values));
+            CHECK(bruncadorza_read_vector(bytes, n, 4, numbers, 0, missing, 0, phased, 1, values) == BRUNCADORZA_BAD_LENGTHS && none(values));
+        }
+    }
+    CHECK(numbers[0] == 7 && missing[0] == 7 && phased[0] == 7);
+    CHECK(bruncadorza_read_vector(bytes, 8, 2, numbers, 4, missing, 4, phased, 4, values) == BRUNCADORZA_DONE && one(values, 4));
+    CHECK(numbers[0] == 0 && missing[0] == 0 && missing[1] == 1 && missing[2] == 0 && missing[3] == 1);
+    CHECK(bruncadorza_read_vector(bytes, 8, 4, numbers, 4, missing, 4, phased, 4, values) == BRUNCADORZA_DONE && one(values, 2));
+    CHECK(missing[0] == 0 && missing[1] == 0 && missing[2] == 0 && missing[3] == 1);
+}
+
+/* Whether the reader refuses these bytes by 26, with a row of two, and changes nothing. */
+static int no_vector(const uint8_t *bytes, size_t n, size_t width) {
+    uint64_t numbers[2] = {7, 7};
+    uint8_t missing[2] = {7, 7};
+    uint8_t phased[2] = {7, 7};
+    uint64_t values[BRUNCADORZA_VALUES];
+    return bruncadorza_read_vector(bytes, n, width, numbers, 2, missing, 2, phased, 2, values) == BRUNCADORZA_NO_VECTOR && none(values)
+        && numbers[0] == 7 && numbers[1] == 7 && missing[0] == 7 && missing[1] == 7 && phased[0] == 7 && phased[1] == 7;
+}
+
+/* Whether the reader reads two alleles that are not missing: these numbers, the first unphased and the second phased. */
+static int reads_two(const uint8_t *bytes, size_t n, size_t width, uint64_t a, uint64_t b) {
+    uint64_t numbers[3] = {7, 7, 7};
+    uint8_t missing[3] = {7, 7, 7};
+    uint8_t phased[3] = {7, 7, 7};
+    uint64_t values[BRUNCADORZA_VALUES];
+    return bruncadorza_read_vector(bytes, n, width, numbers, 3, missing, 3, phased, 3, values) == BRUNCADORZA_DONE && one(values, 2)
+        && numbers[0] == a && numbers[1] == b && numbers[2] == 7
+        && missing[0] == 0 && missing[1] == 0 && missing[2] == 7
+        && phased[0] == 0 && phased[1] == 1 && phased[2] == 7;
+}
+
+static void read_wide_vectors(void) {
+    /* A list that a smaller width holds is read in each. */
+    CHECK(reads_two(BYTES("\x02\x0D\x81"), 1, 0, 5));
+    CHECK(reads_two(BYTES("\x02\x00\x0D\x00\x01\x80"), 2, 0, 5));
+    CHECK(reads_two(BYTES("\x02\x00\x00\x00\x0D\x00\x00\x00\x01\x00\x00\x80"), 4, 0, 5));
+    /* The lowest byte comes first. */
+    CHECK(reads_two(BYTES("\x80\x00\x01\x02"), 2, 63, 255));
+    CHECK(reads_two(BYTES("\x00\x80\x00\x00\x05\x04\x03\x02"), 4, 16383, 0x01018201));
+    /* The largest that an entry holds. */
+    CHECK(reads_two(BYTES("\x7E\x7F"), 1, 62, 62));
+    CHECK(reads_two(BYTES("\xFE\x7F\xFF\x7F"), 2, 16382, 16382));
+    CHECK(reads_two(BYTES("\xFE\xFF\xFF\x7F\xFF\xFF\xFF\x7F"), 4, 1073741822, 1073741822));
+    /* The padding of a smaller width is a code. */
+    CHECK(reads_two(BYTES("\x02\x00\x81\x00"), 2, 0, 63));
+    CHECK(reads_two(BYTES("\x02\x00\x00\x00\x81\x00\x00\x00"), 4, 0, 63));
+    CHECK(reads_two(BYTES("\x02\x00\x00\x00\x01\x80\x00\x00"), 4, 0, 16383));
+
+    /* Padding alone. */
+    CHECK(no_vector(BYTES("\x01\x80\x01\x80"), 2));
+    CHECK(no_vector(BYTES("\x01\x00\x00\x80"), 4));
+    /* An entry that is negative, and no padding. */
+    CHECK(no_vector(BYTES("\x02\x00\x00\x80"), 2));
+    CHECK(no_vector(BYTES("\x02\x00\x02\x80"), 2));
+    CHECK(no_vector(BYTES("\x02\x00\x81\x81"), 2));
+    CHECK(no_vector(BYTES("\x02\x00\x81\xFF"), 2));
+    CHECK(no_vector(BYTES("\x02\x00\x00\x00\x00\x00\x00\x80"), 4));
+    CHECK(no_vector(BYTES("\x02\x00\x00\x00\x02\x00\x00\x80"), 4));
+    CHECK(no_vector(BYTES("\x02\x00\x00\x00\x01\x80\x01\x80"), 4));
+    CHECK(no_vector(BYTES("\x02\x00\x00\x00\x01\x80\xFF\xFF"), 4));
+    CHECK(no_vector(BYTES("\x02\x00\x00\x00\x81\xFF\xFF\xFF"), 4));
+    /* A code behind padding. */
+    CHECK(no_vector(BYTES("\x02\x00\x01\x80\x02\x00"), 2));
+    CHECK(no_vector(BYTES("\x02\x00\x00\x00\x01\x00\x00\x80\x02\x00\x00\x00"), 4));
+}
+
 static void written_vectors(void) {
     const uint64_t numbers[3] = {0, 12, 62};
-    const uint64_t large[2] = {0, 63};
+    const uint64_t large[2] = {0, 1073741823};
     const uint64_t far[2] = {UINT64_MAX, 0};
     const uint8_t missing[3] = {9, 0, 0};
     const uint8_t both[2] = {1, 1};
@@ -665,8 +769,8 @@ static void written_vectors(void) {
     CHECK(bruncadorza_write_vector(numbers, 2, missing, 2, phased, 3, 3, out, 8, 1, values) == BRUNCADORZA_BAD_LENGTHS && none(values));
     CHECK(bruncadorza_write_vector(numbers, 0, missing, 0, phased, 0, 3, out, 8, 1, values) == BRUNCADORZA_GENOTYPE_EMPTY && none(values));
     CHECK(bruncadorza_write_vector(numbers, 2, both, 2, phased, 2, 3, out, 8, 1, values) == BRUNCADORZA_BAD_NUMBER && one(values, 1));
-    CHECK(bruncadorza_write_vector(large, 2, missing, 2, phased, 2, 3, out, 8, 1, values) == BRUNCADORZA_LARGE_ALLELE && none(values));
-    CHECK(bruncadorza_write_vector(far, 2, &missing[1], 2, phased, 2, 3, out, 8, 1, values) == BRUNCADORZA_LARGE_ALLELE && none(values));
+    CHECK(bruncadorza_write_vector(large, 2, missing, 2, phased, 2, 2, out, 8, 0, values) == BRUNCADORZA_LARGE_ALLELE && none(values));
+    CHECK(bruncadorza_write_vector(far, 2, &missing[1], 2, phased, 2, 2, out, 8, 0, values) == BRUNCADORZA_LARGE_ALLELE && none(values));
     CHECK(bruncadorza_write_vector(numbers, 2, missing, 2, phased, 2, 1, out, 8, 1, values) == BRUNCADORZA_LONG_LIST && none(values));
     CHECK(bruncadorza_write_vector(numbers, 2, missing, 2, phased, 2, 0, out, 8, 8, values) == BRUNCADORZA_LONG_LIST && none(values));
     CHECK(bruncadorza_write_vector(numbers, 2, missing, 2, phased, 2, 8, out, 8, 1, values) == BRUNCADORZA_SHORT && none(values));
@@ -677,36 +781,151 @@ static void written_vectors(void) {
     CHECK(bruncadorza_write_vector(numbers, 2, missing, 2, phased, 2, SIZE_MAX - 1, out, 8, 4, values) == BRUNCADORZA_SHORT && none(values));
     CHECK(bruncadorza_write_vector(numbers, 2, missing, 2, phased, 2, SIZE_MAX / 2 + 1, out, 8, 8, values) == BRUNCADORZA_SHORT && none(values));
     CHECK(memcmp(out, "eeeeeee", 8) == 0);
-    CHECK(bruncadorza_write_vector(numbers, 2, missing, 2, phased, 2, 4, out, 8, 1, values) == BRUNCADORZA_DONE && one(values, 4));
+    CHECK(bruncadorza_write_vector(numbers, 2, missing, 2, phased, 2, 4, out, 8, 1, values) == BRUNCADORZA_DONE && two(values, 1, 4));
     CHECK(memcmp(out, "e\x01\x1A\x81\x81" "ee", 8) == 0);
-    CHECK(bruncadorza_write_vector(numbers, 3, missing, 3, phased, 3, 3, out, 8, 5, values) == BRUNCADORZA_DONE && one(values, 3));
+    CHECK(bruncadorza_write_vector(numbers, 3, missing, 3, phased, 3, 3, out, 8, 5, values) == BRUNCADORZA_DONE && two(values, 1, 3));
     CHECK(memcmp(out, "e\x01\x1A\x81\x81\x01\x1A\x7F", 8) == 0);
 }
 
-/* Each byte alone, and before padding: one that is no code is refused, and any other is read and written back. */
-static void vectors_there_and_back(void) {
-    uint8_t vector[3] = {0x81, 0x81, 0x81};
-    uint8_t out[3];
-    uint64_t number;
-    uint8_t missing;
-    uint8_t phased;
+/* Whether a phased allele is written as a vector of one entry with these bytes, and nothing around it is changed. */
+static int writes_as(uint64_t number, const uint8_t *bytes, size_t width) {
+    const uint8_t missing = 0;
+    const uint8_t phased = 1;
+    uint8_t out[8] = "eeeeeee";
+    uint8_t expected[8] = "eeeeeee";
     uint64_t values[BRUNCADORZA_VALUES];
-    unsigned code;
-    size_t n;
+    memcpy(&expected[1], bytes, width);
+    return bruncadorza_write_vector(&number, 1, &missing, 1, &phased, 1, 1, out, 8, 1, values) == BRUNCADORZA_DONE
+        && two(values, width, width) && memcmp(out, expected, 8) == 0;
+}
 
-    for (code = 0; code < 256; code += 1) {
-        vector[0] = (uint8_t)code;
-        for (n = 1; n <= 3; n += 1) {
-            if (code >= 128) {
-                CHECK(bruncadorza_read_vector(vector, n, &number, 1, &missing, 1, &phased, 1, values) == BRUNCADORZA_NO_VECTOR && none(values));
-                continue;
+/* The largest allele says the width of every entry. */
+static void written_widths(void) {
+    const uint64_t first[3] = {16383, 0, 1};
+    const uint64_t last[3] = {1, 0, 63};
+    const uint8_t missing[3] = {0, 1, 0};
+    const uint8_t phased[3] = {0, 0, 1};
+    uint8_t out[17];
+    uint64_t values[BRUNCADORZA_VALUES];
+
+    CHECK(writes_as(0, BYTES("\x03")));
+    CHECK(writes_as(62, BYTES("\x7F")));
+    CHECK(writes_as(63, BYTES("\x81\x00")));
+    CHECK(writes_as(255, BYTES("\x01\x02")));
+    CHECK(writes_as(16382, BYTES("\xFF\x7F")));
+    CHECK(writes_as(16383, BYTES("\x01\x80\x00\x00")));
+    CHECK(writes_as(0x01018201, BYTES("\x05\x04\x03\x02")));
+    CHECK(writes_as(1073741822, BYTES("\xFF\xFF\xFF\x7F")));
+
+    memset(out, 0xEE, 17);
+    CHECK(bruncadorza_write_vector(last, 3, missing, 3, phased, 3, 4, out, 9, 1, values) == BRUNCADORZA_DONE && two(values, 2, 8));
+    CHECK(memcmp(out, "\xEE\x04\x00\x00\x00\x81\x00\x01\x80\xEE\xEE\xEE\xEE\xEE\xEE\xEE\xEE", 17) == 0);
+    CHECK(bruncadorza_write_vector(first, 3, missing, 3, phased, 3, 4, out, 17, 1, values) == BRUNCADORZA_DONE && two(values, 4, 16));
+    CHECK(memcmp(out, "\xEE\x00\x80\x00\x00\x00\x00\x00\x00\x05\x00\x00\x00\x01\x00\x00\x80", 17) == 0);
+}
+
+/* Room is asked for in bytes. No product of a length and a width can wrap, nor a sum with a place. */
+static void room_of_widths(void) {
+    const uint64_t largest[3] = {62, 16382, 1073741822};
+    const uint8_t mark = 0;
+    uint8_t out[12];
+    uint64_t values[BRUNCADORZA_VALUES];
+    size_t i;
+
+    memset(out, 0xEE, 12);
+    for (i = 0; i < 3; i += 1) {
+        const size_t width = (size_t)1 << i;
+        const size_t far = SIZE_MAX / width;
+        size_t room;
+        for (room = 0; room < 3 * width; room += 1) {
+            CHECK(bruncadorza_write_vector(&largest[i], 1, &mark, 1, &mark, 1, 3, out, room, 0, values) == BRUNCADORZA_SHORT && none(values));
+            CHECK(bruncadorza_write_vector(&largest[i], 1, &mark, 1, &mark, 1, 3, out, 12, 12 - room, values) == BRUNCADORZA_SHORT && none(values));
+        }
+        CHECK(bruncadorza_write_vector(&largest[i], 1, &mark, 1, &mark, 1, far, out, 12, 0, values) == BRUNCADORZA_SHORT && none(values));
+        CHECK(bruncadorza_write_vector(&largest[i], 1, &mark, 1, &mark, 1, far, out, 12, 12, values) == BRUNCADORZA_SHORT && none(values));
+        if (i > 0) {
+            CHECK(bruncadorza_write_vector(&largest[i], 1, &mark, 1, &mark, 1, far + 1, out, 12, 0, values) == BRUNCADORZA_SHORT && none(values));
+            CHECK(bruncadorza_write_vector(&largest[i], 1, &mark, 1, &mark, 1, far + 2, out, 12, 0, values) == BRUNCADORZA_SHORT && none(values));
+            CHECK(bruncadorza_write_vector(&largest[i], 1, &mark, 1, &mark, 1, far + 2, out, 12, 12, values) == BRUNCADORZA_SHORT && none(values));
+        }
+        CHECK(bruncadorza_write_vector(&largest[i], 1, &mark, 1, &mark, 1, SIZE_MAX / 2, out, 12, 0, values) == BRUNCADORZA_SHORT && none(values));
+        CHECK(bruncadorza_write_vector(&largest[i], 1, &mark, 1, &mark, 1, SIZE_MAX / 2 + 1, out, 12, 0, values) == BRUNCADORZA_SHORT && none(values));
+        CHECK(bruncadorza_write_vector(&largest[i], 1, &mark, 1, &mark, 1, SIZE_MAX / 2 + 2, out, 12, 0, values) == BRUNCADORZA_SHORT && none(values));
+        CHECK(bruncadorza_write_vector(&largest[i], 1, &mark, 1, &mark, 1, SIZE_MAX - 1, out, 12, 0, values) == BRUNCADORZA_SHORT && none(values));
+        CHECK(bruncadorza_write_vector(&largest[i], 1, &mark, 1, &mark, 1, SIZE_MAX, out, 12, 12, values) == BRUNCADORZA_SHORT && none(values));
+    }
+    for (i = 0; i < 12; i += 1) {
+        CHECK(out[i] == 0xEE);
+    }
+    CHECK(bruncadorza_write_vector(&largest[0], 1, &mark, 1, &mark, 1, 3, out, 12, 9, values) == BRUNCADORZA_DONE && two(values, 1, 3));
+    CHECK(bruncadorza_write_vector(&largest[1], 1, &mark, 1, &mark, 1, 3, out, 12, 6, values) == BRUNCADORZA_DONE && two(values, 2, 6));
+    CHECK(bruncadorza_write_vector(&largest[2], 1, &mark, 1, &mark, 1, 3, out, 12, 0, values) == BRUNCADORZA_DONE && two(values, 4, 12));
+}
+
+/* Lays out one entry, and then padding, n entries in all. */
+static void lay(uint8_t *bytes, size_t width, uint64_t entry, size_t n) {
+    const uint64_t padding = ((uint64_t)1 << (8 * width - 1)) + 1;
+    size_t i;
+    for (i = 0; i < n * width; i += 1) {
+        bytes[i] = (uint8_t)((i < width ? entry : padding) >> (8 * (i % width)));
+    }
+}
+
+/* Whether an entry alone, and before padding, is refused where it is no code, and else is read, written in the smallest width that
+   holds it and read again from there. */
+static int there_and_back(size_t width, uint64_t entry) {
+    const uint64_t number = entry < 2 ? 0 : entry / 2 - 1;
+    const size_t smallest = number <= 62 ? 1 : number <= 16382 ? 2 : 4;
+    size_t n;
+    for (n = 1; n <= 3; n += 1) {
+        uint8_t vector[12];
+        uint8_t expected[12];
+        uint8_t out[12];
+        uint64_t numbers[2] = {7, 7};
+        uint8_t missing[2] = {7, 7};
+        uint8_t phased[2] = {7, 7};
+        uint64_t values[BRUNCADORZA_VALUES];
+        lay(vector, width, entry, n);
+        if (entry >> (8 * width - 1) != 0) {
+            if (!no_vector(vector, n * width, width)) {
+                return 0;
             }
-            CHECK(bruncadorza_read_vector(vector, n, &number, 1, &missing, 1, &phased, 1, values) == BRUNCADORZA_DONE && one(values, 1));
-            CHECK(number == (code < 2 ? 0 : code / 2 - 1) && missing == (code < 2) && phased == code % 2);
-            CHECK(bruncadorza_write_vector(&number, 1, &missing, 1, &phased, 1, n, out, n, 0, values) == BRUNCADORZA_DONE && one(values, n));
-            CHECK(memcmp(out, vector, n) == 0);
+            continue;
+        }
+        lay(expected, smallest, entry, n);
+        if (bruncadorza_read_vector(vector, n * width, width, numbers, 1, missing, 1, phased, 1, values) != BRUNCADORZA_DONE
+            || !one(values, 1) || numbers[0] != number || missing[0] != (entry < 2) || phased[0] != entry % 2) {
+            return 0;
+        }
+        if (bruncadorza_write_vector(numbers, 1, missing, 1, phased, 1, n, out, n * smallest, 0, values) != BRUNCADORZA_DONE
+            || !two(values, smallest, n * smallest) || memcmp(out, expected, n * smallest) != 0) {
+            return 0;
+        }
+        if (bruncadorza_read_vector(out, n * smallest, smallest, &numbers[1], 1, &missing[1], 1, &phased[1], 1, values) != BRUNCADORZA_DONE
+            || !one(values, 1) || numbers[1] != numbers[0] || missing[1] != missing[0] || phased[1] != phased[0]) {
+            return 0;
         }
     }
+    return 1;
+}
+
+/* Each entry of one byte and of two, and of four those about each power of two. */
+static void vectors_there_and_back(void) {
+    uint64_t entry;
+    unsigned power;
+
+    for (entry = 0; entry < 256; entry += 1) {
+        CHECK(there_and_back(1, entry));
+    }
+    for (entry = 0; entry < 65536; entry += 1) {
+        CHECK(there_and_back(2, entry));
+    }
+    for (power = 2; power < 32; power += 1) {
+        for (entry = ((uint64_t)1 << power) - 2; entry <= ((uint64_t)1 << power) + 3; entry += 1) {
+            CHECK(there_and_back(4, entry));
+        }
+    }
+    CHECK(there_and_back(4, 0) && there_and_back(4, 1) && there_and_back(4, UINT32_MAX - 1) && there_and_back(4, UINT32_MAX));
 }
 
 static void written_lists(void) {
@@ -835,14 +1054,16 @@ static void behind_vectors(void) {
     uint8_t out[1];
     uint64_t values[BRUNCADORZA_VALUES] = {77, 77, 77, 77, 77, 77, 77, 77};
 
-    CHECK(bruncadorza_read_vector(BYTES("\x80"), &number, 1, &missing, 1, &phased, 1, values) == BRUNCADORZA_NO_VECTOR && none(values));
-    CHECK(bruncadorza_read_vector(BYTES("\x02\x04"), &number, 1, &missing, 1, &phased, 1, values) == BRUNCADORZA_SHORT && none(values));
+    CHECK(bruncadorza_read_vector(BYTES("\x80"), 1, &number, 1, &missing, 1, &phased, 1, values) == BRUNCADORZA_NO_VECTOR && none(values));
+    CHECK(bruncadorza_read_vector(BYTES("\x02\x04"), 1, &number, 1, &missing, 1, &phased, 1, values) == BRUNCADORZA_SHORT && none(values));
+    CHECK(bruncadorza_read_vector(BYTES("\x02"), 0, &number, 1, &missing, 1, &phased, 1, values) == BRUNCADORZA_BAD_WIDTH && none(values));
     CHECK(row_is(&values[1], 0, NULL, 7));
     CHECK(bruncadorza_write_vector(&number, 1, &missing, 1, &phased, 1, 1, out, 1, 0, values) == BRUNCADORZA_BAD_NUMBER && one(values, 0));
     CHECK(row_is(&values[2], 0, NULL, 6));
-    CHECK(bruncadorza_read_vector(BYTES("\x06"), &number, 1, &missing, 1, &phased, 1, values) == BRUNCADORZA_DONE && one(values, 1));
-    CHECK(bruncadorza_write_vector(&number, 1, &missing, 1, &phased, 1, 1, out, 1, 0, values) == BRUNCADORZA_DONE && one(values, 1));
+    CHECK(bruncadorza_read_vector(BYTES("\x06"), 1, &number, 1, &missing, 1, &phased, 1, values) == BRUNCADORZA_DONE && one(values, 1));
     CHECK(row_is(&values[2], 0, NULL, 6));
+    CHECK(bruncadorza_write_vector(&number, 1, &missing, 1, &phased, 1, 1, out, 1, 0, values) == BRUNCADORZA_DONE && two(values, 1, 1));
+    CHECK(row_is(&values[3], 0, NULL, 5));
 }
 
 /* A place beyond the output is refused first and missing room last, whatever else is wrong. Only the joiner has a refusal before
@@ -889,8 +1110,8 @@ static void order_of_writers(void) {
 
 /* The same of the writer of vectors: each refusal before those below it. */
 static void order_of_vectors(void) {
-    const uint64_t large[2] = {0, 63};
-    const uint64_t numbers[2] = {0, 62};
+    const uint64_t large[2] = {0, 1073741823};
+    const uint64_t numbers[2] = {0, 1073741822};
     const uint8_t none_missing[2] = {0, 0};
     const uint8_t both_missing[2] = {1, 1};
     uint8_t out[1] = {0xEE};
@@ -937,7 +1158,10 @@ static void empty_slices(void) {
     CHECK(bruncadorza_genotype_number(NULL, 0, 2, values) == BRUNCADORZA_OUT_OF_RANGE && none(values));
     CHECK(bruncadorza_genotype_at(0, 1, 1, NULL, 0, values) == BRUNCADORZA_SHORT && none(values));
     CHECK(bruncadorza_list_genotypes(1, 1, NULL, 0, values) == BRUNCADORZA_SHORT && none(values));
-    CHECK(bruncadorza_read_vector(NULL, 0, NULL, 0, NULL, 0, NULL, 0, values) == BRUNCADORZA_NO_VECTOR && none(values));
+    CHECK(bruncadorza_read_vector(NULL, 0, 1, NULL, 0, NULL, 0, NULL, 0, values) == BRUNCADORZA_NO_VECTOR && none(values));
+    CHECK(bruncadorza_read_vector(NULL, 0, 2, NULL, 0, NULL, 0, NULL, 0, values) == BRUNCADORZA_NO_VECTOR && none(values));
+    CHECK(bruncadorza_read_vector(NULL, 0, 4, NULL, 0, NULL, 0, NULL, 0, values) == BRUNCADORZA_NO_VECTOR && none(values));
+    CHECK(bruncadorza_read_vector(NULL, 0, 0, NULL, 0, NULL, 0, NULL, 0, values) == BRUNCADORZA_BAD_WIDTH && none(values));
     CHECK(bruncadorza_write_vector(NULL, 0, NULL, 0, NULL, 0, 0, NULL, 0, 0, values) == BRUNCADORZA_GENOTYPE_EMPTY && none(values));
     CHECK(bruncadorza_judge_filter(NULL, 0) == BRUNCADORZA_BAD_FILTER);
     CHECK(bruncadorza_judge_alt(NULL, 0) == BRUNCADORZA_BAD_ALT);
@@ -969,7 +1193,12 @@ int main(void) {
     listed_genotypes();
     genotypes_there_and_back();
     read_vectors();
+    refused_widths();
+    left_over_bytes();
+    read_wide_vectors();
     written_vectors();
+    written_widths();
+    room_of_widths();
     vectors_there_and_back();
     written_lists();
     joined_columns();

@@ -95,7 +95,7 @@ extern "C" {
     ) -> u64;
 
     fn bruncadorza_read_vector(
-        bytes: *const u8, bytes_n: usize,
+        bytes: *const u8, bytes_n: usize, width: usize,
         numbers: *mut u64, numbers_n: usize, missing: *mut u8, missing_n: usize, phased: *mut u8, phased_n: usize,
         values: &mut [u64; VALUES],
     ) -> u64;
@@ -402,6 +402,7 @@ pub(crate) fn list_genotypes(ploidy: u64, alleles: u64, row: &mut [u64]) -> Told
 
 pub(crate) fn read_vector(
     bytes: &[u8],
+    width: usize,
     numbers: &mut [u64],
     missing: &mut [u8],
     phased: &mut [u8],
@@ -410,6 +411,7 @@ pub(crate) fn read_vector(
         bruncadorza_read_vector(
             bytes.as_ptr(),
             bytes.len(),
+            width,
             numbers.as_mut_ptr(),
             numbers.len(),
             missing.as_mut_ptr(),

@@ -194,18 +194,30 @@ fn a_wrong_answer_is_seen() {
         ("genotypes 9 1 0", "17 -"),
         ("genotypecount 2 3", "0 5"),
         ("genotypecount 9 1", "0 1"),
-        ("bcfread 2 0281", "0 2 0:0:0 7:7:7"),
-        ("bcfread 2 0381", "0 1 0:0:0 7:7:7"),
-        ("bcfread 2 0081", "0 1 0:0:0 7:7:7"),
-        ("bcfread 1 81", "0 0 7:7:7"),
-        ("bcfread 0 80", "17 -"),
-        ("bcfread 1 0204", "17 0:0:0"),
-        ("bcfwrite 2 2 0 1:0:0", "0 1 04ee"),
-        ("bcfwrite 2 2 0 1:0:0", "0 2 0481ee"),
+        ("bcfread 1 2 0281", "0 2 0:0:0 7:7:7"),
+        ("bcfread 1 2 0381", "0 1 0:0:0 7:7:7"),
+        ("bcfread 1 2 0081", "0 1 0:0:0 7:7:7"),
+        ("bcfread 1 1 81", "0 0 7:7:7"),
+        ("bcfread 1 0 80", "17 -"),
+        ("bcfread 1 1 0204", "17 0:0:0"),
+        ("bcfread 2 1 0002", "0 1 0:0:0"),
+        ("bcfread 2 2 02008181", "0 1 0:0:0 7:7:7"),
+        ("bcfread 2 1 020001", "0 1 0:0:0"),
+        ("bcfread 4 1 02000000", "26 7:7:7"),
+        ("bcfread 3 1 020000", "26 7:7:7"),
+        ("bcfwrite 2 2 0 1:0:0", "0 2 0481"),
+        ("bcfwrite 2 2 0 1:0:0", "0 1 1 04ee"),
+        ("bcfwrite 2 2 0 1:0:0", "0 1 2 0481ee"),
+        ("bcfwrite 1 2 0 63:0:0", "0 1 1 80ee"),
+        ("bcfwrite 1 2 0 63:0:0", "0 2 1 8000"),
+        ("bcfwrite 1 2 0 63:0:0", "0 2 2 0080"),
+        ("bcfwrite 1 2 0 63:0:0", "24 eeee"),
+        ("bcfwrite 1 4 0 63:0:0", "0 4 4 80000000"),
+        ("bcfwrite 9223372036854775808 1 1 63:0:0", "0 2 0 ee"),
         ("bcfwrite 0 1 0 -", "25 ee"),
         ("bcfwrite 1 1 0 1:1:0", "12 1 ee"),
-        ("bcfwrite 1 1 0 62:0:0", "24 ee"),
-        ("bcfwrite 0 1 0 63:0:0", "25 ee"),
+        ("bcfwrite 1 4 0 1073741822:0:0", "24 eeeeeeee"),
+        ("bcfwrite 0 1 0 1073741823:0:0", "25 ee"),
         ("bcfwrite 0 0 0 1:0:0", "17 -"),
         ("bcfwrite 18446744073709551615 1 1 1:0:0", "6 ee"),
         ("filters 1 0 - -", "0 1 2f"),
@@ -309,8 +321,14 @@ fn unequal_slices_hold_no_vector() {
     for (n, m, p) in [(0, 1, 0), (1, 0, 0), (2, 2, 1), (2, 1, 2), (1, 2, 2)] {
         let given = (vec![7; n], vec![7; m], vec![7; p]);
         let mut row = given.clone();
-        let read = bcf::read_vector(b"\x80", &mut row.0, &mut row.1, &mut row.2);
-        assert_eq!((read, read.number()), (bcf::Read::Lengths, 16));
+        for width in [1, 2, 4] {
+            let read = bcf::read_vector(b"\x80", width, &mut row.0, &mut row.1, &mut row.2);
+            assert_eq!((read, read.number()), (bcf::Read::Lengths, 16));
+        }
+        for width in [0, 3, 5, 8, 1 << 32 | 1, usize::MAX] {
+            let read = bcf::read_vector(b"\x80", width, &mut row.0, &mut row.1, &mut row.2);
+            assert_eq!((read, read.number()), (bcf::Read::Unknown, 27));
+        }
         assert_eq!(row, given);
         let mut out = [0xEE; 2];
         let written = bcf::write_vector(&row.0, &row.1, &row.2, 2, &mut out, 0);
@@ -402,7 +420,7 @@ fn answer(words: &[&str]) -> String {
         ["genotypecount", ploidy, alleles] => {
             said_numbered(numbering::count_of(number(ploidy), number(alleles)))
         }
-        ["bcfread", row, s] => read_vector(size(row), &bytes(s)),
+        ["bcfread", width, row, s] => read_vector(size(width), size(row), &bytes(s)),
         ["bcfwrite", entries, room, at, ref list @ ..] => {
             write_vector(size(entries), size(room), size(at), list)
         }
@@ -996,54 +1014,80 @@ fn list_all(ploidy: u64, alleles: u64, room: usize) -> String {
 
 // Vectors
 
-fn read_vector(room: usize, s: &[u8]) -> String {
+fn read_vector(width: usize, room: usize, s: &[u8]) -> String {
     let (mut numbers, mut missing, mut phased) = (vec![7; room], vec![7; room], vec![7; room]);
-    let read = bcf::read_vector(s, &mut numbers, &mut missing, &mut phased);
+    let read = bcf::read_vector(s, width, &mut numbers, &mut missing, &mut phased);
     let count = match read {
         bcf::Read::Done(n) => {
-            let mut out = vec![0xEE; s.len()];
-            let written = bcf::write_vector(
-                &numbers[..n],
-                &missing[..n],
-                &phased[..n],
-                s.len(),
-                &mut out,
-                0,
-            );
-            assert_eq!((written, &out[..]), (bcf::Write::Done(s.len()), s));
+            held_by_vector_writer(width, s, &numbers[..n], &missing[..n], &phased[..n]);
             Some(n)
         }
-        bcf::Read::Lengths | bcf::Read::Short | bcf::Read::Bad => None,
+        bcf::Read::Lengths | bcf::Read::Short | bcf::Read::Bad | bcf::Read::Unknown => None,
     };
     let rows = (0..room).map(|i| (numbers[i], missing[i], phased[i]));
     format!("{} {}", said(read.number(), count), rows_of(rows))
+}
+
+/// Writes a list that was read: the same bytes, or a smaller width, and then the same list is read again.
+fn held_by_vector_writer(width: usize, s: &[u8], numbers: &[u64], missing: &[u8], phased: &[u8]) {
+    let mut out = vec![0xEE; s.len()];
+    let written = bcf::write_vector(numbers, missing, phased, s.len() / width, &mut out, 0);
+    let smallest = smallest_width(numbers);
+    let bytes = s.len() / width * smallest;
+    let expected = bcf::Write::Done {
+        width: smallest,
+        bytes,
+    };
+    assert_eq!(written, expected);
+    assert!(smallest <= width);
+    if smallest == width {
+        assert_eq!(out, s);
+    }
+    held_by_vector_reader(smallest, &out[..bytes], numbers, missing, phased);
+}
+
+/// The smallest width whose entries hold every number.
+fn smallest_width(numbers: &[u64]) -> usize {
+    match numbers.iter().max() {
+        Some(16383..) => 4,
+        Some(63..) => 2,
+        _ => 1,
+    }
 }
 
 fn write_vector(entries: usize, room: usize, at: usize, words: &[&str]) -> String {
     let (numbers, missing, phased) = slices_of(words);
     let mut out = vec![0xEE; room];
     let written = bcf::write_vector(&numbers, &missing, &phased, entries, &mut out, at);
-    let value = match written {
-        bcf::Write::Done(n) => {
-            held_by_vector_reader(&out[at..at + n], &numbers, &missing, &phased);
-            Some(n)
+    let number = written.number();
+    let answer = match written {
+        bcf::Write::Done { width, bytes } => {
+            assert_eq!(width, smallest_width(&numbers));
+            held_by_vector_reader(width, &out[at..at + bytes], &numbers, &missing, &phased);
+            format!("{number} {width} {bytes}")
         }
-        bcf::Write::Bad(n) => Some(n),
+        bcf::Write::Bad(n) => said(number, Some(n)),
         bcf::Write::Beyond
         | bcf::Write::Empty
         | bcf::Write::Lengths
         | bcf::Write::Short
         | bcf::Write::Large
-        | bcf::Write::Long => None,
+        | bcf::Write::Long => said(number, None),
     };
-    format!("{} {}", said(written.number(), value), hex(&out))
+    format!("{answer} {}", hex(&out))
 }
 
 /// Reads a vector that was written: its alleles are those that were given.
-fn held_by_vector_reader(vector: &[u8], numbers: &[u64], missing: &[u8], phased: &[u8]) {
+fn held_by_vector_reader(
+    width: usize,
+    vector: &[u8],
+    numbers: &[u64],
+    missing: &[u8],
+    phased: &[u8],
+) {
     let n = numbers.len();
     let mut row = (vec![7; n], vec![7; n], vec![7; n]);
-    let read = bcf::read_vector(vector, &mut row.0, &mut row.1, &mut row.2);
+    let read = bcf::read_vector(vector, width, &mut row.0, &mut row.1, &mut row.2);
     let marks = |given: &[u8]| given.iter().map(|&mark| u8::from(mark != 0)).collect();
     assert_eq!(read, bcf::Read::Done(n));
     assert_eq!(row, (numbers.to_vec(), marks(missing), marks(phased)));

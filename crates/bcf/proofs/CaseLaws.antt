@@ -14,6 +14,10 @@ module _ {x : Read} where
   unfolding readPaper
   read-done e = rw e
 
+  pub read-unknown : x ≡ R.Unknown → readPaper x ≡ says 27 []
+  unfolding readPaper
+  read-unknown e = rw e
+
   pub read-lengths : x ≡ R.Lengths → readPaper x ≡ says 16 []
   unfolding readPaper
   read-lengths e = rw e
@@ -27,7 +31,7 @@ module _ {x : Read} where
   read-short e = rw e
 
 module _ {x : Write} where
-  pub write-done : {n : ℕ} → x ≡ W.Done n → writePaper x ≡ says 0 (n ∷ [])
+  pub write-done : {w n : ℕ} → x ≡ W.Done w n → writePaper x ≡ says 0 (w ∷ n ∷ [])
   unfolding writePaper
   write-done e = rw e
 
@@ -59,4 +63,4 @@ module _ {x : Write} where
   unfolding writePaper
   write-short e = rw e
 
-pub ruleset cases = (read-done, read-lengths, read-bad, read-short, write-done, write-beyond, write-lengths, write-empty, write-bad, write-large, write-long, write-short)
+pub ruleset cases = (read-done, read-unknown, read-lengths, read-bad, read-short, write-done, write-beyond, write-lengths, write-empty, write-bad, write-large, write-long, write-short)

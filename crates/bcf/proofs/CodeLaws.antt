@@ -3,32 +3,55 @@ use Prim.Native.Nat.{ℕ, _+_, _-_, _*_, _/_, _%_, _^_, _≤_, _<_}
 use mathlib.Core.Path.{_≡_, refl}
 use mathlib.Core.Bool.{Bool, true, false}
 use native.Mathlib.Omega.{arith}
+use native.Mathlib.Nat.{pow-le-pow-right}
 use lib.Dec.{eqb, ltb}
 use borrow.Author.Tests.{le-ltb, eq-eqb, ne-eqb, ltb-true, ltb-false, eqb-true, eqb-false}
 use Rattle.text.specs.Pick.{pick, oneIf}
 use Rattle.allele.specs.declared.allele.Allele.{Allele}
-use Rattle.bcf.specs.Layout.{Width, w8, w16, w32, size, padding, largest, codeOf, Codable}
+use Rattle.bcf.specs.Layout.{size, padding, largest, codeOf, Codable}
+use Rattle.bcf.specs.declared.width.Width.{Width}
+use Rattle.bcf.specs.declared.width.Width.the-variants.{W8, W16, W32}
 use Rattle.bcf.specs.Reading.{negative, alleleBy}
 
 -- ---- the widths
 
+pub size-some : (w : Width) → 0 < size w
+unfolding size
+size-some W8 = omega arith
+size-some W16 = omega arith
+size-some W32 = omega arith
+
 pub padding-is : (w : Width) → padding w ≡ negative w + 1
 unfolding padding negative
-padding-is w8 = refl
-padding-is w16 = refl
-padding-is w32 = refl
+padding-is W8 = refl
+padding-is W16 = refl
+padding-is W32 = refl
 
 pub largest-is : (w : Width) → negative w ≡ 2 * (largest w + 2)
 unfolding largest negative
-largest-is w8 = refl
-largest-is w16 = refl
-largest-is w32 = refl
+largest-is W8 = refl
+largest-is W16 = refl
+largest-is W32 = refl
+
+-- half of all values are negative
+sign-bit : (w : Width) → 2 * negative w ≡ 256 ^ size w
+unfolding size negative
+sign-bit W8 = refl
+sign-bit W16 = refl
+sign-bit W32 = refl
 
 pub negative-fits : (w : Width) → negative w + 1 < 256 ^ size w
-unfolding size negative
-negative-fits w8 = omega arith
-negative-fits w16 = omega arith
-negative-fits w32 = omega arith
+negative-fits w = let n = largest-is w in let s = sign-bit w in omega arith
+
+-- a wider entry holds more
+pub wider-holds : (u w : Width) → size u ≤ size w → largest u ≤ largest w
+wider-holds u w h =
+    let p : 256 ^ size u ≤ 256 ^ size w = pow-le-pow-right (omega arith) h in
+    let m = largest-is u in
+    let n = largest-is w in
+    let s = sign-bit u in
+    let t = sign-bit w in
+    omega arith
 
 -- ---- an allele's code, and back
 

@@ -7,11 +7,11 @@ pub determined : Determined
 determined =
     record {
       read-vector =
-          λ w v n m p r r′ n₁ n₂ m₁ m₂ p₁ p₂ u k. (
+          λ b v n m p r r′ n₁ n₂ m₁ m₂ p₁ p₂ u k. (
             read-paper-injective r r′ (u .answer ∙ sym (k .answer)),
             u .numbers ∙ sym (k .numbers),
             u .missing ∙ sym (k .missing),
             u .phased ∙ sym (k .phased),
           );
-      write-vector = λ w n m p k out at r r′ l l′ u v. (write-paper-injective r r′ (u .answer ∙ sym (v .answer)), u .output ∙ sym (v .output));
+      write-vector = λ n m p k out at r r′ l l′ u v. (write-paper-injective r r′ (u .answer ∙ sym (v .answer)), u .output ∙ sym (v .output));
     }

@@ -1,18 +1,20 @@
 -- Entries and their bytes, the lowest first, both ways, over any width. Assumes nothing.
 use Prim.Native.Nat.{ℕ, zero, suc, _+_, _*_, _/_, _%_, _^_, _<_}
-use mathlib.Core.Path.{_≡_, refl, ap, _∙_, subst}
-use mathlib.Core.List.{List, [], _∷_, _++_}
+use mathlib.Core.Path.{_≡_, refl, sym, ap, _∙_, subst}
+use mathlib.Core.List.{List, [], _∷_, _++_, append-assoc}
 use native.Mathlib.Omega.{arith}
-use native.Mathlib.Nat.{pow-succ', suc-mul, zero-mul, le-of-suc-le-suc}
+use native.Mathlib.Nat.{pow-succ', suc-mul, zero-mul, le-of-suc-le-suc, mul-div-cancel}
 use lib.ListN.{length, getD, take, drop, length-append, length-drop, take-append-drop}
 use lib.Seq.{take-at, drop-at, length-take-le}
-use Rattle.bcf.specs.Layout.{Width, w8, w16, w32, size, littleOf, bytesOf}
+use Rattle.bcf.specs.Layout.{size, littleOf, bytesOf}
+use Rattle.bcf.specs.declared.width.Width.{Width}
 use Rattle.bcf.specs.Reading.{numberBy, entriesFrom, entriesIn}
 use Rattle.bcf.specs.Demands.{Bytes, Whole}
+use Rattle.bcf.proofs.CodeLaws.{size-some}
 
 -- ---- one number
 
-little-length : (k c : ℕ) → length (littleOf k c) ≡ k
+pub little-length : (k c : ℕ) → length (littleOf k c) ≡ k
 unfolding littleOf
 little-length zero c = refl
 little-length (suc k) c = ap suc (little-length k (c / 256))
@@ -53,6 +55,11 @@ bytes-length w (e ∷ es) =
     let z = suc-mul (length es) (size w) in
     length-append (littleOf (size w) e) (bytesOf w es) ∙ omega arith
 
+pub bytes-append : (w : Width) (es fs : List ℕ) → bytesOf w (es ++ fs) ≡ bytesOf w es ++ bytesOf w fs
+unfolding bytesOf
+bytes-append w [] fs = refl
+bytes-append w (e ∷ es) fs = rw (bytes-append w es fs) (sym (append-assoc (littleOf (size w) e) (bytesOf w es) (bytesOf w fs)))
+
 entries-back : (w : Width) (es : List ℕ) → Fit w es → entriesFrom (size w) (length es) (bytesOf w es) ≡ es
 unfolding bytesOf entriesFrom
 entries-back w [] f = refl
@@ -61,10 +68,7 @@ entries-back w (e ∷ es) (more h f) =
     (take-at (littleOf (size w) e) (bytesOf w es) (size w) (little-length (size w) e), drop-at (littleOf (size w) e) (bytesOf w es) (size w) (little-length (size w) e), little-number (size w) e h, entries-back w es f)
 
 pub count-is : (w : Width) (n : ℕ) → n * size w / size w ≡ n
-unfolding size
-count-is w8 n = omega arith
-count-is w16 n = omega arith
-count-is w32 n = omega arith
+count-is w n = mul-div-cancel n (size-some w)
 
 -- the entries of bytes that some were written as are these
 pub entries-are : (w : Width) (es : List ℕ) → Fit w es → entriesIn w (bytesOf w es) ≡ es

@@ -1,6 +1,6 @@
--- Which bytes lay out no list, in the rules' words: of coded entries those before the list's length are codes and those behind it padding;
--- entries that are no vector have something else at or behind the first that is negative. Assumes nothing.
-use Prim.Native.Nat.{ℕ, zero, suc, _+_, _≤_, _<_}
+-- Which bytes lay out no list, in the rules' words: vectors are whole entries; of coded ones those before the list's length are codes and
+-- those behind it padding; other entries have something else at or behind the first that is negative. Assumes nothing.
+use Prim.Native.Nat.{ℕ, zero, suc, _+_, _*_, _/_, _≤_, _<_}
 use mathlib.Core.Path.{_≡_, refl, ap, _∙_}
 use mathlib.Core.Bool.{Bool, true, false, _&&_, and-eq-true-iff}
 use mathlib.Core.List.{List, [], _∷_}
@@ -14,12 +14,13 @@ use borrow.Author.Tests.{lt-ltb, eqb-true, eqb-false, ltb-false}
 use Rattle.text.specs.Pick.{pick}
 use Rattle.text.proofs.SameLaws.{same-self}
 use Rattle.allele.specs.declared.allele.Allele.{Allele}
-use Rattle.bcf.specs.Layout.{Width, padding, Coded, end, pad, code, Lays}
+use Rattle.bcf.specs.Layout.{size, padding, Coded, end, pad, code, Lays}
+use Rattle.bcf.specs.declared.width.Width.{Width}
 use Rattle.bcf.specs.Reading.{negative, entriesIn, codesIn, onlyPadding, isVector, readable}
-use Rattle.bcf.specs.Demands.{Whole, Faulty, no-code, below-zero, behind, Faults}
+use Rattle.bcf.specs.Demands.{Whole, Faulty, no-code, below-zero, behind, Broken, left-over, faulty, Faults}
 use Rattle.bcf.proofs.CodeLaws.{padding-is, code-small}
-use Rattle.bcf.proofs.EntryLaws.{whole}
-use Rattle.bcf.proofs.LayoutLaws.{lays-entries, readable-lays}
+use Rattle.bcf.proofs.EntryLaws.{count-is, whole}
+use Rattle.bcf.proofs.LayoutLaws.{lays-length, lays-entries, readable-lays}
 use Rattle.bcf.proofs.VectorLaws.{coded-few}
 
 -- ---- coded entries have no fault
@@ -122,8 +123,13 @@ no-vector-faulty w es e = by (onlyPadding w (drop c es)) refl
 
 pub faults : Faults
 unfolding Faults Whole readable
-faults w n v b e = (λ f as′ m l. faultless (l .some) (l .coded) (rw (lays-entries l) at f), λ none. by (isVector w (entriesIn w v)) refl none)
+faults w v b = (λ f as′ n l. unbroken l f, λ none. broken none (ℕ-discrete (length v) (length v / size w * size w)) (isVector w (entriesIn w v)) refl)
   where
-    by : (t : Bool) → isVector w (entriesIn w v) ≡ t → ((as′ : List Allele) (m : ℕ) → Lays w as′ m v → ⊥) → Faulty w (entriesIn w v)
-    by true q none = absurd (none _ _ (readable-lays w v (rw (whole w n v b e, same-self v) q)))
-    by false q none = no-vector-faulty w (entriesIn w v) q
+    unbroken : {as′ : List Allele} {n : ℕ} → Lays w as′ n v → Broken w v → ⊥
+    unbroken {n = n} l (left-over o) = o n (lays-length l)
+    unbroken l (faulty n e f) = faultless (l .some) (l .coded) (rw (lays-entries l) at f)
+
+    broken : ((as′ : List Allele) (n : ℕ) → Lays w as′ n v → ⊥) → Dec (length v ≡ length v / size w * size w) → (t : Bool) → isVector w (entriesIn w v) ≡ t → Broken w v
+    broken none (no z) t q = left-over (λ n e. z (rw (e, count-is w n)))
+    broken none (yes e) true q = absurd (none _ _ (readable-lays w v (rw (whole w _ v b e, same-self v) q)))
+    broken none (yes e) false q = faulty _ e (no-vector-faulty w (entriesIn w v) q)

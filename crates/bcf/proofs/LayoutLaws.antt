@@ -11,7 +11,8 @@ use borrow.Author.Tests.{lt-ltb, eq-eqb, ltb-true, ltb-false, eqb-true}
 use Rattle.text.specs.Same.{same}
 use Rattle.text.proofs.SameLaws.{same-self, same-is}
 use Rattle.allele.specs.declared.allele.Allele.{Allele}
-use Rattle.bcf.specs.Layout.{Width, size, padding, codeOf, bytesOf, Coded, end, pad, code, Lays}
+use Rattle.bcf.specs.Layout.{size, padding, codeOf, bytesOf, Coded, end, pad, code, Lays}
+use Rattle.bcf.specs.declared.width.Width.{Width}
 use Rattle.bcf.specs.Reading.{negative, alleleBy, entriesIn, codesIn, listIn, onlyPadding, isVector, readable, listRead}
 use Rattle.bcf.specs.Demands.{OneList, OneVector}
 use Rattle.bcf.proofs.CodeLaws.{padding-is, negative-fits, back, code-small, allele-codable, forth}

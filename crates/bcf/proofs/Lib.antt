@@ -1,13 +1,17 @@
 pub mod CodeLaws
 pub mod ReadingLaws
 pub mod EntryLaws
+pub mod WidthLaws
+pub mod PlaceLaws
 pub mod LayoutLaws
 pub mod ReadLaws
+pub mod MostLaws
 pub mod WriteLaws
 pub mod CaseLaws
 pub mod PaperLaws
 pub mod Determined
 pub mod VectorLaws
+pub mod SmallestLaws
 pub mod Faults
 pub mod MeetsReading
 pub mod MeetsWriting

@@ -1,9 +1,11 @@
 -- Our reader over the definitions reads exactly what is laid out, and what is asked leaves one reader: bytes are readable exactly where they
--- lay out a list. Assumes nothing.
+-- lay out a list; a reader that is told the width is one of these, or told none. Assumes nothing.
 use Prim.Native.Nat.{ℕ, _≤_, _<_}
 use mathlib.Core.Path.{_≡_, refl, sym, ap, _∙_}
 use mathlib.Core.Bool.{Bool, true, false, false≢true}
 use mathlib.Core.List.{List, [], _∷_}
+use mathlib.Core.Option as O
+use mathlib.Core.Option.{Option}
 use native.Mathlib.Omega.{arith}
 use native.Mathlib.Decide.{ℕ-discrete, decLe}
 use lib.ListN.{length}
@@ -14,10 +16,12 @@ use Rattle.text.proofs.OutcomeLaws.{alike}
 use Rattle.allele.specs.declared.allele.Allele.{Allele}
 use Rattle.genotype.specs.Demands.{Reader, Untouched}
 use Rattle.genotype.proofs.Refusals.{one-outcome}
-use Rattle.bcf.specs.Layout.{Width, Lays}
-use Rattle.bcf.specs.Reading.{readable, listRead, vectorAnswer}
-use Rattle.bcf.specs.Demands.{reader, WasRead, NotRead, bad, short, MeetsReading, OneReader}
+use Rattle.bcf.specs.Layout.{size, Lays}
+use Rattle.bcf.specs.declared.width.Width.{Width}
+use Rattle.bcf.specs.Reading.{readable, listRead, vectorAnswer, widthBy}
+use Rattle.bcf.specs.Demands.{reader, WasRead, NotRead, bad, short, MeetsReading, OneReader, toldBy, told, MeetsTold, OneTold}
 use Rattle.bcf.proofs.LayoutLaws.{lays-readable, readable-lays, lays-read}
+use Rattle.bcf.proofs.SmallestLaws.{width-by, by-width, by-none}
 
 -- ---- the three answers
 
@@ -95,3 +99,17 @@ one-reader w read other m m′ v row = alike (m .refusals v row) (m′ .refusals
         let o = m′ .reads v row z′ in
         let e = o .only (r .list) (r .entries) (r .lays) in
         one-outcome _ _ (r .count ∙ rw e (sym (o .count))) (r .holds ∙ rw e (sym (o .holds)))
+
+-- ---- told the width
+
+pub meets-told : MeetsTold told
+unfolding told toldBy
+meets-told = record { known = λ w. rw (width-by w) (meets-reading w); unknown = λ b n v row. rw (by-none b .1 n) }
+
+pub one-told : OneTold
+unfolding OneTold OneReader
+one-told read other m m′ b v row = by (widthBy b) refl
+  where
+    by : (o : Option Width) → widthBy b ≡ o → read b v row ≡ other b v row
+    by (O.some w) e = rw (by-width b w e) (one-reader w (read (size w)) (other (size w)) (m .known w) (m′ .known w) v row)
+    by O.none e = let n = by-none b .0 e in m .unknown b n v row ∙ sym (m′ .unknown b n v row)

@@ -12,12 +12,13 @@ use Rattle.bcf.specs.declared.write.Write.{Write}
 use Rattle.bcf.specs.declared.write.Write.the-variants as W
 
 readOf : Answer → Read
-readOf (says n []) = pick (eqb n 16) R.Lengths (pick (eqb n 26) R.Bad R.Short)
+readOf (says n []) = pick (eqb n 27) R.Unknown (pick (eqb n 16) R.Lengths (pick (eqb n 26) R.Bad R.Short))
 readOf (says n (v ∷ vs)) = R.Done v
 
 read-back : (x : Read) → readOf (readPaper x) ≡ x
 unfolding readOf readPaper
 read-back (R.Done n) = refl
+read-back R.Unknown = refl
 read-back R.Lengths = refl
 read-back R.Bad = refl
 read-back R.Short = refl
@@ -28,11 +29,12 @@ read-paper-injective = LeftInverse·injective readOf readPaper read-back
 writeOf : Answer → Write
 writeOf (says n []) =
     pick (eqb n 6) W.Beyond (pick (eqb n 16) W.Lengths (pick (eqb n 11) W.Empty (pick (eqb n 24) W.Large (pick (eqb n 25) W.Long W.Short))))
-writeOf (says n (v ∷ vs)) = pick (eqb n 0) (W.Done v) (W.Bad v)
+writeOf (says n (v ∷ [])) = W.Bad v
+writeOf (says n (w ∷ v ∷ vs)) = W.Done w v
 
 write-back : (x : Write) → writeOf (writePaper x) ≡ x
 unfolding writeOf writePaper
-write-back (W.Done n) = refl
+write-back (W.Done w n) = refl
 write-back W.Beyond = refl
 write-back W.Lengths = refl
 write-back W.Empty = refl

@@ -1,102 +1,124 @@
--- Reading, over any width: the codes still to count stand for all of them, and what is left to store lies over what stands; then, at 8 bits,
--- the answer. Assumes nothing.
-use Prim.Native.Nat.{ℕ, _+_, _-_, _*_, _/_, _%_, _≤_, _<_, zero-le}
+-- Reading, over any width: the codes still to count stand for all of them, and what is left to store lies over what stands; then the answer,
+-- of a width that is known and of one that is told. Assumes nothing.
+use Prim.Native.Nat.{ℕ, _+_, _-_, _/_, _%_, _≤_, _<_, zero-le}
 use mathlib.Core.Path.{_≡_, refl, sym, ap, _∙_}
-use mathlib.Core.Bool.{Bool, true, false, _&&_, and-false}
+use mathlib.Core.Bool.{Bool, true, false, and-false}
 use mathlib.Core.List.{List, [], _∷_}
 use native.Mathlib.Omega.{arith}
-use native.Mathlib.Nat.{zero-add, div-one}
+use native.Mathlib.Nat.{zero-add, mul-mod-left, div-add-mod'}
 use native.Mathlib.Numerals.{add-one}
 use lib.ListN.{length, getD, drop, set, length-set, drop-of-length-le}
 use lib.Dec.{leb}
 use borrow.Author.Tests.{lt-ltb, le-ltb, eq-eqb, ne-eqb, le-leb, lt-leb}
 use Rattle.text.specs.Pick.{pick, oneIf}
 use Rattle.text.specs.Same.{same}
-use Rattle.text.specs.Answer.{says, numberOf}
+use Rattle.text.specs.Answer.{Answer, says, numberOf}
 use Rattle.text.proofs.Lists.{here}
 use Rattle.text.proofs.CopyLaws.{laid-refused}
 use Rattle.text.proofs.SameLaws.{same-self}
 use Rattle.allele.specs.Row.{numbersOf, missingOf, phasedOf}
+use Rattle.allele.specs.declared.allele.Allele.{Allele}
 use Rattle.genotype.specs.Inner.{Room, Laid}
 use Rattle.genotype.proofs.AnswerLaws.{row-even, row-uneven-nm, row-uneven-np}
 use Rattle.genotype.proofs.LayLaws.{Column, column-first, column-turn, column-past, number, missing, phased}
-use Rattle.bcf.specs.Layout.{Width, w8, size, padding, littleOf, bytesOf}
-use Rattle.bcf.specs.Reading.{negative, alleleBy, numberBy, entriesFrom, entriesIn, codesIn, listIn, onlyPadding, isVector, readable, listRead, vectorAnswer, slicesAnswer, ReadsVector}
+use Rattle.bcf.specs.Layout.{size, padding, bytesOf}
+use Rattle.bcf.specs.Reading.{negative, alleleBy, entriesIn, codesIn, onlyPadding, isVector, readable, listRead, vectorAnswer, slicesAnswer, widthBy, toldAnswer, toldList, ReadsAs, ReadsVector, ReadsTold}
 use Rattle.bcf.specs.Inner.{Fillable}
 use Rattle.bcf.specs.Paper.{readPaper}
+use Rattle.bcf.specs.Demands.{Bytes, Whole}
+use Rattle.bcf.specs.declared.width.Width.{Width}
+use Rattle.bcf.specs.declared.width.Width.the-variants.{W8, W16, W32}
 use Rattle.bcf.specs.declared.read.Read.{Read}
 use Rattle.bcf.specs.declared.read.Read.the-variants as R
 use Rattle.bcf.proofs.ReadingLaws.{codes-none, codes-more, codes-stop, codes-few, list-length, list-here}
-use Rattle.bcf.proofs.EntryLaws.{Fit, none, more}
-use Rattle.bcf.proofs.LayoutLaws.{coded-fit, vector-coded}
+use Rattle.bcf.proofs.EntryLaws.{whole}
+use Rattle.bcf.proofs.PlaceLaws.{entries-length}
+use Rattle.bcf.proofs.LayoutLaws.{readable-lays, lays-length}
 
 -- ---- the codes
 
-pub record Counting (w : Width) (es : List ℕ) (i : ℕ) : Type 0 where
-  pub within : i ≤ length es
-  pub same : i + length (codesIn w (drop i es)) ≡ length (codesIn w es)
+-- n entries, of which those from b on are negative
+pub record Counting (w : Width) (v : List ℕ) (n b i : ℕ) : Type 0 where
+  pub all : n ≡ length v / size w
+  pub bound : b ≡ negative w
+  pub within : i ≤ n
+  pub same : i + length (codesIn w (drop i (entriesIn w v))) ≡ length (codesIn w (entriesIn w v))
 
-pub count-first : {w : Width} {es : List ℕ} → Counting w es 0
-count-first = record { within = zero-le; same = zero-add _ }
+pub count-first : {w : Width} {v : List ℕ} {n b : ℕ} → n ≡ length v / size w → b ≡ negative w → Counting w v n b 0
+count-first e f = record { all = e; bound = f; within = zero-le; same = zero-add _ }
 
-module _ {w : Width} {es : List ℕ} {i : ℕ} (g : Counting w es i) where
-  count-turn : i < length es → getD es i 0 < negative w → Counting w es (i + 1)
-  count-turn h l =
-      let e = ap (λ (s : List ℕ). length (codesIn w s)) (here es i h) ∙ ap length (codes-more w (getD es i 0) (drop (i + 1) es) l) in
-      let s = g .same in
-      record { within = omega arith; same = omega arith }
+module _ {w : Width} {v : List ℕ} {n b i : ℕ} (g : Counting w v n b i) where
+  module _ (h : i < n) where
+    pub count-within : i < length v / size w
+    count-within = let a = g .all in omega arith
 
-  count-stop : i < length es → negative w ≤ getD es i 0 → i ≡ length (codesIn w es)
-  count-stop h l =
-      let e = ap (λ (s : List ℕ). length (codesIn w s)) (here es i h) ∙ ap length (codes-stop w (getD es i 0) (drop (i + 1) es) l) in
-      let s = g .same in
-      omega arith
+    inside : i < length (entriesIn w v)
+    inside = let a = g .all in let l = entries-length w v in omega arith
 
-  pub count-past : length es ≤ i → i ≡ length (codesIn w es)
+    module _ {x : ℕ} (e : x ≡ getD (entriesIn w v) i 0) where
+      pub count-turn : x < b → Counting w v n b (i + 1)
+      count-turn l =
+          let f = g .bound in
+          let d = ap (λ (s : List ℕ). length (codesIn w s)) (here (entriesIn w v) i inside) ∙ ap length (codes-more w (getD (entriesIn w v) i 0) (drop (i + 1) (entriesIn w v)) (omega arith)) in
+          let s = g .same in
+          record { all = g .all; bound = f; within = omega arith; same = omega arith }
+
+      pub count-stop : b ≤ x → i ≡ length (codesIn w (entriesIn w v))
+      count-stop l =
+          let f = g .bound in
+          let d = ap (λ (s : List ℕ). length (codesIn w s)) (here (entriesIn w v) i inside) ∙ ap length (codes-stop w (getD (entriesIn w v) i 0) (drop (i + 1) (entriesIn w v)) (omega arith)) in
+          let s = g .same in
+          omega arith
+
+  pub count-past : n ≤ i → i ≡ length (codesIn w (entriesIn w v))
   count-past h =
-      let e = ap (λ (s : List ℕ). length (codesIn w s)) (drop-of-length-le es {i = i} h) ∙ ap length (codes-none w) in
+      let a = g .all in
+      let l = entries-length w v in
+      let e = ap (λ (s : List ℕ). length (codesIn w s)) (drop-of-length-le (entriesIn w v) {i = i} (omega arith)) ∙ ap length (codes-none w) in
       let s = g .same in
       omega arith
-
-module _ {es : List ℕ} {i : ℕ} (g : Counting w8 es i) (h : i < length es) where
-  pub count-turn-8 : getD es i 0 < 128 → Counting w8 es (i + 1)
-  unfolding negative
-  count-turn-8 l = count-turn g h l
-
-  pub count-stop-8 : 128 ≤ getD es i 0 → i ≡ length (codesIn w8 es)
-  unfolding negative
-  count-stop-8 l = count-stop g h l
 
 -- ---- the padding
 
-pub record Padded (w : Width) (es : List ℕ) (from i : ℕ) : Type 0 where
-  pub within : i ≤ length es
-  pub same : onlyPadding w (drop i es) ≡ onlyPadding w (drop from es)
+-- n entries, of which those that are b are padding
+pub record Padded (w : Width) (v : List ℕ) (n b from i : ℕ) : Type 0 where
+  pub all : n ≡ length v / size w
+  pub pads : b ≡ padding w
+  pub within : i ≤ n
+  pub same : onlyPadding w (drop i (entriesIn w v)) ≡ onlyPadding w (drop from (entriesIn w v))
 
-pub pad-first : {w : Width} {es : List ℕ} {from : ℕ} → from ≤ length es → Padded w es from from
-pad-first h = record { within = h; same = refl }
+pub pad-first : {w : Width} {v : List ℕ} {n b from : ℕ} → from ≤ length (entriesIn w v) → n ≡ length v / size w → b ≡ padding w → Padded w v n b from from
+pad-first {w} {v} h e f = record { all = e; pads = f; within = let l = entries-length w v in omega arith; same = refl }
 
-module _ {w : Width} {es : List ℕ} {from i : ℕ} (g : Padded w es from i) where
-  pad-turn : i < length es → getD es i 0 ≡ padding w → Padded w es from (i + 1)
+module _ {w : Width} {v : List ℕ} {n b from i : ℕ} (g : Padded w v n b from i) where
+  module _ (h : i < n) where
+    pub pad-within : i < length v / size w
+    pad-within = let a = g .all in omega arith
+
+    entry : i < length (entriesIn w v)
+    entry = let a = g .all in let l = entries-length w v in omega arith
+
+    module _ {x : ℕ} (e : x ≡ getD (entriesIn w v) i 0) where
+      pub pad-turn : x ≡ b → Padded w v n b from (i + 1)
+      unfolding onlyPadding
+      pad-turn f =
+          record {
+            all = g .all;
+            pads = g .pads;
+            within = omega arith;
+            same = rw (here (entriesIn w v) i entry, eq-eqb (getD (entriesIn w v) i 0) (padding w) (sym e ∙ f ∙ g .pads)) at (g .same);
+          }
+
+      pub pad-stop : (x ≡ b → ⊥) → false ≡ onlyPadding w (drop from (entriesIn w v))
+      unfolding onlyPadding
+      pad-stop f = rw (here (entriesIn w v) i entry, ne-eqb (getD (entriesIn w v) i 0) (padding w) (λ q. f (e ∙ q ∙ sym (g .pads)))) at (g .same)
+
+  pub pad-past : n ≤ i → true ≡ onlyPadding w (drop from (entriesIn w v))
   unfolding onlyPadding
-  pad-turn h e = record { within = omega arith; same = rw (here es i h, eq-eqb (getD es i 0) (padding w) e) at (g .same) }
-
-  pad-stop : i < length es → (getD es i 0 ≡ padding w → ⊥) → false ≡ onlyPadding w (drop from es)
-  unfolding onlyPadding
-  pad-stop h e = rw (here es i h, ne-eqb (getD es i 0) (padding w) e) at (g .same)
-
-  pub pad-past : length es ≤ i → true ≡ onlyPadding w (drop from es)
-  unfolding onlyPadding
-  pad-past h = rw (drop-of-length-le es {i = i} h) at (g .same)
-
-module _ {es : List ℕ} {from i : ℕ} (g : Padded w8 es from i) (h : i < length es) where
-  pub pad-turn-8 : getD es i 0 ≡ 129 → Padded w8 es from (i + 1)
-  unfolding padding
-  pad-turn-8 e = pad-turn g h e
-
-  pub pad-stop-8 : (getD es i 0 ≡ 129 → ⊥) → false ≡ onlyPadding w8 (drop from es)
-  unfolding padding
-  pad-stop-8 e = pad-stop g h e
+  pad-past h =
+      let a = g .all in
+      let l = entries-length w v in
+      rw (drop-of-length-le (entriesIn w v) {i = i} (omega arith)) at (g .same)
 
 -- ---- an entry
 
@@ -127,18 +149,18 @@ module _ (c : ℕ) where
 
 -- ---- filling
 
-pub record Filling (w : Width) (es n₀ m₀ p₀ n m p : List ℕ) (count k : ℕ) : Type 0 where
+pub record Filling (w : Width) (v n₀ m₀ p₀ n m p : List ℕ) (count k : ℕ) : Type 0 where
   pub within : k ≤ count
-  pub all : count ≡ length (codesIn w es)
+  pub all : count ≡ length (codesIn w (entriesIn w v))
   pub room : Room count n₀ m₀ p₀
   pub len-n : length n ≡ length n₀
   pub len-m : length m ≡ length m₀
   pub len-p : length p ≡ length p₀
-  pub numbers : Column number (listIn w es) (drop k (listIn w es)) n₀ n k
-  pub missings : Column missing (listIn w es) (drop k (listIn w es)) m₀ m k
-  pub phases : Column phased (listIn w es) (drop k (listIn w es)) p₀ p k
+  pub numbers : Column number (listRead w v) (drop k (listRead w v)) n₀ n k
+  pub missings : Column missing (listRead w v) (drop k (listRead w v)) m₀ m k
+  pub phases : Column phased (listRead w v) (drop k (listRead w v)) p₀ p k
 
-pub fill-first : {w : Width} {es n m p : List ℕ} {count : ℕ} → Fillable w es count n m p → Filling w es n m p n m p count 0
+pub fill-first : {w : Width} {v n m p : List ℕ} {count : ℕ} → Fillable w (entriesIn w v) count n m p → Filling w v n m p n m p count 0
 fill-first f =
     record {
       within = zero-le;
@@ -152,10 +174,10 @@ fill-first f =
       phases = column-first _ _ _;
     }
 
-module _ {w : Width} {es n₀ m₀ p₀ n m p : List ℕ} {count k : ℕ} (g : Filling w es n₀ m₀ p₀ n m p count k) where
+module _ {w : Width} {v n₀ m₀ p₀ n m p : List ℕ} {count k : ℕ} (g : Filling w v n₀ m₀ p₀ n m p count k) where
   module _ (h : k < count) where
-    pub fill-bytes : k < length es
-    fill-bytes = let a = g .all in let f = codes-few w es in omega arith
+    pub fill-within : k < length v / size w
+    fill-within = let a = g .all in let f = codes-few w (entriesIn w v) in let l = entries-length w v in omega arith
 
     pub fill-n : k < length n
     fill-n = let r = g .room .numbers in let e = g .len-n in omega arith
@@ -166,11 +188,12 @@ module _ {w : Width} {es n₀ m₀ p₀ n m p : List ℕ} {count k : ℕ} (g : F
     pub fill-p : k < length p
     fill-p = let r = g .room .phased in let e = g .len-p in omega arith
 
-    pub fill-turn : {d x y z : ℕ} → d ≡ getD es k 0 → x ≡ alleleBy d .number → y ≡ oneIf (alleleBy d .missing) → z ≡ oneIf (alleleBy d .phased)
-        → Filling w es n₀ m₀ p₀ (set n k x) (set m k y) (set p k z) count (k + 1)
+    pub fill-turn : {d x y z : ℕ} → d ≡ getD (entriesIn w v) k 0 → x ≡ alleleBy d .number → y ≡ oneIf (alleleBy d .missing) → z ≡ oneIf (alleleBy d .phased)
+        → Filling w v n₀ m₀ p₀ (set n k x) (set m k y) (set p k z) count (k + 1)
+    unfolding listRead
     fill-turn {d} i a b c =
         let q = g .all in
-        let e : drop k (listIn w es) ≡ alleleBy d ∷ drop (k + 1) (listIn w es) = rw (i, add-one) (list-here w es k (omega arith)) in
+        let e : drop k (listRead w v) ≡ alleleBy d ∷ drop (k + 1) (listRead w v) = rw (i, add-one) (list-here w (entriesIn w v) k (omega arith)) in
         rw (a, b, c)
         (record {
           within = omega arith;
@@ -193,109 +216,116 @@ module _ {w : Width} {es n₀ m₀ p₀ n m p : List ℕ} {count k : ℕ} (g : F
   pub fill-len-p : length p ≡ length p₀
   fill-len-p = g .len-p
 
-  pub fill-past : count ≤ k → Laid (listIn w es) n₀ m₀ p₀ n m p
-  unfolding numbersOf missingOf phasedOf
+  pub fill-past : count ≤ k → Laid (listRead w v) n₀ m₀ p₀ n m p
+  unfolding numbersOf missingOf phasedOf listRead
   fill-past h =
-      let d = list-length w es in
+      let d = list-length w (entriesIn w v) in
       let a = g .all in
       let r = g .room in
-      let e : drop k (listIn w es) ≡ [] = drop-of-length-le (listIn w es) {i = k} (omega arith) in
+      let e : drop k (listRead w v) ≡ [] = drop-of-length-le (listRead w v) {i = k} (omega arith) in
       record {
         numbers = column-past (rw e at (g .numbers)) (omega arith);
         missing = column-past (rw e at (g .missings)) (omega arith);
         phased = column-past (rw e at (g .phases)) (omega arith);
       }
 
--- ---- at 8 bits the bytes are the entries
-
-entries-one : (v : List ℕ) → entriesFrom 1 (length v) v ≡ v
-unfolding entriesFrom numberBy
-entries-one [] = refl
-entries-one (b ∷ v) = let e : b + 256 * 0 ≡ b = omega arith in rw (e, entries-one v)
-
-entries-8 : (v : List ℕ) → entriesIn w8 v ≡ v
-unfolding entriesIn size
-entries-8 v = rw (div-one (length v)) (entries-one v)
-
-pub bytes-8 : (es : List ℕ) → Fit w8 es → bytesOf w8 es ≡ es
-unfolding bytesOf littleOf size
-bytes-8 [] none = refl
-bytes-8 (e ∷ es) (more h f) = let c : e % 256 ≡ e = omega arith in rw (c, bytes-8 es f)
-
-readable-8 : (v : List ℕ) → readable w8 v ≡ isVector w8 v
-unfolding readable
-readable-8 v = rw (entries-8 v) (by (isVector w8 v) refl)
-  where
-    by : (t : Bool) → isVector w8 v ≡ t → same (bytesOf w8 v) v && t ≡ t
-    by true e = rw (bytes-8 v (coded-fit (vector-coded w8 v e)), same-self v)
-    by false e = and-false (same (bytesOf w8 v) v)
-
-list-8 : (v : List ℕ) → listRead w8 v ≡ listIn w8 v
-unfolding listRead
-list-8 v = rw (entries-8 v)
-
 -- ---- the answer
 
-module _ (v n m p : List ℕ) where
-  refused : {r : Read} → slicesAnswer w8 v n m p ≡ readPaper r → (numberOf (readPaper r) ≡ 0 → ⊥) → ReadsVector w8 v n m p r n m p
-  refused {r} e z =
-      record {
-        answer = sym e;
-        numbers = rw e (sym (laid-refused (readPaper r) (numbersOf (listRead w8 v)) n z));
-        missing = rw e (sym (laid-refused (readPaper r) (missingOf (listRead w8 v)) m z));
-        phased = rw e (sym (laid-refused (readPaper r) (phasedOf (listRead w8 v)) p z));
-      }
+module _ (w : Width) (v : List ℕ) where
+  readable-left : (length v % size w ≡ 0 → ⊥) → readable w v ≡ false
+  readable-left h = by (readable w v) refl
+    where
+      by : (t : Bool) → readable w v ≡ t → readable w v ≡ false
+      by true e = absurd (h (rw (lays-length (readable-lays w v e)) (mul-mod-left (length (entriesIn w v)) (size w))))
+      by false e = e
 
-  pub read-nm : (length n ≡ length m → ⊥) → ReadsVector w8 v n m p R.Lengths n m p
+  readable-none : isVector w (entriesIn w v) ≡ false → readable w v ≡ false
+  unfolding readable
+  readable-none e = rw e (and-false (same (bytesOf w (entriesIn w v)) v))
+
+  readable-whole : Bytes v → length v % size w ≡ 0 → readable w v ≡ isVector w (entriesIn w v)
+  unfolding readable Whole
+  readable-whole b e = let d = div-add-mod' (length v) (size w) in rw (whole w (length v / size w) v b (omega arith), same-self v)
+
+-- a refusal is given where it is due, and nothing is laid
+read-refused : {a : Answer} {as′ : List Allele} {n m p : List ℕ} {r : Read} → a ≡ readPaper r → (numberOf (readPaper r) ≡ 0 → ⊥) → ReadsAs a as′ n m p r n m p
+read-refused {as′ = as′} {n = n} {m = m} {p = p} {r = r} e z =
+    record {
+      answer = sym e;
+      numbers = rw e (sym (laid-refused (readPaper r) (numbersOf as′) n z));
+      missing = rw e (sym (laid-refused (readPaper r) (missingOf as′) m z));
+      phased = rw e (sym (laid-refused (readPaper r) (phasedOf as′) p z));
+    }
+
+module _ (w : Width) (v n m p : List ℕ) where
+  pub read-nm : (length n ≡ length m → ⊥) → ReadsVector w v n m p R.Lengths n m p
   unfolding readPaper
-  read-nm h = refused (row-uneven-nm n m p _ h) (λ z. omega arith)
+  read-nm h = read-refused (row-uneven-nm n m p _ h) (λ z. omega arith)
 
-  pub read-np : (length n ≡ length p → ⊥) → ReadsVector w8 v n m p R.Lengths n m p
+  pub read-np : (length n ≡ length p → ⊥) → ReadsVector w v n m p R.Lengths n m p
   unfolding readPaper
-  read-np h = refused (row-uneven-np n m p _ h) (λ z. omega arith)
+  read-np h = read-refused (row-uneven-np n m p _ h) (λ z. omega arith)
 
-  module _ (e : length n ≡ length m) (f : length n ≡ length p) {c : ℕ} (q : c ≡ length (codesIn w8 v)) where
-    bad : isVector w8 v ≡ false → ReadsVector w8 v n m p R.Bad n m p
+  module _ (e : length n ≡ length m) (f : length n ≡ length p) where
+    bad : readable w v ≡ false → ReadsVector w v n m p R.Bad n m p
     unfolding readPaper vectorAnswer
-    bad h = refused (row-even n m p _ e f ∙ rw (readable-8 v, h)) (λ z. omega arith)
+    bad h = read-refused (row-even n m p _ e f ∙ rw h) (λ z. omega arith)
 
-    pub read-none : c ≡ 0 → ReadsVector w8 v n m p R.Bad n m p
-    unfolding isVector
-    read-none h = bad (rw (le-ltb 0 (length (codesIn w8 v)) (omega arith)))
+    pub read-left : {x : ℕ} → x ≡ length v % size w → (x ≡ 0 → ⊥) → ReadsVector w v n m p R.Bad n m p
+    read-left i h = bad (readable-left w v (λ z. h (i ∙ z)))
 
-    pub read-within : c ≤ length v
-    read-within = let h = codes-few w8 v in omega arith
-
-    module _ (k : c ≡ 0 → ⊥) {r : Bool} (x : r ≡ onlyPadding w8 (drop c v)) where
-      is : isVector w8 v ≡ r
+    module _ {c : ℕ} (q : c ≡ length (codesIn w (entriesIn w v))) where
+      pub read-none : c ≡ 0 → ReadsVector w v n m p R.Bad n m p
       unfolding isVector
-      is = rw (lt-ltb 0 (length (codesIn w8 v)) (omega arith), ← q, ← x)
+      read-none h = bad (readable-none w v (rw (le-ltb 0 (length (codesIn w (entriesIn w v))) (omega arith))))
 
-      pub read-more : r ≡ false → ReadsVector w8 v n m p R.Bad n m p
-      read-more y = bad (is ∙ y)
+      pub read-within : c ≤ length (entriesIn w v)
+      read-within = let h = codes-few w (entriesIn w v) in omega arith
 
-      module _ (y : r ≡ true) where
-        vector : slicesAnswer w8 v n m p ≡ pick (leb c (length n)) (says 0 (c ∷ [])) (says 17 [])
-        unfolding vectorAnswer
-        vector = row-even n m p _ e f ∙ rw (readable-8 v, is, y, list-8 v, list-length w8 v, ← q)
+      module _ (k : c ≡ 0 → ⊥) {r : Bool} (x : r ≡ onlyPadding w (drop c (entriesIn w v))) where
+        is : isVector w (entriesIn w v) ≡ r
+        unfolding isVector
+        is = rw (lt-ltb 0 (length (codesIn w (entriesIn w v))) (omega arith), ← q, ← x)
 
-        pub read-short : length n < c → ReadsVector w8 v n m p R.Short n m p
-        unfolding readPaper
-        read-short h = refused (vector ∙ rw (lt-leb c (length n) h)) (λ z. omega arith)
+        pub read-more : r ≡ false → ReadsVector w v n m p R.Bad n m p
+        read-more y = bad (readable-none w v (is ∙ y))
 
-        module _ (h : c ≤ length n) where
-          pub read-room : Fillable w8 v c n m p
-          read-room = record { count = q; room = record { numbers = h; missing = omega arith; phased = omega arith } }
+        module _ (y : r ≡ true) {d : ℕ} (i : d ≡ length v % size w) (o : d ≡ 0) (b : Bytes v) where
+          vector : slicesAnswer w v n m p ≡ pick (leb c (length n)) (says 0 (c ∷ [])) (says 17 [])
+          unfolding vectorAnswer listRead
+          vector = row-even n m p _ e f ∙ rw (readable-whole w v b (sym i ∙ o), is, y, list-length w (entriesIn w v), ← q)
 
-          pub read-done : {n′ m′ p′ : List ℕ} → Laid (listIn w8 v) n m p n′ m′ p′ → ReadsVector w8 v n m p (R.Done c) n′ m′ p′
+          pub read-short : length n < c → ReadsVector w v n m p R.Short n m p
           unfolding readPaper
-          read-done l =
-              let a : slicesAnswer w8 v n m p ≡ says 0 (c ∷ []) = vector ∙ rw (le-leb c (length n) h) in
-              record {
-                answer = sym a;
-                numbers = rw (a, list-8 v) (l .numbers);
-                missing = rw (a, list-8 v) (l .missing);
-                phased = rw (a, list-8 v) (l .phased);
-              }
+          read-short h = read-refused (vector ∙ rw (lt-leb c (length n) h)) (λ z. omega arith)
 
-pub ruleset laws = (count-first, count-turn-8, count-stop-8, count-past, pad-first, pad-turn-8, pad-stop-8, pad-past, number-low, number-high, missing-low, missing-high, phased-odd, phased-even, fill-first, fill-bytes, fill-n, fill-m, fill-p, fill-turn, fill-len-n, fill-len-m, fill-len-p, fill-past, read-nm, read-np, read-none, read-within, read-more, read-short, read-room, read-done)
+          pub read-done : c ≤ length n → {n′ m′ p′ : List ℕ} → Laid (listRead w v) n m p n′ m′ p′ → ReadsVector w v n m p (R.Done c) n′ m′ p′
+          unfolding readPaper
+          read-done h l =
+              let a : slicesAnswer w v n m p ≡ says 0 (c ∷ []) = vector ∙ rw (le-leb c (length n) h) in
+              record { answer = sym a; numbers = rw a (l .numbers); missing = rw a (l .missing); phased = rw a (l .phased) }
+
+      pub read-room : c ≤ length n → Fillable w (entriesIn w v) c n m p
+      read-room h = record { count = q; room = record { numbers = h; missing = omega arith; phased = omega arith } }
+
+-- ---- told the width
+
+module _ (b : ℕ) (v n m p : List ℕ) where
+  module _ {r : Read} {n′ m′ p′ : List ℕ} where
+    pub told-1 : b ≡ 1 → ReadsVector W8 v n m p r n′ m′ p′ → ReadsTold b v n m p r n′ m′ p′
+    unfolding widthBy toldAnswer toldList
+    told-1 e g = rw e g
+
+    pub told-2 : b ≡ 2 → ReadsVector W16 v n m p r n′ m′ p′ → ReadsTold b v n m p r n′ m′ p′
+    unfolding widthBy toldAnswer toldList
+    told-2 e g = rw e g
+
+    pub told-4 : b ≡ 4 → ReadsVector W32 v n m p r n′ m′ p′ → ReadsTold b v n m p r n′ m′ p′
+    unfolding widthBy toldAnswer toldList
+    told-4 e g = rw e g
+
+  pub told-other : (b ≡ 1 → ⊥) → (b ≡ 2 → ⊥) → (b ≡ 4 → ⊥) → ReadsTold b v n m p R.Unknown n m p
+  unfolding widthBy toldAnswer readPaper
+  told-other x y z = read-refused (rw (ne-eqb b 1 x, ne-eqb b 2 y, ne-eqb b 4 z)) (λ q. omega arith)
+
+pub ruleset laws = (count-first, count-within, count-turn, count-stop, count-past, pad-first, pad-within, pad-turn, pad-stop, pad-past, number-low, number-high, missing-low, missing-high, phased-odd, phased-even, fill-first, fill-within, fill-n, fill-m, fill-p, fill-turn, fill-len-n, fill-len-m, fill-len-p, fill-past, read-nm, read-np, read-left, read-none, read-within, read-more, read-short, read-room, read-done, told-1, told-2, told-4, told-other)

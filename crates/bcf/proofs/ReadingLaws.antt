@@ -9,7 +9,7 @@ use lib.ListN.{length, getD, drop, length-map}
 use lib.Dec.{ltb}
 use borrow.Author.Tests.{lt-ltb, le-ltb}
 use Rattle.text.specs.Pick.{pick}
-use Rattle.bcf.specs.Layout.{Width}
+use Rattle.bcf.specs.declared.width.Width.{Width}
 use Rattle.bcf.specs.Reading.{negative, alleleBy, codesIn, listIn}
 
 pub codes-none : (w : Width) → codesIn w [] ≡ []

@@ -2,7 +2,7 @@
 -- vector is spelled at 4.4, and what is written means the list. Assumes nothing.
 use Prim.Native.Nat.{ℕ, _+_, _≤_}
 use mathlib.Core.Path.{_≡_, refl, sym, _∙_}
-use mathlib.Core.Bool.{Bool, true, false, false≢true}
+use mathlib.Core.Bool.{Bool, true, false≢true}
 use mathlib.Core.List.{List}
 use native.Mathlib.Omega.{arith}
 use native.Mathlib.Decide.{ℕ-discrete}
@@ -14,7 +14,9 @@ use Rattle.genotype.specs.Demands.{AtMost}
 use Rattle.spelling.specs.Permitted.{from44}
 use Rattle.spelling.specs.Demands as S
 use Rattle.spelling.proofs.RoundTrip.{follow}
-use Rattle.bcf.specs.Layout.{Width, w8, w16, w32, largest}
+use Rattle.bcf.specs.Layout.{largest}
+use Rattle.bcf.specs.declared.width.Width.{Width}
+use Rattle.bcf.specs.declared.width.Width.the-variants.{W8, W16, W32}
 use Rattle.bcf.specs.Demands.{HasVector, TextAgrees}
 use Rattle.bcf.proofs.VectorLaws.{lays-has}
 use Rattle.bcf.proofs.MeetsReading.{reads-list}
@@ -45,9 +47,9 @@ module _ {w : Width} {n : ℕ} where
 -- its numbers have at most 64 bits
 largest-fits : (w : Width) → largest w ≤ 18446744073709551615
 unfolding largest
-largest-fits w8 = omega arith
-largest-fits w16 = omega arith
-largest-fits w32 = omega arith
+largest-fits W8 = omega arith
+largest-fits W16 = omega arith
+largest-fits W32 = omega arith
 
 fitting : (w : Width) {as′ : List Allele} → AtMost (largest w) as′ → S.Fitting as′
 fitting w g = record { each = λ i h. let s = g .each i h in let l = largest-fits w in omega arith }

@@ -1,41 +1,21 @@
 -- Which lists have a vector: what passes the writer's tests is coded, and what is coded passes them. Assumes nothing.
-use Prim.Native.Nat.{ℕ, zero, suc, _+_, _-_, _≤_, _<_, zero-le}
+use Prim.Native.Nat.{ℕ, zero, suc, _+_, _-_, _≤_, zero-le}
 use mathlib.Core.Path.{_≡_, refl, sym, _∙_}
 use mathlib.Core.Bool.{Bool, true, false}
 use mathlib.Core.List.{List, [], _∷_, _++_, map}
 use mathlib.Core.Option.{none}
 use native.Mathlib.Omega.{arith}
-use native.Mathlib.Nat.{le-of-suc-le-suc}
-use lib.ListN.{length, getD, replicate, length-append, length-map, length-replicate}
+use lib.ListN.{length, replicate, length-append, length-map, length-replicate}
 use borrow.Author.Tests.{eq-eqb, eqb-true}
 use Rattle.allele.specs.Row.{isSound, firstUnsound}
 use Rattle.allele.specs.declared.allele.Allele.{Allele}
 use Rattle.allele.proofs.RowLaws.{sound-missing, sound-there, unsound-none, unsound-more, sound-parts, none-unsound, sound-first}
-use Rattle.genotype.specs.Demands.{AtMost}
-use Rattle.bcf.specs.Layout.{Width, padding, largest, codeOf, Coded, end, pad, code, Lays}
+use Rattle.bcf.specs.Layout.{padding, largest, codeOf, Coded, end, pad, code, Lays}
+use Rattle.bcf.specs.declared.width.Width.{Width}
 use Rattle.bcf.specs.Writing.{entriesFor, vectorOf, mostOf}
-use Rattle.bcf.specs.Demands.{HasVector, Vectors}
-use Rattle.bcf.proofs.WriteLaws.{Larger, is-second, is-first, larger-is, most-first, most-rest}
-
--- ---- the largest number
-
-pub at-most : (c : ℕ) (as′ : List Allele) → mostOf as′ ≤ c → AtMost c as′
-at-most c [] h = record { each = λ i l. absurd (omega arith) }
-at-most c (a ∷ as′) h = let r = most-rest a as′ in record { each = by (at-most c as′ (omega arith)) }
-  where
-    by : AtMost c as′ → (i : ℕ) → i < length (a ∷ as′) → getD (a ∷ as′) i (record { number = 0; missing = true; phased = true }) .number ≤ c
-    by r zero l = let f = most-first a as′ in omega arith
-    by r (suc i) l = r .each i (le-of-suc-le-suc l)
-
-pub most-at : (c : ℕ) (as′ : List Allele) → AtMost c as′ → mostOf as′ ≤ c
-unfolding mostOf
-most-at c [] g = zero-le
-most-at c (a ∷ as′) g =
-    by (larger-is (a .number) (mostOf as′)) (g .each 0 (omega arith)) (most-at c as′ (record { each = λ i l. g .each (suc i) (omega arith) }))
-  where
-    by : {x : ℕ} → Larger (a .number) (mostOf as′) x → a .number ≤ c → mostOf as′ ≤ c → x ≤ c
-    by (is-second h) f r = r
-    by (is-first h) f r = f
+use Rattle.bcf.specs.Demands.{HasVector, Vectors, Wider}
+use Rattle.bcf.proofs.CodeLaws.{wider-holds}
+use Rattle.bcf.proofs.MostLaws.{Larger, is-second, is-first, larger-is, most-first, most-rest, at-most, most-at}
 
 -- ---- what passes is coded
 
@@ -111,3 +91,11 @@ lays-has {w} {as′} {n} l =
 pub vectors : Vectors
 unfolding Vectors
 vectors w as′ n = (λ r. lays-has (r .1), λ h. (vectorOf w n as′, vector-lays w as′ n h))
+
+pub wider : Wider
+unfolding Wider Vectors
+wider u w as′ n v h l =
+    let g = lays-has l in
+    let m = wider-holds u w h in
+    let s = most-at (largest u) as′ (g .small) in
+    vectors w as′ n .1 (record { some = g .some; sound = g .sound; small = at-most (largest w) as′ (omega arith); few = g .few })

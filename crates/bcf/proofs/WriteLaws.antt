@@ -1,40 +1,38 @@
--- Writing: one pass that judges the list, the codes and the padding laid over the output, and the answer. Assumes nothing.
-use Prim.Native.Nat.{ℕ, zero, suc, _+_, _-_, _*_, _≤_, _<_, zero-le}
+-- Writing, over any width: one pass that judges the list, the codes and the padding laid over the output, and the answer. Assumes nothing.
+use Prim.Native.Nat.{ℕ, suc, _+_, _-_, _*_, _/_, _^_, _≤_, _<_, zero-le}
 use mathlib.Core.Path.{_≡_, refl, sym, ap, _∙_}
 use mathlib.Core.Bool.{Bool, true, false, not}
-use mathlib.Core.List.{List, [], _∷_, _++_, map, append-assoc}
-use mathlib.Core.Option.{some, none}
+use mathlib.Core.List.{List, [], _∷_, map}
+use mathlib.Core.Option.{some}
 use native.Mathlib.Omega.{arith}
-use native.Mathlib.Numerals.{add-one}
+use native.Mathlib.Nat.{zero-mul}
 use mir.Syntax as M
 use mir.Val.{Fits}
-use lib.ListN.{length, getD, take, drop, set, replicate, length-set, length-map, length-replicate}
-use lib.Seq.{sets, sets-eq, drop-drop}
-use lib.Dec.{eqb, ltb, leb}
-use borrow.Author.Tests.{lt-ltb, le-ltb, eq-eqb, ne-eqb, le-leb, lt-leb, ltb-true, ltb-false}
+use lib.ListN.{length, getD, take, drop, replicate, length-map}
+use lib.Dec.{eqb, leb}
+use borrow.Author.Tests.{lt-ltb, le-ltb, eq-eqb, ne-eqb, le-leb, lt-leb}
 use borrow.Rule.Slice.PartMut.{putMid}
 use Rattle.text.specs.Pick.{pick, oneIf}
 use Rattle.text.specs.Answer.{Answer, says, numberOf}
 use Rattle.text.specs.Over.{over, overAt}
-use Rattle.text.proofs.Lists.{rest-all, over-append, length-over}
+use Rattle.text.proofs.Lists.{rest-all, over-nil, overAt-nil, over-append, length-over}
 use Rattle.text.proofs.CopyLaws.{laid-refused, rest-laid}
 use Rattle.allele.specs.Row.{alleleOf, rowOf, firstUnsound, Parallel}
-use Rattle.allele.specs.declared.allele.Allele.{Allele}
 use Rattle.allele.proofs.RowLaws.{at-is, row-length, row-here, row-past, sound-missing, sound-there, unsound-none, unsound-more, unsound-here}
 use Rattle.genotype.specs.Answers as G
 use Rattle.genotype.proofs.AnswerLaws.{row-even, row-uneven-nm, row-uneven-np}
-use Rattle.genotype.proofs.LayLaws.{Column, column-first, column-turn, column-past}
-use Rattle.bcf.specs.Layout.{w8, size, padding, largest, codeOf}
-use Rattle.bcf.specs.Writing.{entriesFor, vectorOf, larger, mostOf, soundAnswer, sizedAnswer, listAnswer, rowAnswer, WritesVector}
-use Rattle.bcf.specs.Inner.{TellsSound, JudgesRow, WritesBy, WritesSized, WritesList}
+use Rattle.bcf.specs.Layout.{size, padding, largest, littleOf, codeOf, bytesOf}
+use Rattle.bcf.specs.Writing.{entriesFor, vectorOf, larger, mostOf, widthFor, smallest, soundAnswer, roomIn, entriesAnswer, sizedAnswer, listAnswer, rowAnswer, WritesVector}
+use Rattle.bcf.specs.Inner.{TellsSound, JudgesRow, WritesBy, WritesEntries, WritesSized, WritesList}
 use Rattle.bcf.specs.Paper.{writePaper}
+use Rattle.bcf.specs.declared.width.Width.{Width}
 use Rattle.bcf.specs.declared.write.Write.{Write}
 use Rattle.bcf.specs.declared.write.Write.the-variants as W
 use Rattle.bcf.specs.declared.write.Judged.{Judged}
 use Rattle.bcf.specs.declared.write.Judged.the-variants as J
-use Rattle.bcf.proofs.CodeLaws.{code-below}
-use Rattle.bcf.proofs.EntryLaws.{Fit, none, more}
-use Rattle.bcf.proofs.ReadLaws.{bytes-8}
+use Rattle.bcf.proofs.MostLaws.{Larger, is-second, is-first, larger-second, larger-first, larger-is, larger-three, most-first, most-rest}
+use Rattle.bcf.proofs.EntryLaws.{bytes-length, bytes-append}
+use Rattle.bcf.proofs.PlaceLaws.{room-in, no-room, put-length, put-on}
 
 -- ---- an allele
 
@@ -58,51 +56,6 @@ bit-zero z e = rw (eq-eqb z 0 e)
 
 pub bit-one : (z : ℕ) → (z ≡ 0 → ⊥) → 1 ≡ oneIf (not (eqb z 0))
 bit-one z e = rw (ne-eqb z 0 e)
-
--- ---- the larger of two
-
-pub larger-second : (a b : ℕ) → a < b → b ≡ larger a b
-larger-second a b h = rw (lt-ltb a b h)
-
-pub larger-first : (a b : ℕ) → b ≤ a → a ≡ larger a b
-larger-first a b h = rw (le-ltb a b h)
-
--- the one or the other
-pub data Larger (a b : ℕ) : ℕ → Type 0 where
-  is-second : a < b → Larger a b b
-  is-first : b ≤ a → Larger a b a
-
-pub larger-is : (a b : ℕ) → Larger a b (larger a b)
-larger-is a b = by (ltb a b) refl
-  where
-    by : (t : Bool) → ltb a b ≡ t → Larger a b (pick t b a)
-    by true e = is-second (ltb-true a b e)
-    by false e = is-first (ltb-false a b e)
-
-larger-three : (a b c : ℕ) → larger (larger a b) c ≡ larger a (larger b c)
-larger-three a b c = by (larger-is a b) (larger-is b c)
-  where
-    by : {x y : ℕ} → Larger a b x → Larger b c y → larger x c ≡ larger a y
-    by (is-second h) (is-second k) = sym (larger-second b c k) ∙ larger-second a c (omega arith)
-    by (is-second h) (is-first k) = sym (larger-first b c k) ∙ larger-second a b h
-    by (is-first h) (is-second k) = refl
-    by (is-first h) (is-first k) = sym (larger-first a c (omega arith)) ∙ larger-first a b h
-
-pub most-first : (a : Allele) (as′ : List Allele) → a .number ≤ mostOf (a ∷ as′)
-unfolding mostOf
-most-first a as′ = by (larger-is (a .number) (mostOf as′))
-  where
-    by : {x : ℕ} → Larger (a .number) (mostOf as′) x → a .number ≤ x
-    by (is-second h) = omega arith
-    by (is-first h) = omega arith
-
-pub most-rest : (a : Allele) (as′ : List Allele) → mostOf as′ ≤ mostOf (a ∷ as′)
-unfolding mostOf
-most-rest a as′ = by (larger-is (a .number) (mostOf as′))
-  where
-    by : {x : ℕ} → Larger (a .number) (mostOf as′) x → mostOf as′ ≤ x
-    by (is-second h) = omega arith
-    by (is-first h) = omega arith
 
 -- ---- judging
 
@@ -157,18 +110,22 @@ module _ {n m : List ℕ} {most k : ℕ} (g : Judging n m most k) where
 
 -- ---- the codes
 
-pub record Laying (n m p l₀ l : List ℕ) (k : ℕ) : Type 0 where
+pub record Laying (w : Width) (n m p l₀ l : List ℕ) (k : ℕ) : Type 0 where
   pub even : Parallel n m p
   pub within : k ≤ length n
   pub len : length l ≡ length l₀
-  pub room : length n ≤ length l₀
-  pub small : mostOf (drop k (rowOf n m p)) ≤ 62
-  pub codes : Column codeOf (rowOf n m p) (drop k (rowOf n m p)) l₀ l k
+  pub room : length n ≤ length l₀ / size w
+  pub small : mostOf (drop k (rowOf n m p)) < 9223372036854775807
+  pub codes : overAt (k * size w) (bytesOf w (map codeOf (drop k (rowOf n m p)))) l ≡ over (bytesOf w (map codeOf (rowOf n m p))) l₀
 
-pub lay-first : {n m p l : List ℕ} → Parallel n m p → mostOf (rowOf n m p) ≤ 62 → length n ≤ length l → Laying n m p l l 0
-lay-first q s h = record { even = q; within = zero-le; len = refl; room = h; small = s; codes = column-first _ _ _ }
+-- from the start on is over the start
+at-start : (w : Width) (vs l : List ℕ) → overAt (0 * size w) vs l ≡ over vs l
+at-start w vs l = rw (zero-mul (size w)) (sym (over-append [] vs l zero-le ∙ ap (overAt 0 vs) (over-nil l)))
 
-module _ {n m p l₀ l : List ℕ} {k : ℕ} (g : Laying n m p l₀ l k) where
+pub lay-first : {w : Width} {n m p l : List ℕ} → Parallel n m p → mostOf (rowOf n m p) < 9223372036854775807 → length n ≤ length l / size w → Laying w n m p l l 0
+lay-first {w} q s h = record { even = q; within = zero-le; len = refl; room = h; small = s; codes = at-start w _ _ }
+
+module _ {w : Width} {n m p l₀ l : List ℕ} {k : ℕ} (g : Laying w n m p l₀ l k) where
   module _ (h : k < length n) where
     pub lay-m : k < length m
     lay-m = let e = g .even .missing in omega arith
@@ -176,104 +133,76 @@ module _ {n m p l₀ l : List ℕ} {k : ℕ} (g : Laying n m p l₀ l k) where
     pub lay-p : k < length p
     lay-p = let e = g .even .phased in omega arith
 
-    pub lay-room : k < length l
-    lay-room = let e = g .len in let r = g .room in omega arith
+    pub lay-room : k < length l / size w
+    lay-room = rw (g .len) (let r = g .room in omega arith)
 
     next : drop k (rowOf n m p) ≡ alleleOf (getD n k 0) (getD m k 0) (getD p k 0) ∷ drop (k + 1) (rowOf n m p)
     next = row-here n m p k (g .even) h (at-is n m p k)
 
-    small-here : getD n k 0 ≤ 62
-    small-here =
+    pub lay-shifted : getD n k 0 < 9223372036854775807
+    lay-shifted =
         let s = rw next at (g .small) in
         let f = most-first (alleleOf (getD n k 0) (getD m k 0) (getD p k 0)) (drop (k + 1) (rowOf n m p)) in
         omega arith
 
-    pub lay-shifted : getD n k 0 < 9223372036854775807
-    lay-shifted = let s = small-here in omega arith
-
-    module _ {c : ℕ} (f : c ≡ codeOf (alleleOf (getD n k 0) (getD m k 0) (getD p k 0))) where
-      pub lay-fits : Fits M.w8 c
-      lay-fits =
-          let b = code-below (alleleOf (getD n k 0) (getD m k 0) (getD p k 0)) 62 small-here in
-          record { fits = omega arith }
-
-      pub lay-turn : Laying n m p l₀ (set l k c) (k + 1)
-      lay-turn =
-          record {
-            even = g .even;
-            within = omega arith;
-            len = simp length-set (g .len);
-            room = g .room;
-            small =
-                let s = rw next at (g .small) in
-                let r = most-rest (alleleOf (getD n k 0) (getD m k 0) (getD p k 0)) (drop (k + 1) (rowOf n m p)) in
-                omega arith;
-            codes = rw f (column-turn (rw next at (g .codes)));
-          }
+    pub lay-turn : {c : ℕ} {l′ : List ℕ} → c ≡ codeOf (alleleOf (getD n k 0) (getD m k 0) (getD p k 0)) → l′ ≡ overAt (k * size w) (littleOf (size w) c) l
+        → Laying w n m p l₀ l′ (k + 1)
+    lay-turn {c} f e =
+        record {
+          even = g .even;
+          within = omega arith;
+          len = put-length w c [] l k lay-room e ∙ g .len;
+          room = g .room;
+          small =
+              let s = rw next at (g .small) in
+              let r = most-rest (alleleOf (getD n k 0) (getD m k 0) (getD p k 0)) (drop (k + 1) (rowOf n m p)) in
+              omega arith;
+          codes = sym (put-on w c (map codeOf (drop (k + 1) (rowOf n m p))) l k lay-room e) ∙ rw f (rw next at (g .codes));
+        }
 
   pub lay-len : length l ≡ length l₀
   lay-len = g .len
 
-  pub lay-past : length n ≤ k → l ≡ over (map codeOf (rowOf n m p)) l₀
-  lay-past h =
-      let e = row-length n m p (g .even) in
-      let r = g .room in
-      column-past (rw (row-past n m p k (g .even) h) at (g .codes)) (omega arith)
+  pub lay-past : length n ≤ k → l ≡ over (bytesOf w (map codeOf (rowOf n m p))) l₀
+  unfolding bytesOf
+  lay-past h = sym (overAt-nil (k * size w) l) ∙ (rw (row-past n m p k (g .even) h) at (g .codes))
 
 -- ---- the padding
 
-pub record Stuffing (l₀ l : List ℕ) (from to i : ℕ) : Type 0 where
+pub record Stuffing (w : Width) (l₀ l : List ℕ) (b from to i : ℕ) : Type 0 where
+  pub pads : b ≡ padding w
   pub within : i ≤ to
-  pub order : from ≤ to
-  pub room : to ≤ length l₀
   pub len : length l ≡ length l₀
-  pub same : sets l i (replicate (to - i) 129) ≡ sets l₀ from (replicate (to - from) 129)
+  pub room : to ≤ length l₀ / size w
+  pub same : overAt (i * size w) (bytesOf w (replicate (to - i) (padding w))) l ≡ overAt (from * size w) (bytesOf w (replicate (to - from) (padding w))) l₀
 
-pub stuff-first : {l : List ℕ} {from to : ℕ} → from ≤ to → to ≤ length l → Stuffing l l from to from
-stuff-first h r = record { within = h; order = h; room = r; len = refl; same = refl }
+pub stuff-first : {w : Width} {l : List ℕ} {b from to : ℕ} → b ≡ padding w → from ≤ to → to ≤ length l / size w → Stuffing w l l b from to from
+stuff-first e h r = record { pads = e; within = h; len = refl; room = r; same = refl }
 
-module _ {l₀ l : List ℕ} {from to i : ℕ} (g : Stuffing l₀ l from to i) where
-  pub stuff-room : i < to → i < length l
-  stuff-room h = let e = g .len in let r = g .room in omega arith
+module _ {w : Width} {l₀ l : List ℕ} {b from to i : ℕ} (g : Stuffing w l₀ l b from to i) where
+  module _ (h : i < to) where
+    pub stuff-room : i < length l / size w
+    stuff-room = rw (g .len) (let r = g .room in omega arith)
 
-  pub stuff-turn : i < to → Stuffing l₀ (set l i 129) from to (i + 1)
-  stuff-turn h =
-      let e : to - i ≡ suc (to - (i + 1)) = omega arith in
-      record { within = omega arith; order = g .order; room = g .room; len = simp length-set (g .len); same = rw add-one (rw (e, add-one) at (g .same)) }
+    pub stuff-turn : {l′ : List ℕ} → l′ ≡ overAt (i * size w) (littleOf (size w) b) l → Stuffing w l₀ l′ b from to (i + 1)
+    stuff-turn e =
+        let t : to - i ≡ suc (to - (i + 1)) = omega arith in
+        record {
+          pads = g .pads;
+          within = omega arith;
+          len = put-length w b [] l i stuff-room e ∙ g .len;
+          room = g .room;
+          same = sym (put-on w b (replicate (to - (i + 1)) (padding w)) l i stuff-room e) ∙ rw (g .pads) (rw t at (g .same));
+        }
 
   pub stuff-len : length l ≡ length l₀
   stuff-len = g .len
 
-  pub stuff-past : to ≤ i → l ≡ overAt from (replicate (to - from) 129) l₀
-  unfolding overAt over
-  stuff-past h =
-      let e : to - i ≡ 0 = omega arith in
-      let pads : List ℕ = replicate (to - from) 129 in
-      let x : length pads ≡ to - from = length-replicate (to - from) 129 in
-      let o = g .order in
-      let r = g .room in
-      (rw e at (g .same)) ∙ sets-eq pads l₀ from (omega arith)
-      ∙ rw (drop-drop (length pads) from l₀) (append-assoc (take from l₀) pads _)
+  pub stuff-past : to ≤ i → l ≡ overAt (from * size w) (bytesOf w (replicate (to - from) (padding w))) l₀
+  unfolding bytesOf
+  stuff-past h = let t : to - i ≡ 0 = omega arith in sym (overAt-nil (i * size w) l) ∙ (rw t at (g .same))
 
 -- ---- the answer of a list
-
-pads-fit : (n : ℕ) → Fit w8 (replicate n 129)
-unfolding size
-pads-fit zero = none
-pads-fit (suc n) = more {e = 129} (omega arith) (pads-fit n)
-
-codes-fit : (as′ : List Allele) (n : ℕ) → mostOf as′ ≤ 62 → Fit w8 (map codeOf as′ ++ replicate n 129)
-unfolding size
-codes-fit [] n s = pads-fit n
-codes-fit (a ∷ as′) n s =
-    let f = most-first a as′ in
-    let r = most-rest a as′ in
-    let b = code-below a 62 (omega arith) in
-    more {e = codeOf a} (omega arith) (codes-fit as′ n (omega arith))
-
-vector-8 : (n : ℕ) (as′ : List Allele) → mostOf as′ ≤ 62 → vectorOf w8 n as′ ≡ map codeOf as′ ++ replicate (n - length as′) 129
-unfolding vectorOf entriesFor padding
-vector-8 n as′ s = bytes-8 _ (codes-fit as′ (n - length as′) s)
 
 -- a refusal is given where it is due, and nothing is laid
 written-by : {a : Answer} {vs l : List ℕ} {r : Write} → a ≡ writePaper r → (numberOf (writePaper r) ≡ 0 → ⊥) → WritesBy a vs l r l
@@ -283,52 +212,64 @@ module _ {n m p : List ℕ} (k : ℕ) (l : List ℕ) (q : Parallel n m p) where
   count : length (rowOf n m p) ≡ length n
   count = row-length n m p q
 
-  module _ {x : ℕ} (e : x ≡ mostOf (rowOf n m p)) where
-    pub sized-large : 62 < x → WritesSized k (rowOf n m p) l W.Large l
-    unfolding sizedAnswer writePaper largest
-    sized-large h = written-by (rw (lt-ltb 62 (mostOf (rowOf n m p)) (omega arith))) (λ z. omega arith)
+  module _ (w : Width) where
+    pub entries-long : k < length n → WritesEntries w k (rowOf n m p) l W.Long l
+    unfolding entriesAnswer writePaper
+    entries-long h = let z = count in written-by (rw (lt-ltb k (length (rowOf n m p)) (omega arith))) (λ z. omega arith)
 
-    module _ (s : x ≤ 62) where
-      pub sized-small : mostOf (rowOf n m p) ≤ 62
+    module _ (h : length n ≤ k) {x : ℕ} (e : x ≡ length l / size w) where
+      room : entriesAnswer w k (rowOf n m p) (length l) ≡ pick (leb (k * size w) (length l)) (says 0 (size w ∷ k * size w ∷ [])) (says 17 [])
+      unfolding entriesAnswer roomIn
+      room = let z = count in rw (le-ltb k (length (rowOf n m p)) (omega arith))
+
+      pub entries-short : x < k → WritesEntries w k (rowOf n m p) l W.Short l
+      unfolding writePaper
+      entries-short j = written-by (room ∙ rw (lt-leb (k * size w) (length l) (no-room w k (length l) (omega arith)))) (λ z. omega arith)
+
+      module _ (j : k ≤ x) where
+        within : k * size w ≤ length l
+        within = room-in w k (length l) (omega arith)
+
+        pub entries-codes : length n ≤ length l / size w
+        entries-codes = omega arith
+
+        pub entries-fit : {s : ℕ} → s ≡ size w → length l * 1 < 2 ^ 63 → Fits M.w64 (k * s)
+        entries-fit f b = rw f (let i = within in record { fits = omega arith })
+
+        module _ {l₁ : List ℕ} (y : l₁ ≡ over (bytesOf w (map codeOf (rowOf n m p))) l) where
+          coded : length (bytesOf w (map codeOf (rowOf n m p))) ≡ length n * size w
+          coded = bytes-length w (map codeOf (rowOf n m p)) ∙ ap (λ (c : ℕ). c * size w) (length-map (rowOf n m p) codeOf ∙ count)
+
+          laid-room : length (bytesOf w (map codeOf (rowOf n m p))) ≤ length l
+          laid-room = let c = coded in let i = room-in w (length n) (length l) entries-codes in omega arith
+
+          pub entries-pads : k ≤ length l₁ / size w
+          entries-pads = rw (y, length-over (bytesOf w (map codeOf (rowOf n m p))) l laid-room) (omega arith)
+
+          pub entries-done : {s : ℕ} {l₂ : List ℕ} → s ≡ size w → l₂ ≡ overAt (length n * size w) (bytesOf w (replicate (k - length n) (padding w))) l₁
+              → WritesEntries w k (rowOf n m p) l (W.Done s (k * s)) l₂
+          unfolding writePaper vectorOf entriesFor
+          entries-done f o =
+              let a : entriesAnswer w k (rowOf n m p) (length l) ≡ says 0 (size w ∷ k * size w ∷ []) = room ∙ rw (le-leb (k * size w) (length l) within) in
+              let pads : List ℕ = replicate (k - length n) (padding w) in
+              let v : over (vectorOf w k (rowOf n m p)) l ≡ overAt (length n * size w) (bytesOf w pads) (over (bytesOf w (map codeOf (rowOf n m p))) l) =
+              rw (count, bytes-append w (map codeOf (rowOf n m p)) pads)
+              (over-append (bytesOf w (map codeOf (rowOf n m p))) (bytesOf w pads) l laid-room ∙ rw coded)
+              in
+              rw f (record { answer = sym a; output = rw a (o ∙ rw y (sym v)) })
+
+  module _ {x : ℕ} (e : x ≡ mostOf (rowOf n m p)) where
+    pub sized-large : 1073741822 < x → WritesSized k (rowOf n m p) l W.Large l
+    unfolding sizedAnswer writePaper largest
+    sized-large h = written-by (rw (lt-ltb 1073741822 (mostOf (rowOf n m p)) (omega arith))) (λ z. omega arith)
+
+    module _ (s : x ≤ 1073741822) where
+      pub sized-small : mostOf (rowOf n m p) < 9223372036854775807
       sized-small = omega arith
 
-      pub sized-long : k < length n → WritesSized k (rowOf n m p) l W.Long l
-      unfolding sizedAnswer writePaper largest
-      sized-long h = let z = count in written-by (rw (le-ltb 62 (mostOf (rowOf n m p)) sized-small, lt-ltb k (length (rowOf n m p)) (omega arith))) (λ z. omega arith)
-
-      module _ (h : length n ≤ k) where
-        sized-room : sizedAnswer w8 k (rowOf n m p) (length l) ≡ pick (leb k (length l)) (says 0 (k ∷ [])) (says 17 [])
-        unfolding sizedAnswer largest size
-        sized-room =
-            let z = count in
-            let t : k * 1 ≡ k = omega arith in
-            rw (le-ltb 62 (mostOf (rowOf n m p)) sized-small, le-ltb k (length (rowOf n m p)) (omega arith), t)
-
-        pub sized-short : length l < k → WritesSized k (rowOf n m p) l W.Short l
-        unfolding writePaper
-        sized-short j = written-by (sized-room ∙ rw (lt-leb k (length l) j)) (λ z. omega arith)
-
-        module _ (j : k ≤ length l) where
-          pub sized-codes : length n ≤ length l
-          sized-codes = omega arith
-
-          module _ {l₁ : List ℕ} (y : l₁ ≡ over (map codeOf (rowOf n m p)) l) where
-            coded : length (map codeOf (rowOf n m p)) ≡ length n
-            coded = length-map (rowOf n m p) codeOf ∙ count
-
-            pub sized-pads : k ≤ length l₁
-            sized-pads = let c = coded in let z = ap length y ∙ length-over (map codeOf (rowOf n m p)) l (omega arith) in omega arith
-
-            pub sized-done : {l₂ : List ℕ} → l₂ ≡ overAt (length n) (replicate (k - length n) 129) l₁ → WritesSized k (rowOf n m p) l (W.Done k) l₂
-            unfolding writePaper
-            sized-done o =
-                let a : sizedAnswer w8 k (rowOf n m p) (length l) ≡ says 0 (k ∷ []) = sized-room ∙ rw (le-leb k (length l) j) in
-                let c = coded in
-                let v : over (vectorOf w8 k (rowOf n m p)) l ≡ overAt (length n) (replicate (k - length n) 129) (over (map codeOf (rowOf n m p)) l) =
-                rw (vector-8 k (rowOf n m p) sized-small, count)
-                (over-append (map codeOf (rowOf n m p)) (replicate (k - length n) 129) l (omega arith) ∙ ap (λ (s : ℕ). overAt s (replicate (k - length n) 129) (over (map codeOf (rowOf n m p)) l)) c)
-                in
-                record { answer = sym a; output = rw a (o ∙ ap (overAt (length n) (replicate (k - length n) 129)) y ∙ sym v) }
+      pub sized-by : {w : Width} {r : Write} {l′ : List ℕ} → w ≡ widthFor x → WritesEntries w k (rowOf n m p) l r l′ → WritesSized k (rowOf n m p) l r l′
+      unfolding sizedAnswer smallest largest
+      sized-by f g = rw (le-ltb 1073741822 (mostOf (rowOf n m p)) (omega arith), ← e, ← f) g
 
   pub list-empty : length n ≡ 0 → WritesList k (rowOf n m p) l W.Empty l
   unfolding listAnswer writePaper
@@ -353,28 +294,28 @@ module _ {n m p : List ℕ} (k : ℕ) (l : List ℕ) (q : Parallel n m p) where
 -- ---- from a place on
 
 module _ (k : ℕ) (n m p out : List ℕ) (at : ℕ) where
-  pub write-beyond : length out < at → WritesVector w8 n m p k out at W.Beyond out
+  pub write-beyond : length out < at → WritesVector n m p k out at W.Beyond out
   unfolding writePaper rowAnswer
   write-beyond h = record { answer = rw (lt-leb _ _ h); output = rw (lt-leb _ _ h) }
 
   module _ (h : at ≤ length out) where
-    differ : ((a : Answer) → G.rowAnswer n m p a ≡ says 16 []) → WritesVector w8 n m p k out at W.Lengths out
+    differ : ((a : Answer) → G.rowAnswer n m p a ≡ says 16 []) → WritesVector n m p k out at W.Lengths out
     unfolding writePaper rowAnswer
     differ e = record { answer = rw (le-leb _ _ h, e _); output = rw (le-leb _ _ h, e _) }
 
-    pub write-nm : (length n ≡ length m → ⊥) → WritesVector w8 n m p k out at W.Lengths out
+    pub write-nm : (length n ≡ length m → ⊥) → WritesVector n m p k out at W.Lengths out
     write-nm e = differ (λ a. row-uneven-nm n m p a e)
 
-    pub write-np : (length n ≡ length p → ⊥) → WritesVector w8 n m p k out at W.Lengths out
+    pub write-np : (length n ≡ length p → ⊥) → WritesVector n m p k out at W.Lengths out
     write-np e = differ (λ a. row-uneven-np n m p a e)
 
     module _ (e : length n ≡ length m) (f : length n ≡ length p) {r : Write} {ys : List ℕ}
         (w : WritesList k (rowOf n m p) (take (length out - at) (drop at out)) r ys) where
-      row-answer : rowAnswer w8 k n m p out at ≡ listAnswer w8 k (rowOf n m p) (length (take (length out - at) (drop at out)))
+      row-answer : rowAnswer k n m p out at ≡ listAnswer k (rowOf n m p) (length (take (length out - at) (drop at out)))
       unfolding rowAnswer
       row-answer = rw (le-leb _ _ h, row-even n m p _ e f, rest-all out at)
 
-      pub write-row : WritesVector w8 n m p k out at r (putMid at (length out - at) out ys)
-      write-row = record { answer = w .answer ∙ sym row-answer; output = rw row-answer (rest-laid (listAnswer w8 k (rowOf n m p) (length (take (length out - at) (drop at out)))) at (vectorOf w8 k (rowOf n m p)) out ys (w .output)) }
+      pub write-row : WritesVector n m p k out at r (putMid at (length out - at) out ys)
+      write-row = record { answer = w .answer ∙ sym row-answer; output = rw row-answer (rest-laid (listAnswer k (rowOf n m p) (length (take (length out - at) (drop at out)))) at (vectorOf (smallest (rowOf n m p)) k (rowOf n m p)) out ys (w .output)) }
 
-pub ruleset laws = (sound-zero, sound-number, code-there, code-missing, bit-zero, bit-one, larger-second, larger-first, judge-first, judge-m, judge-turn, judge-bad, judge-past, lay-first, lay-m, lay-p, lay-room, lay-shifted, lay-fits, lay-turn, lay-len, lay-past, stuff-first, stuff-room, stuff-turn, stuff-len, stuff-past, sized-large, sized-small, sized-long, sized-short, sized-codes, sized-pads, sized-done, list-empty, list-bad, list-most, list-sound, write-beyond, write-nm, write-np, write-row)
+pub ruleset laws = (sound-zero, sound-number, code-there, code-missing, bit-zero, bit-one, larger-second, larger-first, judge-first, judge-m, judge-turn, judge-bad, judge-past, lay-first, lay-m, lay-p, lay-room, lay-shifted, lay-turn, lay-len, lay-past, stuff-first, stuff-room, stuff-turn, stuff-len, stuff-past, entries-long, entries-short, entries-codes, entries-fit, entries-pads, entries-done, sized-large, sized-small, sized-by, list-empty, list-bad, list-most, list-sound, write-beyond, write-nm, write-np, write-row)

@@ -10,10 +10,10 @@ use Rattle.text.specs.Over.{laid}
 use Rattle.allele.specs.Row.{alleleOf, rowOf, isSound, firstUnsound, Parallel}
 use Rattle.allele.specs.declared.allele.Allele.{Allele}
 use Rattle.genotype.specs.Inner.{Room}
-use Rattle.bcf.specs.Layout.{Width, w8}
 use Rattle.bcf.specs.Reading.{codesIn}
-use Rattle.bcf.specs.Writing.{mostOf, sizedAnswer, listAnswer, vectorOf}
+use Rattle.bcf.specs.Writing.{mostOf, smallest, entriesAnswer, sizedAnswer, listAnswer, vectorOf}
 use Rattle.bcf.specs.Paper.{writePaper}
+use Rattle.bcf.specs.declared.width.Width.{Width}
 use Rattle.bcf.specs.declared.write.Write.{Write}
 use Rattle.bcf.specs.declared.write.Judged.{Judged}
 use Rattle.bcf.specs.declared.write.Judged.the-variants as J
@@ -42,8 +42,11 @@ pub record WritesBy (a : Answer) (vs l : List ℕ) (r : Write) (l′ : List ℕ)
   pub answer : writePaper r ≡ a
   pub output : l′ ≡ laid a vs l
 
+abbrev pub WritesEntries : Width → ℕ → List Allele → List ℕ → Write → List ℕ → Type 0
+WritesEntries w k as′ l r l′ = WritesBy (entriesAnswer w k as′ (length l)) (vectorOf w k as′) l r l′
+
 abbrev pub WritesSized : ℕ → List Allele → List ℕ → Write → List ℕ → Type 0
-WritesSized k as′ l r l′ = WritesBy (sizedAnswer w8 k as′ (length l)) (vectorOf w8 k as′) l r l′
+WritesSized k as′ l r l′ = WritesBy (sizedAnswer k as′ (length l)) (vectorOf (smallest as′) k as′) l r l′
 
 abbrev pub WritesList : ℕ → List Allele → List ℕ → Write → List ℕ → Type 0
-WritesList k as′ l r l′ = WritesBy (listAnswer w8 k as′ (length l)) (vectorOf w8 k as′) l r l′
+WritesList k as′ l r l′ = WritesBy (listAnswer k as′ (length l)) (vectorOf (smallest as′) k as′) l r l′

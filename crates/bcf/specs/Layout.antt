@@ -6,31 +6,28 @@ use mathlib.Core.List.{List, [], _∷_, _++_}
 use lib.ListN.{length}
 use Rattle.text.specs.Pick.{pick, oneIf}
 use Rattle.allele.specs.declared.allele.Allele.{Allele}
+use Rattle.bcf.specs.declared.width.Width.{Width}
+use Rattle.bcf.specs.declared.width.Width.the-variants.{W8, W16, W32}
 
 -- ---- the widths
 
-pub data Width : Type 0 where
-  w8 : Width
-  w16 : Width
-  w32 : Width
-
 -- how many bytes an entry has
 unfoldable pub size : Width → ℕ
-size w8 = 1
-size w16 = 2
-size w32 = 4
+size W8 = 1
+size W16 = 2
+size W32 = 4
 
 -- 81, 8001 and 80000001 hex
 unfoldable pub padding : Width → ℕ
-padding w8 = 129
-padding w16 = 32769
-padding w32 = 2147483649
+padding W8 = 129
+padding W16 = 32769
+padding W32 = 2147483649
 
 -- the largest allele
 unfoldable pub largest : Width → ℕ
-largest w8 = 62
-largest w16 = 16382
-largest w32 = 1073741822
+largest W8 = 62
+largest W16 = 16382
+largest W32 = 1073741822
 
 -- ---- an entry
 

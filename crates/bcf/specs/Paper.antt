@@ -8,12 +8,13 @@ use Rattle.bcf.specs.declared.write.Write.the-variants as W
 
 unfoldable pub readPaper : Read → Answer
 readPaper (R.Done n) = says 0 (n ∷ [])
+readPaper R.Unknown = says 27 []
 readPaper R.Lengths = says 16 []
 readPaper R.Bad = says 26 []
 readPaper R.Short = says 17 []
 
 unfoldable pub writePaper : Write → Answer
-writePaper (W.Done n) = says 0 (n ∷ [])
+writePaper (W.Done w n) = says 0 (w ∷ n ∷ [])
 writePaper W.Beyond = says 6 []
 writePaper W.Lengths = says 16 []
 writePaper W.Empty = says 11 []

@@ -4,6 +4,7 @@ use Prim.Native.Nat.{ℕ, zero, suc, _+_, _-_, _*_, _/_, _%_}
 use mathlib.Core.Path.{_≡_}
 use mathlib.Core.Bool.{Bool, true, _&&_}
 use mathlib.Core.List.{List, [], _∷_, map}
+use mathlib.Core.Option.{Option, some, none}
 use lib.ListN.{length, take, drop}
 use lib.Dec.{eqb, ltb}
 use Rattle.text.specs.Pick.{pick}
@@ -13,17 +14,19 @@ use Rattle.text.specs.Over.{laid, roomFor}
 use Rattle.allele.specs.Row.{numbersOf, missingOf, phasedOf}
 use Rattle.allele.specs.declared.allele.Allele.{Allele}
 use Rattle.genotype.specs.Answers.{rowAnswer}
-use Rattle.bcf.specs.Layout.{Width, w8, w16, w32, size, padding, bytesOf}
+use Rattle.bcf.specs.Layout.{size, padding, bytesOf}
 use Rattle.bcf.specs.Paper.{readPaper}
+use Rattle.bcf.specs.declared.width.Width.{Width}
+use Rattle.bcf.specs.declared.width.Width.the-variants.{W8, W16, W32}
 use Rattle.bcf.specs.declared.read.Read.{Read}
 
 -- ---- an entry
 
 -- the first value whose sign bit is set
 unfoldable pub negative : Width → ℕ
-negative w8 = 128
-negative w16 = 32768
-negative w32 = 2147483648
+negative W8 = 128
+negative W16 = 32768
+negative W32 = 2147483648
 
 -- the allele that has a code: below 2 it is missing, and has the number 0
 unfoldable pub alleleBy : ℕ → Allele
@@ -81,8 +84,29 @@ abbrev pub slicesAnswer : Width → List ℕ → List ℕ → List ℕ → List 
 slicesAnswer w v n m p = rowAnswer n m p (vectorAnswer w v (length n))
 
 -- r is the answer, and slices that held n, m and p are left with the list laid over them where it is done
-pub record ReadsVector (w : Width) (v n m p : List ℕ) (r : Read) (n′ m′ p′ : List ℕ) : Type 0 where
-  pub answer : readPaper r ≡ slicesAnswer w v n m p
-  pub numbers : n′ ≡ laid (slicesAnswer w v n m p) (numbersOf (listRead w v)) n
-  pub missing : m′ ≡ laid (slicesAnswer w v n m p) (missingOf (listRead w v)) m
-  pub phased : p′ ≡ laid (slicesAnswer w v n m p) (phasedOf (listRead w v)) p
+pub record ReadsAs (a : Answer) (as′ : List Allele) (n m p : List ℕ) (r : Read) (n′ m′ p′ : List ℕ) : Type 0 where
+  pub answer : readPaper r ≡ a
+  pub numbers : n′ ≡ laid a (numbersOf as′) n
+  pub missing : m′ ≡ laid a (missingOf as′) m
+  pub phased : p′ ≡ laid a (phasedOf as′) p
+
+abbrev pub ReadsVector : Width → List ℕ → List ℕ → List ℕ → List ℕ → Read → List ℕ → List ℕ → List ℕ → Type 0
+ReadsVector w v n m p = ReadsAs (slicesAnswer w v n m p) (listRead w v) n m p
+
+-- ---- told the width
+
+-- the width of which an entry has so many bytes
+unfoldable pub widthBy : ℕ → Option Width
+widthBy b = pick (eqb b 1) (some W8) (pick (eqb b 2) (some W16) (pick (eqb b 4) (some W32) none))
+
+-- 27 first, where there is none
+unfoldable pub toldAnswer : Option Width → List ℕ → List ℕ → List ℕ → List ℕ → Answer
+toldAnswer none v n m p = says 27 []
+toldAnswer (some w) v n m p = slicesAnswer w v n m p
+
+unfoldable pub toldList : Option Width → List ℕ → List Allele
+toldList none v = []
+toldList (some w) v = listRead w v
+
+abbrev pub ReadsTold : ℕ → List ℕ → List ℕ → List ℕ → List ℕ → Read → List ℕ → List ℕ → List ℕ → Type 0
+ReadsTold b v n m p = ReadsAs (toldAnswer (widthBy b) v n m p) (toldList (widthBy b) v) n m p

@@ -1,21 +1,27 @@
-// Writing a list of alleles, that comes as three slices of one length, as a vector of 8-bit entries.
+// Writing a list of alleles, that comes as three slices of one length, as a vector of the smallest width that holds it.
+use crate::entry::put_entry;
+use crate::width::Width;
+use crate::width::padding_of;
+use crate::width::size_of;
+use crate::width::whole_in;
+use crate::width::width_for;
 ghost use mathlib.Core.Path.{_≡_};
 ghost use mathlib.Core.Bool.{not};
-ghost use Prim.Native.Nat.{_≤_, _<_, _-_};
+ghost use Prim.Native.Nat.{_≤_, _<_, _-_, _*_, _/_};
 ghost use lib.Dec.{eqb};
 ghost use lib.ListN.{length, replicate};
 ghost use mathlib.Core.List.{map};
 ghost use Rattle.text.specs.Over.{over, overAt};
 ghost use Rattle.text.specs.Pick.{oneIf};
 ghost use Rattle.allele.specs.Row.{Parallel, alleleOf, rowOf};
-ghost use Rattle.bcf.specs.Layout.{w8, codeOf};
+ghost use Rattle.bcf.specs.Layout.{size, padding, codeOf, bytesOf};
 ghost use Rattle.bcf.specs.Writing.{larger, mostOf, WritesVector};
-ghost use Rattle.bcf.specs.Inner.{JudgesRow, TellsSound, WritesSized, WritesList};
+ghost use Rattle.bcf.specs.Inner.{JudgesRow, TellsSound, WritesEntries, WritesSized, WritesList};
 
 // The answer of the writer.
 pub enum Write {
-    // 0: so many bytes were written.
-    Done(usize),
+    // 0: entries of so many bytes each, and so many bytes in all, were written.
+    Done(usize, usize),
     // 6: the place lies beyond the output.
     Beyond,
     // 16: the slices' lengths differ.
@@ -24,7 +30,7 @@ pub enum Write {
     Empty,
     // 12: the allele with this index is missing and has a number.
     Bad(usize),
-    // 24: an allele is too large.
+    // 24: an allele is too large for every width.
     Large,
     // 25: the list is longer than the vector.
     Long,
@@ -96,31 +102,57 @@ fn code_of(number: u64, missing: u8, phased: u8) -> u64
 }
 
 // Writes the codes at the start of the output.
-fn put_codes(numbers: &[u64], missing: &[u8], phased: &[u8], out: &mut [u8])
+fn put_codes(width: Width, numbers: &[u64], missing: &[u8], phased: &[u8], out: &mut [u8])
     requires { ⌜ Parallel (now numbers) (now missing) (now phased) ⌝ }
-    requires { ⌜ mostOf (rowOf (now numbers) (now missing) (now phased)) ≤ 62 ⌝ }
-    requires { ⌜ length (now numbers) ≤ length (now out) ⌝ }
-    ensures { λ _. ⌜ now (out .exit) ≡ over (map codeOf (rowOf (now (numbers .entry)) (now (missing .entry)) (now (phased .entry)))) (now (out .entry)) ⌝ }
+    requires { ⌜ mostOf (rowOf (now numbers) (now missing) (now phased)) < 9223372036854775807 ⌝ }
+    requires { ⌜ length (now numbers) ≤ length (now out) / size width ⌝ }
+    ensures { λ _. ⌜ now (out .exit) ≡ over (bytesOf width (map codeOf (rowOf (now (numbers .entry)) (now (missing .entry)) (now (phased .entry))))) (now (out .entry)) ⌝ }
 {
     let mut k = 0;
     while k < numbers.len() {
         let code = code_of(numbers[k], missing[k], phased[k]);
-        out[k] = code as u8;
+        put_entry(width, code, out, k);
         k += 1;
     }
 }
 
-// Writes padding from one place up to another.
-fn put_padding(out: &mut [u8], from: usize, to: usize)
+// Writes padding from one entry up to another.
+fn put_padding(width: Width, out: &mut [u8], from: usize, to: usize)
     requires { ⌜ from ≤ to ⌝ }
-    requires { ⌜ to ≤ length (now out) ⌝ }
-    ensures { λ _. ⌜ now (out .exit) ≡ overAt from (replicate (to - from) 129) (now (out .entry)) ⌝ }
+    requires { ⌜ to ≤ length (now out) / size width ⌝ }
+    ensures { λ _. ⌜ now (out .exit) ≡ overAt (from * size width) (bytesOf width (replicate (to - from) (padding width))) (now (out .entry)) ⌝ }
 {
+    let padding = padding_of(width);
     let mut i = from;
     while i < to {
-        out[i] = 129;
+        put_entry(width, padding, out, i);
         i += 1;
     }
+}
+
+// Writes the vector of so many entries, of this width, at the start of the output.
+fn write_by(
+    width: Width,
+    numbers: &[u64],
+    missing: &[u8],
+    phased: &[u8],
+    entries: usize,
+    out: &mut [u8],
+) -> Write
+    requires { ⌜ Parallel (now numbers) (now missing) (now phased) ⌝ }
+    requires { ⌜ mostOf (rowOf (now numbers) (now missing) (now phased)) < 9223372036854775807 ⌝ }
+    ensures { λ r. ⌜ WritesEntries width entries (rowOf (now (numbers .entry)) (now (missing .entry)) (now (phased .entry))) (now (out .entry)) r (now (out .exit)) ⌝ }
+{
+    if numbers.len() > entries {
+        return Write::Long;
+    }
+    if entries > whole_in(width, out.len()) {
+        return Write::Short;
+    }
+    put_codes(width, numbers, missing, phased, out);
+    put_padding(width, out, numbers.len(), entries);
+    let size = size_of(width);
+    Write::Done(size, entries * size)
 }
 
 // Writes the vector of so many entries at the start of the output. The list is sound, and `most` is its largest number.
@@ -136,18 +168,11 @@ fn write_sound(
     requires { ⌜ most ≡ mostOf (rowOf (now numbers) (now missing) (now phased)) ⌝ }
     ensures { λ r. ⌜ WritesSized entries (rowOf (now (numbers .entry)) (now (missing .entry)) (now (phased .entry))) (now (out .entry)) r (now (out .exit)) ⌝ }
 {
-    if most > 62 {
+    if most > 1073741822 {
         return Write::Large;
     }
-    if numbers.len() > entries {
-        return Write::Long;
-    }
-    if entries > out.len() {
-        return Write::Short;
-    }
-    put_codes(numbers, missing, phased, out);
-    put_padding(out, numbers.len(), entries);
-    Write::Done(entries)
+    let width = width_for(most);
+    write_by(width, numbers, missing, phased, entries, out)
 }
 
 // Writes the vector of so many entries at the start of the output.
@@ -170,7 +195,7 @@ fn write_rest(
     }
 }
 
-// Writes the vector of so many entries from the place `at` on.
+// Writes the vector of so many entries, of the smallest width that holds every allele, from the place `at` on.
 pub fn write_vector(
     numbers: &[u64],
     missing: &[u8],
@@ -179,7 +204,7 @@ pub fn write_vector(
     out: &mut [u8],
     at: usize,
 ) -> Write
-    ensures { λ r. ⌜ WritesVector w8 (now (numbers .entry)) (now (missing .entry)) (now (phased .entry)) entries (now (out .entry)) at r (now (out .exit)) ⌝ }
+    ensures { λ r. ⌜ WritesVector (now (numbers .entry)) (now (missing .entry)) (now (phased .entry)) entries (now (out .entry)) at r (now (out .exit)) ⌝ }
 {
     if at > out.len() {
         return Write::Beyond;

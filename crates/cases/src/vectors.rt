@@ -53,13 +53,16 @@ fn answer_read(
     out: &mut Buffer,
     at: Place,
 ) -> Answer {
-    if arguments != 2 {
+    if arguments != 3 {
         return Answer::NoCase;
     }
-    let Numeral::Of(n) = number(case, 1, ROW) else {
+    let Numeral::Of(width) = number(case, 1, u64::MAX) else {
         return Answer::NoCase;
     };
-    let Decoded::Upto(end) = decode(case, 2, text, 0) else {
+    let Numeral::Of(n) = number(case, 2, ROW) else {
+        return Answer::NoCase;
+    };
+    let Decoded::Upto(end) = decode(case, 3, text, 0) else {
         return Answer::NoCase;
     };
     let mut numbers = [7u64; 64];
@@ -67,6 +70,7 @@ fn answer_read(
     let mut phased = [7u8; 64];
     Answer::Given(put_read(
         part(text, 0, end),
+        width as usize,
         front_numbers(&mut numbers, n as usize),
         front(&mut missing, n as usize),
         front(&mut phased, n as usize),
@@ -77,13 +81,14 @@ fn answer_read(
 
 fn put_read(
     s: &[u8],
+    width: usize,
     numbers: &mut [u64],
     missing: &mut [u8],
     phased: &mut [u8],
     out: &mut Buffer,
     at: Place,
 ) -> Place {
-    let read = read_vector(s, numbers, missing, phased);
+    let read = read_vector(s, width, numbers, missing, phased);
     let next = put_said(out, at, read_said(read));
     then_row(numbers, missing, phased, out, next)
 }
@@ -94,6 +99,7 @@ fn read_said(read: Read) -> Said {
         Read::Lengths => Said::Alone(16),
         Read::Short => Said::Alone(17),
         Read::Bad => Said::Alone(26),
+        Read::Unknown => Said::Alone(27),
     }
 }
 
@@ -176,7 +182,7 @@ fn put_written(
 
 fn write_said(write: Write) -> Said {
     match write {
-        Write::Done(len) => Said::With(0, len as u64),
+        Write::Done(width, len) => Said::WithTwo(0, width as u64, len as u64),
         Write::Beyond => Said::Alone(6),
         Write::Empty => Said::Alone(11),
         Write::Bad(k) => Said::With(12, k as u64),

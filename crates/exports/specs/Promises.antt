@@ -28,8 +28,7 @@ use Rattle.allele.specs.Reading as Genotype
 use Rattle.genotype.specs.Answers.{textAnswer, checkedText, slicesAnswer, checkedSlices}
 use Rattle.spelling.specs.Permitted.{from44}
 use Rattle.spelling.specs.Write as Spelling
-use Rattle.bcf.specs.Layout.{w8}
-use Rattle.bcf.specs.Reading as Vector
+use Rattle.bcf.specs.Reading.{widthBy, toldAnswer, toldList}
 use Rattle.bcf.specs.Writing.{rowAnswer, rowLeft}
 use Rattle.numbering.specs.Answers.{countAnswer, numberAnswer, genotypeAnswer, listAnswer, genotypeLeft, allLeft}
 use Rattle.exports.specs.Told.{Judges, Tells, TellsWriting, TellsReading}
@@ -138,11 +137,11 @@ ListsGenotypes p n row l r row′ l′ = TellsWriting (listAnswer p n (length ro
 
 -- ---- genotypes in BCF
 
-abbrev pub ReadsVector : List ℕ → List ℕ → List ℕ → List ℕ → List ℕ → ℕ → List ℕ → List ℕ → List ℕ → List ℕ → Type 0
-ReadsVector v n m p l r n′ m′ p′ l′ = TellsReading (Vector.slicesAnswer w8 v n m p) (Vector.listRead w8 v) n m p l r n′ m′ p′ l′
+abbrev pub ReadsVector : List ℕ → ℕ → List ℕ → List ℕ → List ℕ → List ℕ → ℕ → List ℕ → List ℕ → List ℕ → List ℕ → Type 0
+ReadsVector v width n m p l r n′ m′ p′ l′ = TellsReading (toldAnswer (widthBy width) v n m p) (toldList (widthBy width) v) n m p l r n′ m′ p′ l′
 
 abbrev pub WritesVector : List ℕ → List ℕ → List ℕ → ℕ → List ℕ → ℕ → List ℕ → ℕ → List ℕ → List ℕ → Type 0
-WritesVector n m p entries out at l r out′ l′ = TellsWriting (rowAnswer w8 entries n m p out at) (rowLeft w8 entries n m p out at) l r out′ l′
+WritesVector n m p entries out at l r out′ l′ = TellsWriting (rowAnswer entries n m p out at) (rowLeft entries n m p out at) l r out′ l′
 
 -- ---- filters, ALT and joining
 
@@ -206,7 +205,7 @@ pub record Determined : Type 0 where
   pub genotype-number : (g : List ℕ) (n : ℕ) (l : List ℕ) → OneOutcome (NumbersGenotype g n l)
   pub genotype-at : (i p n : ℕ) (row l : List ℕ) → OneWriting (PlacesGenotype i p n row l)
   pub list-genotypes : (p n : ℕ) (row l : List ℕ) → OneWriting (ListsGenotypes p n row l)
-  pub read-vector : (v n m p l : List ℕ) → OneReading (ReadsVector v n m p l)
+  pub read-vector : (v : List ℕ) (width : ℕ) (n m p l : List ℕ) → OneReading (ReadsVector v width n m p l)
   pub write-vector : (n m p : List ℕ) (entries : ℕ) (out : List ℕ) (at : ℕ) (l : List ℕ) → OneWriting (WritesVector n m p entries out at l)
   pub judge-filter : (filter : List ℕ) → OneAnswer (JudgesFilter filter)
   pub judge-alt : (alt : List ℕ) → OneAnswer (JudgesAlt alt)

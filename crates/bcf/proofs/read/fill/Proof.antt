@@ -1,25 +1,21 @@
--- `bcf::read::fill` meets its contract: what is left to store lies over what stands, in each slice. Assumes nothing.
+-- `bcf::read::fill` meets its contract: the alleles still to store lie over what stands. Assumes nothing.
 use Prim.Native.Nat.{_-_}
 use borrow.Author.Needs.{needs}
-use Rattle.bcf.specs.Layout.{w8}
 use Rattle.bcf.proofs.ReadLaws.{Filling, laws}
 use Rattle.bcf.proofs.read.fill.Statement.{statement}
 use Rattle.bcf.proofs.read.fill.Tie as tie
 
 abbrev Inv-loop : tie.InvT-loop
-Inv-loop bytes count numbers₀ missing₀ phased₀ k₀ numbers missing phased k = Filling w8 bytes numbers₀ missing₀ phased₀ numbers missing phased count k
+Inv-loop width bytes count numbers₀ missing₀ phased₀ k₀ numbers missing phased k = Filling width bytes numbers₀ missing₀ phased₀ numbers missing phased count k
 
 abbrev μ-loop : tie.MeasureT-loop
-μ-loop bytes count numbers₀ missing₀ phased₀ k₀ numbers missing phased k = count - k
+μ-loop width bytes count numbers₀ missing₀ phased₀ k₀ numbers missing phased k = count - k
 
 loop-holds : tie.Need-loop-holds Inv-loop μ-loop
 loop-holds c = search (needs, laws)
 
-shared-slice-read-wide : tie.Need-shared-slice-read-wide Inv-loop μ-loop
-shared-slice-read-wide c = search (needs, laws)
-
-wide-requires : tie.Need-wide-requires Inv-loop μ-loop
-wide-requires c κs = search (needs, laws)
+entry-at-requires : tie.Need-entry-at-requires Inv-loop μ-loop
+entry-at-requires c κs = search (needs, laws)
 
 number-of-requires : tie.Need-number-of-requires Inv-loop μ-loop
 number-of-requires c κs = search (needs, laws)
@@ -70,8 +66,7 @@ fill-spec =
     Inv-loop
     μ-loop
     loop-holds
-    shared-slice-read-wide
-    wide-requires
+    entry-at-requires
     number-of-requires
     mul-numbers
     slice-write-numbers

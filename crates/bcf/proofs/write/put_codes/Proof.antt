@@ -1,4 +1,4 @@
--- `bcf::write::put_codes` meets its contract: the codes still to write lie over what stands; each is below 128. Assumes nothing.
+-- `bcf::write::put_codes` meets its contract: the codes still to write lie over what stands. Assumes nothing.
 use Prim.Native.Nat.{_-_}
 use lib.ListN.{length}
 use borrow.Author.Needs.{needs}
@@ -7,10 +7,10 @@ use Rattle.bcf.proofs.write.put_codes.Statement.{statement}
 use Rattle.bcf.proofs.write.put_codes.Tie as tie
 
 abbrev Inv-loop : tie.InvT-loop
-Inv-loop numbers missing phased out₀ k₀ out k = Laying numbers missing phased out₀ out k
+Inv-loop width numbers missing phased out₀ k₀ out k = Laying width numbers missing phased out₀ out k
 
 abbrev μ-loop : tie.MeasureT-loop
-μ-loop numbers missing phased out₀ k₀ out k = length numbers - k
+μ-loop width numbers missing phased out₀ k₀ out k = length numbers - k
 
 loop-holds : tie.Need-loop-holds Inv-loop μ-loop
 loop-holds c = search (needs, laws)
@@ -30,11 +30,8 @@ shared-slice-read-code-of-3 c = search (needs, laws)
 code-of-requires : tie.Need-code-of-requires Inv-loop μ-loop
 code-of-requires c κs = search (needs, laws)
 
-cast-out : tie.Need-cast-out Inv-loop μ-loop
-cast-out c = search (needs, laws)
-
-slice-write-out : tie.Need-slice-write-out Inv-loop μ-loop
-slice-write-out c = search (needs, laws)
+put-entry-requires : tie.Need-put-entry-requires Inv-loop μ-loop
+put-entry-requires c κs = search (needs, laws)
 
 add-k : tie.Need-add-k Inv-loop μ-loop
 add-k c = search (needs, laws)
@@ -63,8 +60,7 @@ put-codes-spec =
     shared-slice-read-code-of-2
     shared-slice-read-code-of-3
     code-of-requires
-    cast-out
-    slice-write-out
+    put-entry-requires
     add-k
     loop-less
     loop-again

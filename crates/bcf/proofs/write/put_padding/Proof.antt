@@ -6,16 +6,19 @@ use Rattle.bcf.proofs.write.put_padding.Statement.{statement}
 use Rattle.bcf.proofs.write.put_padding.Tie as tie
 
 abbrev Inv-loop : tie.InvT-loop
-Inv-loop out₀ from to i₀ out i = Stuffing out₀ out from to i
+Inv-loop width out₀ from to padding i₀ out i = Stuffing width out₀ out padding from to i
 
 abbrev μ-loop : tie.MeasureT-loop
-μ-loop out₀ from to i₀ out i = to - i
+μ-loop width out₀ from to padding i₀ out i = to - i
+
+padding-of-requires : tie.Need-padding-of-requires Inv-loop μ-loop
+padding-of-requires c κs = search (needs, laws)
 
 loop-holds : tie.Need-loop-holds Inv-loop μ-loop
 loop-holds c = search (needs, laws)
 
-slice-write-out : tie.Need-slice-write-out Inv-loop μ-loop
-slice-write-out c = search (needs, laws)
+put-entry-requires : tie.Need-put-entry-requires Inv-loop μ-loop
+put-entry-requires c κs = search (needs, laws)
 
 add-i : tie.Need-add-i Inv-loop μ-loop
 add-i c = search (needs, laws)
@@ -38,8 +41,9 @@ put-padding-spec =
     (tie.spec
     Inv-loop
     μ-loop
+    padding-of-requires
     loop-holds
-    slice-write-out
+    put-entry-requires
     add-i
     loop-less
     loop-again

@@ -1,6 +1,6 @@
 -- `bcf::write::write_rest` meets its contract: by what the judge tells. Assumes nothing.
-use Rattle.bcf.proofs.WriteLaws.{laws}
 use borrow.Author.Needs.{needs}
+use Rattle.bcf.proofs.WriteLaws.{laws}
 use Rattle.bcf.proofs.write.write_rest.Statement.{statement}
 use Rattle.bcf.proofs.write.write_rest.Tie as tie
 

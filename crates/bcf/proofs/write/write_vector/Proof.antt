@@ -1,6 +1,6 @@
 -- `bcf::write::write_vector` meets its contract: one law for each answer; what lies before the place stays. Assumes nothing.
-use Rattle.bcf.proofs.WriteLaws.{laws}
 use borrow.Author.Needs.{needs}
+use Rattle.bcf.proofs.WriteLaws.{laws}
 use Rattle.bcf.proofs.write.write_vector.Statement.{statement}
 use Rattle.bcf.proofs.write.write_vector.Tie as tie
 

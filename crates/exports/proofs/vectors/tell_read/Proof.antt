@@ -29,6 +29,12 @@ enum-told-3 c = search needs
 tell-none-requires-3 : tie.Need-tell-none-requires-3
 tell-none-requires-3 c κs = search needs
 
+enum-told-4 : tie.Need-enum-told-4
+enum-told-4 c = search needs
+
+tell-none-requires-4 : tie.Need-tell-none-requires-4
+tell-none-requires-4 c κs = search needs
+
 returns : tie.Need-returns
 returns c = search (needs, arms, cases)
 
@@ -40,6 +46,9 @@ returns-3 c = search (needs, arms, cases)
 
 returns-4 : tie.Need-returns-4
 returns-4 c = search (needs, arms, cases)
+
+returns-5 : tie.Need-returns-5
+returns-5 c = search (needs, arms, cases)
 
 pub tell-read-spec : {M : Type 1} → statement M
 tell-read-spec =
@@ -53,7 +62,10 @@ tell-read-spec =
     tell-none-requires-2
     enum-told-3
     tell-none-requires-3
+    enum-told-4
+    tell-none-requires-4
     returns
     returns-2
     returns-3
-    returns-4)
+    returns-4
+    returns-5)

@@ -8,8 +8,8 @@ use Rattle.exports.proofs.vectors.tell_write.Tie as tie
 enum-known-write : tie.Need-enum-known-write
 enum-known-write c = search needs
 
-tell-one-requires : tie.Need-tell-one-requires
-tell-one-requires c κs = search needs
+tell-two-requires : tie.Need-tell-two-requires
+tell-two-requires c κs = search needs
 
 enum-told : tie.Need-enum-told
 enum-told c = search needs
@@ -32,8 +32,8 @@ tell-none-requires-3 c κs = search needs
 enum-known-write-2 : tie.Need-enum-known-write-2
 enum-known-write-2 c = search needs
 
-tell-one-requires-2 : tie.Need-tell-one-requires-2
-tell-one-requires-2 c κs = search needs
+tell-one-requires : tie.Need-tell-one-requires
+tell-one-requires c κs = search needs
 
 enum-told-4 : tie.Need-enum-told-4
 enum-told-4 c = search needs
@@ -82,7 +82,7 @@ tell-write-spec =
     tie.close
     (tie.spec
     enum-known-write
-    tell-one-requires
+    tell-two-requires
     enum-told
     tell-none-requires
     enum-told-2
@@ -90,7 +90,7 @@ tell-write-spec =
     enum-told-3
     tell-none-requires-3
     enum-known-write-2
-    tell-one-requires-2
+    tell-one-requires
     enum-told-4
     tell-none-requires-4
     enum-told-5
