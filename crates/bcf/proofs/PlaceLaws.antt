@@ -42,6 +42,9 @@ entries-length w v = go (size w) (length v / size w) v
     go k zero v = refl
     go k (suc n) v = ap suc (go k n (drop k v))
 
+pub entry-there : (w : Width) (v : List ℕ) {n i : ℕ} → n ≡ length v / size w → i < n → i < length (entriesIn w v)
+entry-there w v e h = let l = entries-length w v in omega arith
+
 from-is : (k n i : ℕ) (v : List ℕ) → i < n → getD (entriesFrom k n v) i 0 ≡ numberBy (take k (drop (i * k) v))
 unfolding entriesFrom
 from-is k zero i v h = absurd (omega arith)
@@ -113,30 +116,35 @@ module _ (v : List ℕ) (i : ℕ) where
 
 -- ---- writing
 
--- a byte at a time, or two
+-- so many bytes, and then those of what is left
 little-append : (a b c : ℕ) → littleOf (a + b) c ≡ littleOf a c ++ littleOf b (c / 256 ^ a)
 unfolding littleOf
 little-append zero b c = rw (zero-add b, div-one c)
 little-append (suc a) b c =
     rw (suc-add a b, little-append a b (c / 256), div-div-eq-div-mul c 256 (256 ^ a), ← pow-succ' 256 a)
 
+-- laid over a list they leave its length, and what follows them is laid behind them
+module _ (k c at : ℕ) (l : List ℕ) (h : at + k ≤ length l) where
+  little-fits : at + length (littleOf k c) ≤ length l
+  little-fits = let e = little-length k c in omega arith
+
+  little-keeps : length (overAt at (littleOf k c) l) ≡ length l
+  little-keeps = length-overAt at (littleOf k c) l little-fits
+
+  little-then : (vs : List ℕ) → overAt at (littleOf k c ++ vs) l ≡ overAt (at + k) vs (overAt at (littleOf k c) l)
+  little-then vs = overAt-append at (littleOf k c) vs l little-fits ∙ rw (little-length k c)
+
 module _ (c : ℕ) (l : List ℕ) (at : ℕ) where
   pub put-one : {x : ℕ} → at < length l → x ≡ c % 256 → set l at x ≡ overAt at (littleOf 1 c) l
   unfolding littleOf
   put-one h e = rw e (sym (overAt-one l at (c % 256) h))
 
-  -- so many bytes behind others
   module _ (a b : ℕ) {l₁ : List ℕ} (h : at + (a + b) ≤ length l) (e : l₁ ≡ overAt at (littleOf a c) l) where
-    first-fits : at + length (littleOf a c) ≤ length l
-    first-fits = let k = little-length a c in omega arith
-
     still : length l₁ ≡ length l
-    still = ap length e ∙ length-overAt at (littleOf a c) l first-fits
+    still = ap length e ∙ little-keeps a c at l (omega arith)
 
     behind : {l₂ : List ℕ} → l₂ ≡ overAt (at + a) (littleOf b (c / 256 ^ a)) l₁ → l₂ ≡ overAt at (littleOf (a + b) c) l
-    behind f =
-        let k = little-length a c in
-        rw (little-append a b c) (f ∙ rw e (sym (overAt-append at (littleOf a c) (littleOf b (c / 256 ^ a)) l first-fits ∙ rw k)))
+    behind f = rw (little-append a b c) (f ∙ rw e (sym (little-then a c at l (omega arith) (littleOf b (c / 256 ^ a)))))
 
   module _ {l₁ : List ℕ} (h : at + 2 ≤ length l) (e : l₁ ≡ overAt at (littleOf 1 c) l) where
     pub room-second : at + 1 < length l₁
@@ -154,18 +162,14 @@ module _ (c : ℕ) (l : List ℕ) (at : ℕ) where
 
 -- an entry, then the others behind it
 module _ (w : Width) (c : ℕ) (es l : List ℕ) (i : ℕ) (h : i < length l / size w) {l′ : List ℕ} (e : l′ ≡ overAt (i * size w) (littleOf (size w) c) l) where
-  fits : i * size w + length (littleOf (size w) c) ≤ length l
-  fits = let r = room-for w i (length l) h in let k = little-length (size w) c in omega arith
-
   pub put-length : length l′ ≡ length l
-  put-length = ap length e ∙ length-overAt (i * size w) (littleOf (size w) c) l fits
+  put-length = ap length e ∙ little-keeps (size w) c (i * size w) l (room-for w i (length l) h)
 
   pub put-on : overAt (i * size w) (bytesOf w (c ∷ es)) l ≡ overAt ((i + 1) * size w) (bytesOf w es) l′
   unfolding bytesOf
   put-on =
-      let k = little-length (size w) c in
-      let t : i * size w + length (littleOf (size w) c) ≡ (i + 1) * size w = (let z = suc-mul i (size w) in rw add-one (omega arith)) in
-      overAt-append (i * size w) (littleOf (size w) c) (bytesOf w es) l fits ∙ rw (t, ← e)
+      let t : i * size w + size w ≡ (i + 1) * size w = (let z = suc-mul i (size w) in rw add-one (omega arith)) in
+      little-then (size w) c (i * size w) l (room-for w i (length l) h) (bytesOf w es) ∙ rw (t, ← e)
 
 module _ (w : Width) (l : List ℕ) (c i : ℕ) {l′ : List ℕ} where
   pub lain-8 : w ≡ W8 → l′ ≡ overAt i (littleOf 1 c) l → l′ ≡ overAt (i * size w) (littleOf (size w) c) l

@@ -32,7 +32,7 @@ use Rattle.bcf.specs.declared.read.Read.{Read}
 use Rattle.bcf.specs.declared.read.Read.the-variants as R
 use Rattle.bcf.proofs.ReadingLaws.{codes-none, codes-more, codes-stop, codes-few, list-length, list-here}
 use Rattle.bcf.proofs.EntryLaws.{whole}
-use Rattle.bcf.proofs.PlaceLaws.{entries-length}
+use Rattle.bcf.proofs.PlaceLaws.{entries-length, entry-there}
 use Rattle.bcf.proofs.LayoutLaws.{readable-lays, lays-length}
 
 -- ---- the codes
@@ -52,21 +52,18 @@ module _ {w : Width} {v : List ℕ} {n b i : ℕ} (g : Counting w v n b i) where
     pub count-within : i < length v / size w
     count-within = let a = g .all in omega arith
 
-    inside : i < length (entriesIn w v)
-    inside = let a = g .all in let l = entries-length w v in omega arith
-
     module _ {x : ℕ} (e : x ≡ getD (entriesIn w v) i 0) where
       pub count-turn : x < b → Counting w v n b (i + 1)
       count-turn l =
           let f = g .bound in
-          let d = ap (λ (s : List ℕ). length (codesIn w s)) (here (entriesIn w v) i inside) ∙ ap length (codes-more w (getD (entriesIn w v) i 0) (drop (i + 1) (entriesIn w v)) (omega arith)) in
+          let d = ap (λ (s : List ℕ). length (codesIn w s)) (here (entriesIn w v) i (entry-there w v (g .all) h)) ∙ ap length (codes-more w (getD (entriesIn w v) i 0) (drop (i + 1) (entriesIn w v)) (omega arith)) in
           let s = g .same in
           record { all = g .all; bound = f; within = omega arith; same = omega arith }
 
       pub count-stop : b ≤ x → i ≡ length (codesIn w (entriesIn w v))
       count-stop l =
           let f = g .bound in
-          let d = ap (λ (s : List ℕ). length (codesIn w s)) (here (entriesIn w v) i inside) ∙ ap length (codes-stop w (getD (entriesIn w v) i 0) (drop (i + 1) (entriesIn w v)) (omega arith)) in
+          let d = ap (λ (s : List ℕ). length (codesIn w s)) (here (entriesIn w v) i (entry-there w v (g .all) h)) ∙ ap length (codes-stop w (getD (entriesIn w v) i 0) (drop (i + 1) (entriesIn w v)) (omega arith)) in
           let s = g .same in
           omega arith
 
@@ -95,9 +92,6 @@ module _ {w : Width} {v : List ℕ} {n b from i : ℕ} (g : Padded w v n b from 
     pub pad-within : i < length v / size w
     pad-within = let a = g .all in omega arith
 
-    entry : i < length (entriesIn w v)
-    entry = let a = g .all in let l = entries-length w v in omega arith
-
     module _ {x : ℕ} (e : x ≡ getD (entriesIn w v) i 0) where
       pub pad-turn : x ≡ b → Padded w v n b from (i + 1)
       unfolding onlyPadding
@@ -106,12 +100,12 @@ module _ {w : Width} {v : List ℕ} {n b from i : ℕ} (g : Padded w v n b from 
             all = g .all;
             pads = g .pads;
             within = omega arith;
-            same = rw (here (entriesIn w v) i entry, eq-eqb (getD (entriesIn w v) i 0) (padding w) (sym e ∙ f ∙ g .pads)) at (g .same);
+            same = rw (here (entriesIn w v) i (entry-there w v (g .all) h), eq-eqb (getD (entriesIn w v) i 0) (padding w) (sym e ∙ f ∙ g .pads)) at (g .same);
           }
 
       pub pad-stop : (x ≡ b → ⊥) → false ≡ onlyPadding w (drop from (entriesIn w v))
       unfolding onlyPadding
-      pad-stop f = rw (here (entriesIn w v) i entry, ne-eqb (getD (entriesIn w v) i 0) (padding w) (λ q. f (e ∙ q ∙ sym (g .pads)))) at (g .same)
+      pad-stop f = rw (here (entriesIn w v) i (entry-there w v (g .all) h), ne-eqb (getD (entriesIn w v) i 0) (padding w) (λ q. f (e ∙ q ∙ sym (g .pads)))) at (g .same)
 
   pub pad-past : n ≤ i → true ≡ onlyPadding w (drop from (entriesIn w v))
   unfolding onlyPadding

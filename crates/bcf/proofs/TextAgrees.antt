@@ -16,9 +16,9 @@ use Rattle.spelling.specs.Demands as S
 use Rattle.spelling.proofs.RoundTrip.{follow}
 use Rattle.bcf.specs.Layout.{largest}
 use Rattle.bcf.specs.declared.width.Width.{Width}
-use Rattle.bcf.specs.declared.width.Width.the-variants.{W8, W16, W32}
 use Rattle.bcf.specs.Demands.{HasVector, TextAgrees}
 use Rattle.bcf.proofs.VectorLaws.{lays-has}
+use Rattle.bcf.proofs.SmallestLaws.{widest}
 use Rattle.bcf.proofs.MeetsReading.{reads-list}
 use Rattle.bcf.proofs.RoundTrips.{begins}
 
@@ -47,9 +47,7 @@ module _ {w : Width} {n : ℕ} where
 -- its numbers have at most 64 bits
 largest-fits : (w : Width) → largest w ≤ 18446744073709551615
 unfolding largest
-largest-fits W8 = omega arith
-largest-fits W16 = omega arith
-largest-fits W32 = omega arith
+largest-fits w = let l = widest w in omega arith
 
 fitting : (w : Width) {as′ : List Allele} → AtMost (largest w) as′ → S.Fitting as′
 fitting w g = record { each = λ i h. let s = g .each i h in let l = largest-fits w in omega arith }

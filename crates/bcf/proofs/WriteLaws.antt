@@ -15,7 +15,7 @@ use borrow.Rule.Slice.PartMut.{putMid}
 use Rattle.text.specs.Pick.{pick, oneIf}
 use Rattle.text.specs.Answer.{Answer, says, numberOf}
 use Rattle.text.specs.Over.{over, overAt}
-use Rattle.text.proofs.Lists.{rest-all, over-nil, overAt-nil, over-append, length-over}
+use Rattle.text.proofs.Lists.{rest-all, overAt-nil, overAt-start, over-append, length-over}
 use Rattle.text.proofs.CopyLaws.{laid-refused, rest-laid}
 use Rattle.allele.specs.Row.{alleleOf, rowOf, firstUnsound, Parallel}
 use Rattle.allele.proofs.RowLaws.{at-is, row-length, row-here, row-past, sound-missing, sound-there, unsound-none, unsound-more, unsound-here}
@@ -118,12 +118,8 @@ pub record Laying (w : Width) (n m p l₀ l : List ℕ) (k : ℕ) : Type 0 where
   pub small : mostOf (drop k (rowOf n m p)) < 9223372036854775807
   pub codes : overAt (k * size w) (bytesOf w (map codeOf (drop k (rowOf n m p)))) l ≡ over (bytesOf w (map codeOf (rowOf n m p))) l₀
 
--- from the start on is over the start
-at-start : (w : Width) (vs l : List ℕ) → overAt (0 * size w) vs l ≡ over vs l
-at-start w vs l = rw (zero-mul (size w)) (sym (over-append [] vs l zero-le ∙ ap (overAt 0 vs) (over-nil l)))
-
 pub lay-first : {w : Width} {n m p l : List ℕ} → Parallel n m p → mostOf (rowOf n m p) < 9223372036854775807 → length n ≤ length l / size w → Laying w n m p l l 0
-lay-first {w} q s h = record { even = q; within = zero-le; len = refl; room = h; small = s; codes = at-start w _ _ }
+lay-first {w} q s h = record { even = q; within = zero-le; len = refl; room = h; small = s; codes = rw (zero-mul (size w)) (overAt-start _ _) }
 
 module _ {w : Width} {n m p l₀ l : List ℕ} {k : ℕ} (g : Laying w n m p l₀ l k) where
   module _ (h : k < length n) where

@@ -46,7 +46,7 @@ pub record HasVector (w : Width) (as′ : List Allele) (n : ℕ) : Type 0 where
 unfoldable pub Vectors : Type 0
 Vectors = (w : Width) (as′ : List Allele) (n : ℕ) → ((v : List ℕ) × Lays w as′ n v) ↔ HasVector w as′ n
 
--- and it has one in every wider width too
+-- a list with a vector has one of that length in every wider width too
 unfoldable pub Wider : Type 0
 Wider = (u w : Width) (as′ : List Allele) (n : ℕ) (v : List ℕ) → size u ≤ size w → Lays u as′ n v → (x : List ℕ) × Lays w as′ n x
 
@@ -262,3 +262,24 @@ SlicesReader = (b : ℕ) (v n m p : List ℕ) (r : Read) (n′ m′ p′ : List 
 unfoldable pub SlicesWriter : Type 0
 SlicesWriter = (n m p : List ℕ) (k : ℕ) (out : List ℕ) (at : ℕ) (r : Write) (out′ : List ℕ) → Parallel n m p → WritesVector n m p k out at r out′
     → (writePaper r ≡ writer k (rowOf n m p) out at .answer) × (out′ ≡ writer k (rowOf n m p) out at .output)
+
+-- slices of unequal lengths stand for no row: 27 where no width has so many bytes, else 16, and they are left as they were
+pub record UnevenRead (b : ℕ) (n m p : List ℕ) (r : Read) (n′ m′ p′ : List ℕ) : Type 0 where
+  pub unknown : ((w : Width) → b ≡ size w → ⊥) → readPaper r ≡ says 27 []
+  pub known : (w : Width) → b ≡ size w → readPaper r ≡ says 16 []
+  pub numbers : n′ ≡ n
+  pub missing : m′ ≡ m
+  pub phased : p′ ≡ p
+
+unfoldable pub UnevenReader : Type 0
+UnevenReader = (b : ℕ) (v n m p : List ℕ) (r : Read) (n′ m′ p′ : List ℕ) → (Parallel n m p → ⊥) → ReadsTold b v n m p r n′ m′ p′ → UnevenRead b n m p r n′ m′ p′
+
+-- and for no list: 6 beyond the output, else 16, and it is left as it was
+pub record UnevenWritten (out : List ℕ) (at : ℕ) (r : Write) (out′ : List ℕ) : Type 0 where
+  pub beyond : length out < at → writePaper r ≡ says 6 []
+  pub lengths : at ≤ length out → writePaper r ≡ says 16 []
+  pub output : out′ ≡ out
+
+unfoldable pub UnevenWriter : Type 0
+UnevenWriter = (n m p : List ℕ) (k : ℕ) (out : List ℕ) (at : ℕ) (r : Write) (out′ : List ℕ) → (Parallel n m p → ⊥) → WritesVector n m p k out at r out′
+    → UnevenWritten out at r out′

@@ -37,11 +37,11 @@ unfoldable pub mostOf : List Allele → ℕ
 mostOf [] = 0
 mostOf (a ∷ as′) = larger (a .number) (mostOf as′)
 
--- the smallest width that holds a number, if one does
+-- the smallest width that holds a number, or the widest where none does
 unfoldable pub widthFor : ℕ → Width
 widthFor x = pick (leb x (largest W8)) W8 (pick (leb x (largest W16)) W16 W32)
 
--- every number of a list
+-- the smallest that holds every number of a list
 unfoldable pub smallest : List Allele → Width
 smallest as′ = widthFor (mostOf as′)
 

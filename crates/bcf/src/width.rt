@@ -67,7 +67,7 @@ pub(crate) fn padding_of(width: Width) -> u64
     }
 }
 
-// The smallest width that holds a number, if one does.
+// The smallest width that holds a number, or the widest where none does.
 pub(crate) fn width_for(number: u64) -> Width
     ensures { λ r. ⌜ r ≡ widthFor number ⌝ }
 {

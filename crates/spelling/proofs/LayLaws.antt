@@ -1,12 +1,12 @@
 -- Writing a list allele by allele: those still to write, laid from the place reached, leave what the whole list leaves. Assumes nothing.
-use Prim.Native.Nat.{ℕ, _+_, _≤_, zero-le}
+use Prim.Native.Nat.{ℕ, _+_, _≤_}
 use mathlib.Core.Path.{_≡_, refl, sym, ap, _∙_}
 use mathlib.Core.List.{List, [], _∷_, _++_}
 use native.Mathlib.Omega.{arith}
 use native.Mathlib.Nat.{zero-add}
 use lib.ListN.{length, drop, length-append}
 use Rattle.text.specs.Over.{over, overAt}
-use Rattle.text.proofs.Lists.{over-nil, over-append, overAt-nil, overAt-append, length-overAt}
+use Rattle.text.proofs.Lists.{overAt-nil, overAt-start, overAt-append, length-overAt}
 use Rattle.allele.specs.declared.allele.Allele.{Allele}
 use Rattle.allele.proofs.RowLaws.{row-here, row-past}
 use Rattle.spelling.specs.Inner.{oneText, textFrom, plannedText, PutsAt}
@@ -18,11 +18,8 @@ pub record Laying (as′ : List Allele) (plan : Plan) (l₀ l : List ℕ) (at k 
   pub room : at + length (textFrom plan k (drop k as′)) ≤ length l₀
   pub same : overAt at (textFrom plan k (drop k as′)) l ≡ over (plannedText plan as′) l₀
 
-over-start : (vs l : List ℕ) → overAt 0 vs l ≡ over vs l
-over-start vs l = sym (over-append [] vs l zero-le ∙ ap (overAt 0 vs) (over-nil l))
-
 pub lay-first : {as′ : List Allele} {plan : Plan} {l : List ℕ} → length (plannedText plan as′) ≤ length l → Laying as′ plan l l 0 0
-lay-first h = record { len = refl; room = rw zero-add h; same = over-start _ _ }
+lay-first h = record { len = refl; room = rw zero-add h; same = overAt-start _ _ }
 
 module _ {as′ : List Allele} {plan : Plan} {l₀ l : List ℕ} {at k : ℕ} (g : Laying as′ plan l₀ l at k) where
   pub lay-turn : {a : Allele} {r : ℕ} {l′ : List ℕ} → drop k as′ ≡ a ∷ drop (k + 1) as′ → PutsAt (oneText plan k a) at l r l′ → Laying as′ plan l₀ l′ r (k + 1)

@@ -79,6 +79,11 @@ pub overAt-nil : (a : ℕ) (l : List ℕ) → overAt a [] l ≡ l
 unfolding overAt over
 overAt-nil a l = take-append-drop a l
 
+-- from the start on
+pub overAt-start : (vs l : List ℕ) → overAt 0 vs l ≡ over vs l
+unfolding overAt
+overAt-start vs l = refl
+
 pub length-over : (vs l : List ℕ) → length vs ≤ length l → length (over vs l) ≡ length l
 unfolding over
 length-over vs l h = simp (length-append, length-drop) (omega arith)
