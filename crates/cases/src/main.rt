@@ -1,4 +1,7 @@
 // Reads cases from standard input, one a line, and prints one answer line for each.
+
+#![tactic(auto)]
+
 mod genotypes;
 mod infos;
 mod input;

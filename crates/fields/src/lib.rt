@@ -1,3 +1,6 @@
 // The text of each field of a line, and POS.
+
+#![tactic(auto)]
+
 pub mod field;
 pub mod pos;

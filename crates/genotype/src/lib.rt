@@ -1,4 +1,7 @@
 // Reading a genotype: a text of alleles, each a number or missing, with its phasing.
+
+#![tactic(auto)]
+
 mod above;
 mod lay;
 mod pair;

@@ -1,4 +1,7 @@
 // Joining columns to a line: tabs between, and an ending.
+
+#![tactic(auto)]
+
 pub mod columns;
 pub mod put;
 pub mod simple;

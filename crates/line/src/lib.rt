@@ -1,4 +1,7 @@
 // One line of VCF: where it ends, and its reader.
+
+#![tactic(auto)]
+
 mod ending;
 pub mod extent;
 mod flags;

@@ -1,4 +1,7 @@
 // The numbers of genotypes, from the command line: all of a ploidy and an allele count, or that of one genotype.
+
+#![tactic(auto)]
+
 mod ask;
 mod print;
 mod row;

@@ -1,4 +1,7 @@
 // Writing a genotype: the one shortest permitted spelling of a list of alleles.
+
+#![tactic(auto)]
+
 pub mod put;
 pub mod tally;
 pub mod write;

@@ -1,2 +1,5 @@
 // A line, split in three plain steps.
+
+#![tactic(auto)]
+
 pub mod split;

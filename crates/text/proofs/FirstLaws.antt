@@ -35,6 +35,7 @@ module _ {X : Type 0} (test : X → Bool) {holds : X → Type 0} (exact : (x : X
       by false e = e
 
   first_where_lem : (xs : List X) (i : ℕ) → FirstOf holds xs i → (k : ℕ) → first_where test k xs ≡ some (k + i)
+  first_where_lem [] i f k = elim f [ ]
   first_where_lem (x ∷ xs) zero (here h) k = where_here test k x xs ((exact x).1 h) ∙ ap some (omega arith)
   first_where_lem (x ∷ xs) (suc i) (later n f) k = where_later test k x xs (fails x n) ∙ first_where_lem xs i f (k + 1) ∙ ap some (omega arith)
 

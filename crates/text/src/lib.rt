@@ -1,5 +1,8 @@
 // What every crate above shares: places in a text, bytes copied into lent output, and what a text
 // is as characters.
+
+#![tactic(auto)]
+
 pub mod copy;
 pub mod range;
 pub mod same;

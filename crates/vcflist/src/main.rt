@@ -1,4 +1,7 @@
 // Lists the lines of a VCF file: reads standard input, and prints a line of findings for each line that it reads.
+
+#![tactic(auto)]
+
 mod input;
 mod list;
 

@@ -1,0 +1,12 @@
+-- `text::copy::copy` meets its contract: the bytes still to copy, stored from i on, give what all of them give stored from 0. Assumes nothing.
+use Prim.Native.Nat.{◌-◌}
+use Rattle.std.proofs.Common.{rules}
+use lib.ListN.{length}
+use Rattle.text.proofs.CopyLaws.{Copying, laws}
+use Rattle.text.proofs.copy.copy.Given as goal
+
+abbrev pub invariant-loop-i : goal.invariant-loop-i
+invariant-loop-i l = Copying l.from l.initial.out l.out l.i
+
+abbrev pub decreases-loop-i : goal.decreases-loop-i
+decreases-loop-i l = length l.from - l.i
