@@ -1,5 +1,5 @@
 // One allele of a genotype. A missing one has the number 0.
-#[derive(Drop)]
+#[derive(Clone, Copy)]
 pub struct Allele {
     pub number: u64,
     pub missing: bool,

@@ -10,7 +10,7 @@ use decimal::read::{Number, read_decimal};
 use text::same::same_bytes;
 
 // What a step from a place finds.
-#[derive(Drop)]
+#[derive(Clone, Copy)]
 pub enum Step {
     // 0: an allele, and the place past it.
     Found(Allele, usize),

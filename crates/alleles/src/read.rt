@@ -8,7 +8,7 @@ use allele::step::{Step, step_at};
 use genotype::read::{Read, judge, judge_checked};
 
 // One turn of filling a row: it is done, or an allele is to be laid, and the text goes on at `next`.
-#[derive(Drop)]
+#[derive(Clone, Copy)]
 struct Turn {
     done: bool,
     allele: Allele,

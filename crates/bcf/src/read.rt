@@ -10,7 +10,7 @@ use crate::entry::entry_at;
 use crate::width::{Width, left_over, negative_of, padding_of, whole_in};
 
 // The answer of the reader.
-#[derive(Drop)]
+#[derive(Clone, Copy)]
 pub enum Read {
     // 0: so many alleles were read.
     Done(usize),

@@ -4,7 +4,7 @@ ghost use Rattle.bcf.specs.Layout.{size, padding};
 ghost use Rattle.bcf.specs.Reading.{negative};
 ghost use Rattle.bcf.specs.Writing.{width_for};
 
-#[derive(Drop)]
+#[derive(Clone, Copy)]
 pub enum Width {
     // One byte.
     W8,

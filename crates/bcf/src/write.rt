@@ -11,7 +11,7 @@ use crate::entry::put_entry;
 use crate::width::{Width, padding_of, size_of, whole_in, width_for};
 
 // The answer of the writer.
-#[derive(Drop)]
+#[derive(Clone, Copy)]
 pub enum Write {
     // 0: entries of so many bytes each, and so many bytes in all, were written.
     Done(usize, usize),
@@ -32,7 +32,7 @@ pub enum Write {
 }
 
 // What one pass over a list tells.
-#[derive(Drop)]
+#[derive(Clone, Copy)]
 enum Judged {
     // The allele with this index is the first that is missing and has a number.
     Bad(usize),

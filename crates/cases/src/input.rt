@@ -14,13 +14,13 @@ type Chunk = [u8; 65536];
 
 // How many bytes the line has so far, LONGEST + 1 for any number above LONGEST; and where its
 // answer goes.
-#[derive(Drop)]
+#[derive(Clone, Copy)]
 struct State {
     len: usize,
     at: Place,
 }
 
-#[derive(Drop)]
+#[derive(Clone, Copy)]
 enum Got {
     Bytes(usize),
     End,

@@ -60,7 +60,7 @@ fn answer_join(case: &[u8], text: &mut Text, out: &mut Buffer, at: Place) -> Ans
 }
 
 // What writes a list: `join` with its ending, `filters` or `alts`.
-#[derive(Drop)]
+#[derive(Clone, Copy)]
 enum Writer {
     Columns(Ending),
     Filters,

@@ -112,7 +112,7 @@ fn put_read(read: Read, out: &mut Buffer, at: Place) -> Place {
 }
 
 // A reading's number, and the next place.
-#[derive(Drop)]
+#[derive(Clone, Copy)]
 struct Told {
     number: u64,
     next: usize,

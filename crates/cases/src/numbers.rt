@@ -81,7 +81,7 @@ fn said(numbered: Numbered) -> Said {
 }
 
 // What fills a row: the genotype of a number, or all of them.
-#[derive(Drop)]
+#[derive(Clone, Copy)]
 enum Asked {
     One(u64),
     All,

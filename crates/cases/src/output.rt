@@ -14,7 +14,7 @@ pub type Place = usize;
 pub const CLOSED: Place = FULL + 1;
 
 // Where the answer to a case ended, or that it is no case and nothing was put.
-#[derive(Drop)]
+#[derive(Clone, Copy)]
 pub enum Answer {
     Given(Place),
     NoCase,
@@ -143,7 +143,7 @@ pub fn then_hex(out: &mut Buffer, at: Place, s: &[u8]) -> Place {
 }
 
 // An answer's number, alone or with the value or the two values that come with it.
-#[derive(Drop)]
+#[derive(Clone, Copy)]
 pub enum Said {
     Alone(u64),
     With(u64, u64),

@@ -132,7 +132,7 @@ fn answer_write(case: &[u8], arguments: usize, out: &mut Buffer, at: Place) -> A
 }
 
 // The alleles of a case as the records of a row from `from` on, and whether they are such.
-#[derive(Drop)]
+#[derive(Clone, Copy)]
 struct Records {
     good: bool,
     from: usize,

@@ -54,14 +54,14 @@ fn answer_unequal(case: &[u8], arguments: usize, out: &mut Buffer, at: Place) ->
 }
 
 // A file format.
-#[derive(Drop)]
+#[derive(Clone, Copy)]
 pub struct Format {
     pub major: u32,
     pub minor: u32,
 }
 
 // The size of the output that is lent, and the place in it.
-#[derive(Drop)]
+#[derive(Clone, Copy)]
 pub struct Room {
     pub size: usize,
     pub from: usize,
@@ -117,7 +117,7 @@ pub fn said(write: Write) -> Said {
 }
 
 // What stands before the alleles of a case: the file format, the room and the place.
-#[derive(Drop)]
+#[derive(Clone, Copy)]
 pub enum Asked {
     For(Format, Room),
     Bad,
@@ -143,7 +143,7 @@ pub fn terms(case: &[u8]) -> Asked {
 }
 
 // An output and a place in it, or that two words don't say it.
-#[derive(Drop)]
+#[derive(Clone, Copy)]
 pub enum Lent {
     In(Room),
     Bad,
@@ -200,7 +200,7 @@ fn answer_write(case: &[u8], arguments: usize, out: &mut Buffer, at: Place) -> A
 }
 
 // How many words list the alleles, and how they are to be written.
-#[derive(Drop)]
+#[derive(Clone, Copy)]
 struct Rows {
     words: usize,
     format: Format,
@@ -231,7 +231,7 @@ fn answer_list(
 }
 
 // An allele as an argument: a number and two marks.
-#[derive(Drop)]
+#[derive(Clone, Copy)]
 pub enum Listed {
     Of(u64, u64, u64),
     Bad,

@@ -73,7 +73,7 @@ pub fn index_in(names: &[u8], n: usize, s: &[u8]) -> usize {
 }
 
 // The number that a word is, or that it is none.
-#[derive(Drop)]
+#[derive(Clone, Copy)]
 pub enum Numeral {
     Of(u64),
     Bad,
@@ -110,7 +110,7 @@ const MOST: usize = 1024;
 pub type Row = [usize; MOST];
 
 // How many numbers a row has, or that the word is none.
-#[derive(Drop)]
+#[derive(Clone, Copy)]
 pub enum Counted {
     Of(usize),
     Bad,
@@ -149,7 +149,7 @@ fn split_numbers(s: &[u8], row: &mut Row) -> Counted {
 const ENDINGS: usize = 3;
 
 // How a line ended, or that the word does not say it.
-#[derive(Drop)]
+#[derive(Clone, Copy)]
 pub enum Ended {
     By(Ending),
     Bad,
@@ -165,7 +165,7 @@ pub fn ending(case: &[u8], k: usize) -> Ended {
 }
 
 // The byte that two hex digits make, or that one of them is none.
-#[derive(Drop)]
+#[derive(Clone, Copy)]
 enum Pair {
     Byte(u8),
     Bad,
@@ -195,7 +195,7 @@ fn byte_of(a: u8, b: u8) -> Pair {
 }
 
 // The place past the bytes of a HEX, or that the word is none.
-#[derive(Drop)]
+#[derive(Clone, Copy)]
 pub enum Decoded {
     Upto(usize),
     Bad,
@@ -237,7 +237,7 @@ fn decode_pairs(s: &[u8], text: &mut Text, from: usize) -> Decoded {
 }
 
 // The places past the bytes of two HEX.
-#[derive(Drop)]
+#[derive(Clone, Copy)]
 pub enum Pairs {
     Upto(usize, usize),
     Bad,
@@ -257,7 +257,7 @@ pub fn decode_two(case: &[u8], k: usize, text: &mut Text) -> Pairs
 }
 
 // The place past the bytes of a HEX, and the number of the word after it.
-#[derive(Drop)]
+#[derive(Clone, Copy)]
 pub enum Placed {
     At(usize, usize),
     Bad,

@@ -8,7 +8,7 @@ ghost use Rattle.decimal.specs.Inner.{Sizes};
 use text::copy::Written;
 
 // How many digits a number has, and the power of ten that the first of them counts: 1 for numbers below ten.
-#[derive(Drop)]
+#[derive(Clone, Copy)]
 struct Size {
     len: usize,
     power: u64,

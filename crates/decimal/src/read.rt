@@ -3,7 +3,7 @@ ghost use Rattle.std.specs.Prelude.{◌≡◌};
 ghost use Rattle.decimal.specs.Promises.{ReadsDigits, ReadsNumber};
 
 // What a decimal text is worth, or which of its bytes is at fault.
-#[derive(Drop)]
+#[derive(Clone, Copy)]
 pub enum Number {
     // 0: the value.
     Value(u64),

@@ -6,7 +6,7 @@ ghost use Rattle.entries.specs.Promises.{JudgesEnds, FindsEntry, ShowsEntry};
 use text::range::Range;
 
 // Whether ends make a list of entries.
-#[derive(Drop)]
+#[derive(Clone, Copy)]
 pub enum Ends {
     // 0: they never fall and never pass the text.
     Good,
@@ -15,7 +15,7 @@ pub enum Ends {
 }
 
 // What entry i is.
-#[derive(Drop)]
+#[derive(Clone, Copy)]
 pub enum Entry {
     // 0: its place in the text.
     At(Range),

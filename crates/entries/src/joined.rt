@@ -9,7 +9,7 @@ use crate::entries::{Ends, entry_text, judge_ends};
 use text::copy::copy;
 
 // The answer of the writer.
-#[derive(Drop)]
+#[derive(Clone, Copy)]
 pub enum Joined {
     // 0: so many bytes were written.
     Done(usize),

@@ -10,7 +10,7 @@ use record::place::{Name, Record, place_of};
 use text::range::Range;
 
 // What a field's text is.
-#[derive(Drop)]
+#[derive(Clone, Copy)]
 pub enum Text {
     // 0: its place.
     At(Range),

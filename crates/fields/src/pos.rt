@@ -4,7 +4,7 @@ ghost use Rattle.fields.specs.Promises.{ReadsPos};
 use decimal::read::{Number, read_decimal};
 
 // What a POS text says.
-#[derive(Drop)]
+#[derive(Clone, Copy)]
 pub enum Position {
     // 0: a position.
     At(u64),

@@ -11,7 +11,7 @@ use crate::wide::{Wide, make_wide, wide_places};
 use record::place::{Name, Record, ending_of, make_record, place_of};
 
 // A record in the old form.
-#[derive(Drop)]
+#[derive(Clone, Copy)]
 pub enum Widened {
     // 0: the form.
     To(Wide),
@@ -20,7 +20,7 @@ pub enum Widened {
 }
 
 // An old form as a record.
-#[derive(Drop)]
+#[derive(Clone, Copy)]
 pub enum Narrowed {
     // 0: the record.
     To(Record),

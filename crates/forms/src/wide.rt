@@ -8,7 +8,7 @@ use record::place::Name;
 use text::range::Range;
 
 // Others ask for its ending by `wide_ending` and for a field's place by `wide_place`.
-#[derive(Drop)]
+#[derive(Clone, Copy)]
 pub struct Wide {
     pub(crate) ending: Ending,
     pub(crate) chrom: Range,

@@ -10,7 +10,7 @@ use lists::alternate_bases::alt_count;
 use text::same::same_bytes;
 
 // The first allele whose number is above a count.
-#[derive(Drop)]
+#[derive(Clone, Copy)]
 pub(crate) enum Above {
     At(usize),
     Nothing,

@@ -9,7 +9,7 @@ use allele::allele::Allele;
 use allele::step::{Step, step_at};
 
 // What a text answers, whatever the room, and a number that none of its alleles is above.
-#[derive(Drop)]
+#[derive(Clone, Copy)]
 pub(crate) struct Whole {
     pub(crate) read: Read,
     pub(crate) most: u64,

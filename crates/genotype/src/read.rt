@@ -14,7 +14,7 @@ use crate::lay::{Whole, lay};
 use crate::pair::{is_known_pair, is_pair, put_pair};
 
 // The answer of a reader.
-#[derive(Drop)]
+#[derive(Clone, Copy)]
 pub enum Read {
     // 0: so many alleles were read.
     Done(usize),

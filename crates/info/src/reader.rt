@@ -4,7 +4,7 @@ ghost use Rattle.info.specs.Promises.{TakesStep, Opens, Moves, TakesNext};
 
 use crate::step::{Step, step_at};
 
-#[derive(Drop)]
+#[derive(Clone, Copy)]
 pub struct Reader<'a> {
     pub(crate) column: &'a [u8],
     pub(crate) at: usize,

@@ -9,20 +9,20 @@ use pieces::either::find_either;
 use text::range::Range;
 
 // An entry's value, which stands after its first `=`.
-#[derive(Drop)]
+#[derive(Clone, Copy)]
 pub enum Value {
     Absent,
     At(Range),
 }
 
-#[derive(Drop)]
+#[derive(Clone, Copy)]
 pub struct Entry {
     pub key: Range,
     pub value: Value,
 }
 
 // What a step from a place finds. Each case has the next place.
-#[derive(Drop)]
+#[derive(Clone, Copy)]
 pub enum Step {
     // 0: an entry.
     Found(Entry, usize),
@@ -39,7 +39,7 @@ pub enum Step {
 }
 
 // A step's number, and the next place.
-#[derive(Drop)]
+#[derive(Clone, Copy)]
 pub struct Told {
     pub number: u64,
     pub next: usize,

@@ -21,7 +21,7 @@ use text::copy::copy;
 use text::utf8::{Utf8, check_utf8};
 
 // The answer of the joiner.
-#[derive(Drop)]
+#[derive(Clone, Copy)]
 pub enum Joined {
     // 0: so many bytes were written.
     Done(usize),

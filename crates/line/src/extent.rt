@@ -6,7 +6,7 @@ use pieces::either::find_either;
 use record::ending::{Ending, ending_by};
 
 // The line found at a place.
-#[derive(Drop)]
+#[derive(Clone, Copy)]
 pub enum Lined {
     // 0: where its text ends, how it ended, and the next place.
     At(usize, Ending, usize),

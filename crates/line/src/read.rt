@@ -14,7 +14,7 @@ use record::place::{Record, make_record};
 use text::utf8::{Utf8, check_utf8};
 
 // What reading at a place finds. Each case has the next place.
-#[derive(Drop)]
+#[derive(Clone, Copy)]
 pub enum Read {
     // 0: a line.
     Line(Record, usize),
@@ -33,7 +33,7 @@ pub enum Read {
 }
 
 // What ends a column, and where.
-#[derive(Drop)]
+#[derive(Clone, Copy)]
 enum Stop {
     Tab(usize),
     Feed(usize),
@@ -41,7 +41,7 @@ enum Stop {
 }
 
 // How a line's columns are judged: where its text ends and the next place, or a refusal's.
-#[derive(Drop)]
+#[derive(Clone, Copy)]
 enum Judged {
     Fine(usize, usize),
     Empty(usize),

@@ -9,7 +9,7 @@ use crate::runs::{past_calm64, past_quiet64};
 use masks::mask::{low, mask, rest};
 
 // What a block has.
-#[derive(Drop)]
+#[derive(Clone, Copy)]
 enum Met {
     // The LF that ends the line: how many tabs are kept, and its place.
     Feed(usize, usize),
@@ -19,7 +19,7 @@ enum Met {
 
 // How many tabs are kept, 10 where the line is left; the LF's place; whether all bytes before it are known to be
 // below 80 hex.
-#[derive(Drop)]
+#[derive(Clone, Copy)]
 pub(crate) struct Found {
     pub(crate) k: usize,
     pub(crate) feed: usize,

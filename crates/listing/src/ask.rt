@@ -9,7 +9,7 @@ use crate::print::print_totals;
 use text::copy::Written;
 
 // What is to be done.
-#[derive(Drop)]
+#[derive(Clone, Copy)]
 pub enum Ask {
     // Read more of the input behind the first so many bytes of the buffer, and ask again from the state.
     Read(usize, State),

@@ -9,7 +9,7 @@ use crate::turn::{Phase, Reach, Turn, reach_from, turn_at};
 use text::copy::Written;
 
 // The phase and the place of the next turn; how many bytes the output holds; what was counted.
-#[derive(Drop)]
+#[derive(Clone, Copy)]
 pub struct State {
     pub phase: Phase,
     pub at: usize,
@@ -18,7 +18,7 @@ pub struct State {
 }
 
 // Why no further turn is taken.
-#[derive(Drop)]
+#[derive(Clone, Copy)]
 pub enum Why {
     // 6: the place lies beyond the window.
     Beyond,
@@ -31,7 +31,7 @@ pub enum Why {
 }
 
 // Where the turns end, and why there.
-#[derive(Drop)]
+#[derive(Clone, Copy)]
 pub struct Driven {
     pub why: Why,
     pub state: State,
@@ -65,7 +65,7 @@ fn reach_at(w: &[u8], at: usize, reach: Reach) -> Reach
 }
 
 // What one turn comes to: the next state, or why no turn is taken.
-#[derive(Drop)]
+#[derive(Clone, Copy)]
 enum Taken {
     On(State),
     Stop(Why),

@@ -10,7 +10,7 @@ use decimal::print::{decimal_len, print_decimal};
 use text::copy::{Written, copy};
 
 // How many lines were read, and how many refused.
-#[derive(Drop)]
+#[derive(Clone, Copy)]
 pub struct Totals {
     pub read: u64,
     pub refused: u64,

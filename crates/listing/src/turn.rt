@@ -20,7 +20,7 @@ use samples::columns::count as count_samples;
 const LONGEST: usize = 65536;
 
 // Where the input stands at a place.
-#[derive(Drop)]
+#[derive(Clone, Copy)]
 pub enum Phase {
     // At the start of a line; only lines that begin with `#` came before.
     Lead,
@@ -33,7 +33,7 @@ pub enum Phase {
 }
 
 // Why there is no line to read at a place.
-#[derive(Drop)]
+#[derive(Clone, Copy)]
 pub enum Refusal {
     // 2
     Empty,
@@ -48,7 +48,7 @@ pub enum Refusal {
 }
 
 // What is printed of a read.
-#[derive(Drop)]
+#[derive(Clone, Copy)]
 pub enum Row {
     // 0: how many columns the line has, its INFO count, and how many samples.
     Read(usize, usize, usize),
@@ -56,7 +56,7 @@ pub enum Row {
 }
 
 // What a turn does. Where it goes on, the next phase and place are given.
-#[derive(Drop)]
+#[derive(Clone, Copy)]
 pub enum Turn {
     // 6: the place lies beyond the window.
     Beyond,
@@ -71,7 +71,7 @@ pub enum Turn {
 }
 
 // How far the line at a place reaches in the window: past its LF, or to the window's end.
-#[derive(Drop)]
+#[derive(Clone, Copy)]
 pub(crate) struct Reach {
     pub(crate) end: usize,
     pub(crate) fed: bool,

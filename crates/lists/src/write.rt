@@ -15,14 +15,14 @@ use entries::joined::{Joined, put_joined};
 use text::copy::{Written, copy};
 
 // Which list is written.
-#[derive(Drop)]
+#[derive(Clone, Copy)]
 pub enum Kind {
     Filters,
     Alts,
 }
 
 // Whether an entry may be written.
-#[derive(Drop)]
+#[derive(Clone, Copy)]
 pub enum Verdict {
     // 0: it may.
     Fine,
@@ -33,7 +33,7 @@ pub enum Verdict {
 }
 
 // The answer of a writer.
-#[derive(Drop)]
+#[derive(Clone, Copy)]
 pub enum Write {
     // 0: so many bytes were written.
     Done(usize),

@@ -5,7 +5,7 @@ ghost use Rattle.numbering.specs.Answers.{limits};
 ghost use Rattle.numbering.specs.Promises.{CountsGenotypes};
 
 // A number, or that there is none.
-#[derive(Drop)]
+#[derive(Clone, Copy)]
 pub enum Numbered {
     // 0: the number.
     Is(u64),

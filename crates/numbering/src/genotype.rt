@@ -8,7 +8,7 @@ ghost use Rattle.numbering.specs.Promises.{PlacesGenotype};
 use crate::counts::{count, within_limits};
 
 // The answer of a writer of numbers.
-#[derive(Drop)]
+#[derive(Clone, Copy)]
 pub enum Filled {
     // 0: and the ploidy, or how many genotypes.
     Done(u64),

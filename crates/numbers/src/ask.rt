@@ -13,7 +13,7 @@ use numbering::number::number_of;
 use pieces::count::count_byte;
 
 // The answer of `asked`.
-#[derive(Drop)]
+#[derive(Clone, Copy)]
 pub enum Ask {
     // 0: all genotypes. The ploidy, the allele count, and how many there are.
     All(u64, u64, u64),

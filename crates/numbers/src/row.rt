@@ -9,7 +9,7 @@ use numbering::genotype::{Filled, genotype_of};
 use text::copy::{Written, copy};
 
 // The answer of `put_row`.
-#[derive(Drop)]
+#[derive(Clone, Copy)]
 pub enum Row {
     // 0: so many bytes were put.
     Put(usize),

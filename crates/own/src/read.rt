@@ -8,7 +8,7 @@ use alleles::read::{read_alleles, read_alleles_checked};
 use genotype::read::Read;
 
 // A row after reading into it, and the answer.
-#[derive(Drop)]
+#[derive(Clone, Copy)]
 pub struct Filled {
     pub answer: Read,
     pub row: [Allele; 64],

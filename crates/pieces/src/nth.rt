@@ -5,7 +5,7 @@ use crate::step::{Step, piece_at};
 use text::range::Range;
 
 // Which piece has a number.
-#[derive(Drop)]
+#[derive(Clone, Copy)]
 pub enum Nth {
     // 0: its place in the text.
     At(Range),

@@ -6,7 +6,7 @@ use crate::either::{find_either, near_end};
 use text::range::Range;
 
 // What a step from a place finds.
-#[derive(Drop)]
+#[derive(Clone, Copy)]
 pub enum Step {
     // 0: a piece that a separator ends, and the place past that separator.
     More(Range, usize),

@@ -1,7 +1,7 @@
 // How a line ended.
 ghost use Rattle.record.specs.Promises.{SizesEnding, NamesEnding};
 
-#[derive(Drop)]
+#[derive(Clone, Copy)]
 pub enum Ending {
     // The end of the input.
     Nothing,

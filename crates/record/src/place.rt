@@ -9,7 +9,7 @@ use text::range::Range;
 // A line's record: how it ended, where its text starts, where each of its first nine fields ends, and where its text ends. Each
 // field starts past one tab after the end before it. Without FORMAT the ninth end is INFO's, and no tab is passed. Others ask for
 // its ending by `ending_of` and for a field's place by `place_of`.
-#[derive(Drop)]
+#[derive(Clone, Copy)]
 pub struct Record {
     pub(crate) ending: Ending,
     pub(crate) start: usize,
@@ -26,7 +26,7 @@ pub struct Record {
 }
 
 // The ten fields of a line.
-#[derive(Drop)]
+#[derive(Clone, Copy)]
 pub enum Name {
     Chrom,
     Pos,

@@ -5,7 +5,7 @@ use pieces::step::{Step, piece_at};
 use text::same::same_bytes;
 
 // Which key of FORMAT is the wanted one.
-#[derive(Drop)]
+#[derive(Clone, Copy)]
 pub enum Key {
     // 0: its index, from 0.
     Index(usize),

@@ -10,7 +10,7 @@ ghost use Rattle.spelling.specs.Promises.{Begins, Adds, Plans};
 use allele::allele::Allele;
 use decimal::print::decimal_len;
 
-#[derive(Drop)]
+#[derive(Clone, Copy)]
 pub struct Tally {
     // Whether each missing allele has the number 0, and the index of the first that has not.
     pub sound: bool,
@@ -25,7 +25,7 @@ pub struct Tally {
 }
 
 // How a list is to be written.
-#[derive(Drop)]
+#[derive(Clone, Copy)]
 pub enum Plan {
     // The first allele without its mark, or with it: how many bytes that takes.
     Bare(usize),

@@ -12,7 +12,7 @@ use crate::tally::{Plan, Tally, add, begin, plan_for};
 use allele::allele::Allele;
 
 // The answer of the writer.
-#[derive(Drop)]
+#[derive(Clone, Copy)]
 pub enum Write {
     // 0: so many bytes were written.
     Done(usize),

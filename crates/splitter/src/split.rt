@@ -38,7 +38,7 @@ fn find_end(s: &[u8], at: usize) -> Lined
 }
 
 // What step 2 keeps of a line's tabs. A line may have any number of them, so it does not keep them all.
-#[derive(Drop)]
+#[derive(Clone, Copy)]
 struct Tabs {
     // How many there are.
     count: usize,

@@ -2,7 +2,7 @@
 ghost use Rattle.text.specs.Over.{Writes};
 
 // The answer of a writer that can only lack room.
-#[derive(Drop)]
+#[derive(Clone, Copy)]
 pub enum Written {
     // 0: so many bytes were written.
     Done(usize),

@@ -6,7 +6,7 @@ ghost use Rattle.text.specs.Promises.{FindsSpace};
 use crate::utf8::{Utf8, char_size, check_utf8};
 
 // What a search for white space finds.
-#[derive(Drop)]
+#[derive(Clone, Copy)]
 pub enum Space {
     // 5: the bytes are not UTF-8.
     Broken,

@@ -7,7 +7,7 @@ ghost use Rattle.text.specs.Promises.{ChecksUtf8};
 ghost use Rattle.text.specs.Inner.{Second, CharAt, Passes};
 
 // What a check of UTF-8 finds.
-#[derive(Drop)]
+#[derive(Clone, Copy)]
 pub enum Utf8 {
     // 0: the bytes are UTF-8.
     Text,

@@ -4,7 +4,7 @@ ghost use Rattle.vcflist.specs.Fills.{Fills};
 use libc::STDIN_FILENO;
 
 // How many bytes the buffer holds, whether they are all that is left of the input, and whether a read failed.
-#[derive(Drop)]
+#[derive(Clone, Copy)]
 pub struct Held {
     pub end: usize,
     pub last: bool,

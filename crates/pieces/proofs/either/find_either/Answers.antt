@@ -1,0 +1,19 @@
+-- The invariant says that the first of the two from i on is the first from `from` on, from the place past the blocks on. Assumes nothing.
+use Prim.Native.Nat.{◌-◌}
+use lib.ListN.{length}
+use Rattle.std.proofs.Common.{rules}
+use Rattle.pieces.specs.Inner.{Seeking}
+use Rattle.pieces.proofs.EitherLaws.{laws}
+use Rattle.pieces.proofs.either.find_either.Goals as goal
+
+pub returns-then-x-a : goal.returns-then-x-a
+returns-then-x-a c = search (rules, laws)
+
+pub returns-then-x-b : goal.returns-then-x-b
+returns-then-x-b c = search (rules, laws)
+
+pub loop-i-preserved : goal.loop-i-preserved
+loop-i-preserved c = search (rules, laws)
+
+pub returns : goal.returns
+returns c = search (rules, laws)
