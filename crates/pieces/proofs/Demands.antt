@@ -27,7 +27,7 @@ walk b t at (p ∷ []) n h e =
 walk b t at (p ∷ q ∷ ps) n h e =
     let w = next_within b t at e in
     rw (← first_taken b t at (q ∷ ps) e)
-    (more (step_more b t at e) refl w (walk b t _ (q ∷ ps) n w (next_pieces b t at e)))
+    (more (step_more b t at e) refl w (walk b t (at + length p + 1) (q ∷ ps) n w (next_pieces b t at e)))
 
 -- the steps from place 0 of a text that is not empty visit split's pieces, in order
 pub visits : Visits step_answer split
@@ -40,7 +40,7 @@ unfolding Visits
 visits_pieces b t n = rw (pieces_some b t n) (visits b t n)
 
 -- a step that answers the same walks the same
-pub walk_same : {step step' : Stepper} {b at : ℕ} {t : List ℕ} {ps : List (List ℕ)} → ((k : ℕ) → step' b t k ≡ step b t k) → Walk step b t at ps
+pub walk_same : {step step' : Stepper} {b : ℕ} {t : List ℕ} {at : ℕ} {ps : List (List ℕ)} → ((k : ℕ) → step' b t k ≡ step b t k) → Walk step b t at ps
     → Walk step' b t at ps
 walk_same h (last e l) = last (h _ ∙ e) l
 walk_same h (more e p l w) = more (h _ ∙ e) p l (walk_same h w)
@@ -60,12 +60,12 @@ module _ {step : Stepper} {b : ℕ} {t : List ℕ} where
 
   walk_says : {at : ℕ} {ps : List (List ℕ)} → Walk step b t at ps → (n : ℕ) → n < length ps
       → step b t (at + start_in ps n) ≡ piece_answer (at + start_in ps n) (drop n ps)
-  walk_says w zero h = rw (start_first, add-zero) (walk_first w)
-  walk_says (last e l) (suc n) h = absurd (omega arith)
+  walk_says {at} w zero h = rw (start_first, add-zero) (walk_first w)
+  walk_says {at} (last e l) (suc n) h = absurd (omega arith)
   walk_says {at} (more {n = m} {next = next} {ps = ps} e p l w) (suc n) h =
       let k = taken_length t at m (omega arith) in
       let f : at + start_in (take m (drop at t) ∷ ps) (suc n) ≡ next + start_in ps n = omega (arith, start_later (take m (drop at t)) ps n) in
-      rw f (walk_says w n (omega arith))
+      rw f (walk_says {at = next} w n (omega arith))
 
 pub one_walk : OneWalk
 unfolding OneWalk

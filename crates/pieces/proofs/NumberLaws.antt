@@ -35,7 +35,7 @@ nth_after : (at : ℕ) (ps : List (List ℕ)) (n : ℕ) → length ps ≤ n → 
 unfolding nth_in
 nth_after at [] n h = refl
 nth_after at (p ∷ ps) zero h = absurd (omega arith)
-nth_after at (p ∷ ps) (suc n) h = nth_after _ ps n (omega arith)
+nth_after at (p ∷ ps) (suc n) h = nth_after (at + length p + 1) ps n (omega arith)
 
 nth_place : (at : ℕ) (ps : List (List ℕ)) (n : ℕ) → n < length ps → nth_in at ps n ≡ says 0 ((at + start_in ps n) ∷ length (get_or ps n []) ∷ [])
 unfolding nth_in

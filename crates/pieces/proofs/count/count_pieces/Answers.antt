@@ -8,7 +8,7 @@ pub returns-then-s-eq0 : goal.returns-then-s-eq0
 returns-then-s-eq0 c = search (rules, laws)
 
 pub overflow_add-result : goal.overflow_add-result
-overflow_add-result c = omega (arith, counted_most _ _ c.count-byte.ensures, c.before.before.before.well-formed)
+overflow_add-result c = omega (arith, counted_most _ _ c.count_byte.ensures, c.well_formed)
 
 pub returns : goal.returns
 returns c = search (rules, laws)

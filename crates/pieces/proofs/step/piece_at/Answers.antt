@@ -12,7 +12,7 @@ pub returns-then-s-eq0 : goal.returns-then-s-eq0
 returns-then-s-eq0 c = search (rules, laws)
 
 pub overflow_add-result : goal.overflow_add-result
-overflow_add-result c = omega (arith, either_within _ _ _ _ (omega arith) c.before.piece-end.ensures, c.before.before.before.before.before.well-formed)
+overflow_add-result c = omega (arith, either_within _ _ _ _ (omega arith) c.piece_end-end.ensures, c.well_formed)
 
 pub returns-then-end-s : goal.returns-then-end-s
 returns-then-end-s c = search (rules, laws)

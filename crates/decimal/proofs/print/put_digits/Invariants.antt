@@ -1,0 +1,10 @@
+-- The digits still to be written, laid over what stands from the place on, keep what is left in the end. Assumes nothing.
+use Rattle.std.proofs.Common.{rules}
+use Rattle.decimal.proofs.PrintLaws.{Putting, laws}
+use Rattle.decimal.proofs.print.put_digits.Given as goal
+
+abbrev pub invariant-loop-power : goal.invariant-loop-power
+invariant-loop-power l = Putting l.n l.power l.rest l.i l.initial.out l.out
+
+abbrev pub decreases-loop-power : goal.decreases-loop-power
+decreases-loop-power l = l.power
