@@ -1,0 +1,18 @@
+-- `allele::step::next_mark` meets its contract: the first mark from i on is the first from `from` on. Assumes nothing.
+use Prim.Native.Nat.{◌-◌}
+use lib.ListN.{length}
+use Rattle.std.proofs.Common.{rules}
+use Rattle.allele.proofs.StepLaws.{Seeking, laws}
+use Rattle.allele.proofs.step.next_mark.Goals as goal
+
+pub returns-then-b-eq124-clause-value : goal.returns-then-b-eq124-clause-value
+returns-then-b-eq124-clause-value c = search (rules, laws)
+
+pub returns-then-b-eq47-clause-value : goal.returns-then-b-eq47-clause-value
+returns-then-b-eq47-clause-value c = search (rules, laws)
+
+pub loop-i-preserved : goal.loop-i-preserved
+loop-i-preserved c = search (rules, laws)
+
+pub returns-clause-value : goal.returns-clause-value
+returns-clause-value c = search (rules, laws)
