@@ -1,6 +1,4 @@
 -- `allele::step::implied` meets its contract: what the text from mark to mark on implies is what the whole does. Assumes nothing.
-use Prim.Native.Nat.{◌-◌}
-use lib.ListN.{length}
 use Rattle.std.proofs.Common.{rules}
 use Rattle.allele.proofs.ImpliedLaws.{imply_turn, laws}
 use Rattle.allele.proofs.step.implied.Goals as goal

@@ -1,8 +1,7 @@
 -- `allele::step::implied` meets its contract: what the text from mark to mark on implies is what the whole does. Assumes nothing.
 use Prim.Native.Nat.{◌-◌}
 use lib.ListN.{length}
-use Rattle.std.proofs.Common.{rules}
-use Rattle.allele.proofs.ImpliedLaws.{Implying, laws}
+use Rattle.allele.proofs.ImpliedLaws.{Implying}
 use Rattle.allele.proofs.step.implied.Given as goal
 
 abbrev pub invariant-loop-i : goal.invariant-loop-i

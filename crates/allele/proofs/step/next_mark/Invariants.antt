@@ -1,8 +1,7 @@
 -- `allele::step::next_mark` meets its contract: the first mark from i on is the first from `from` on. Assumes nothing.
 use Prim.Native.Nat.{◌-◌}
 use lib.ListN.{length}
-use Rattle.std.proofs.Common.{rules}
-use Rattle.allele.proofs.StepLaws.{Seeking, laws}
+use Rattle.allele.proofs.StepLaws.{Seeking}
 use Rattle.allele.proofs.step.next_mark.Given as goal
 
 abbrev pub invariant-loop-i : goal.invariant-loop-i
