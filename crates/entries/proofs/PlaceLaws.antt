@@ -1,16 +1,14 @@
 -- The part that an entry is: the place that `entry_at` answers, or the empty place at the text's end; where the ends rise, the list's entry. Assumes nothing.
 use Prim.Native.Nat.{ℕ, ◌+◌, ◌^◌, ◌<◌, ◌≤◌}
-use mathlib.Core.Path.{◌≡◌, ◌∙◌}
+use mathlib.Core.Path.{◌≡◌, refl, ◌∙◌}
 use mathlib.Core.Bool.{true}
-use mathlib.Core.List.{List, [], ◌∷◌}
+use mathlib.Core.List.{List, []}
 use native.Mathlib.Omega.{arith}
-use types.Run.{OneOf, miss}
-use denote.Enum.Declared.{tag_of}
 use denote.Ref.{Bor}
 use mir.Syntax.{w64}
 use mir.Val.{Fits}
 use lib.ListN.{length, get_or}
-use borrow.Rule.Slice.PartAt.{sl_part}
+use borrow.Rule.Slice.PartAt.{sl_partˢ}
 use Rattle.text.specs.Range.{range_at, cut}
 use Rattle.text.specs.declared.range.Range.{Range}
 use Rattle.text.proofs.Lists.{cut_is}
@@ -21,7 +19,6 @@ use Rattle.entries.specs.Paper.{entry_paper}
 use Rattle.entries.specs.Promises.{ShowsEntry}
 use Rattle.entries.specs.declared.entries.Entry.{Entry}
 use Rattle.entries.specs.declared.entries.Entry.TheVariants as E
-use Rattle.entries.specs.contracts.entries.Entry.{the_type}
 use Rattle.entries.proofs.EntryLaws.{entry_rising, entry_cut, entry_within}
 
 -- ---- the place
@@ -31,12 +28,12 @@ module _ (t ends : List ℕ) (i : ℕ) (x : Entry) (e : entry_paper x ≡ entry_
   unfolding entry_range entry_paper
   place_at {r} q = let f = rw q at e in record { is = rw (← f); within = entry_within t ends i r f }
 
-  pub place_none : OneOf (1 ∷ 2 ∷ []) (tag_of the_type x) → PlacesEntry t ends i (range_at (length t) 0)
+  pub place_none : ((r : Range) → x ≡ E.At r → ⊥) → PlacesEntry t ends i (range_at (length t) 0)
   unfolding entry_range entry_paper
   place_none o = by x e o
     where
-      by : (y : Entry) → entry_paper y ≡ entry_answer t ends i → OneOf (1 ∷ 2 ∷ []) (tag_of the_type y) → PlacesEntry t ends i (range_at (length t) 0)
-      by (E.At r) e o = absurd (miss (1 ∷ 2 ∷ []) 0 tt o)
+      by : (y : Entry) → entry_paper y ≡ entry_answer t ends i → ((r : Range) → y ≡ E.At r → ⊥) → PlacesEntry t ends i (range_at (length t) 0)
+      by (E.At r) e o = absurd (o r refl)
       by E.Nothing e o = record { is = rw (← e); within = omega arith }
       by E.Wrong e o = record { is = rw (← e); within = omega arith }
 
@@ -49,9 +46,9 @@ module _ {t ends : List ℕ} {i : ℕ} {r : Range} (p : PlacesEntry t ends i r) 
   pub part_fits : length t < 2 ^ 64 → Fits w64 (r.start + r.len)
   part_fits m = let w = p.within in omega arith
 
-pub part_shows : (text : Bor (List ℕ)) (ends : List ℕ) (i : ℕ) (r : Range) (name : ℕ) → PlacesEntry text.now ends i r
-    → ShowsEntry text ends i (sl_part text (r.start + text.ref_ptr.1) r.start (r.start + r.len) name)
-part_shows text ends i r name p = rw (← p.is) (lent_part text r name)
+pub part_shows : (text : Bor (List ℕ)) (ends : List ℕ) (i : ℕ) (r : Range) → PlacesEntry text.now ends i r
+    → ShowsEntry text ends i (sl_partˢ text (r.start + text.ref_ptr.1) r.start (r.start + r.len))
+part_shows text ends i r p = rw (← p.is) (lent_part text r)
 
 -- ---- for callers
 
