@@ -1,0 +1,13 @@
+-- `line::read::column_end` meets its contract: neither a tab nor an LF stands before i; past 32 bytes the far search tells. Assumes nothing.
+use Prim.Native.Nat.{◌-◌}
+use Rattle.std.proofs.Common.{rules}
+use Rattle.line.specs.Inner.{Clear}
+use Rattle.pieces.proofs.EitherLaws.{near_within}
+use Rattle.line.proofs.ReadLaws.{laws}
+use Rattle.line.proofs.read.column_end.Goals as goal
+
+pub bounds-s-i : goal.bounds-s-i
+bounds-s-i c = search (rules, near_within)
+
+pub loop-i-preserved : goal.loop-i-preserved
+loop-i-preserved c = search (rules, laws, near_within)
