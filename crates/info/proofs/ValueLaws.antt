@@ -1,15 +1,13 @@
 -- The value shown: where `find` answers an entry with a value, its place, and else the empty place at the column's end; the part there. Assumes nothing.
 use Prim.Native.Nat.{ℕ, ◌+◌, ◌^◌, ◌<◌, ◌≤◌}
 use mathlib.Core.Path.{◌≡◌, refl, sym, ap, ◌∙◌}
-use mathlib.Core.List.{List, [], ◌∷◌}
-use types.Run.{OneOf, miss}
-use denote.Enum.Declared.{tag_of}
+use mathlib.Core.List.{List}
 use denote.Ref.{Bor}
 use native.Mathlib.Omega.{arith}
 use mir.Syntax.{w64}
 use mir.Val.{Fits}
 use lib.ListN.{length}
-use borrow.Rule.Slice.PartAt.{sl_part}
+use borrow.Rule.Slice.PartAt.{sl_partˢ}
 use Rattle.text.specs.Answer.{Answer}
 use Rattle.text.specs.Range.{range_at}
 use Rattle.text.specs.declared.range.Range.{Range}
@@ -23,7 +21,6 @@ use Rattle.info.specs.declared.step.Value.TheVariants as W
 use Rattle.info.specs.declared.step.Entry.{Entry}
 use Rattle.info.specs.declared.step.Step.{Step}
 use Rattle.info.specs.declared.step.Step.TheVariants as S
-use Rattle.info.specs.contracts.step.Step.{the_type}
 use Rattle.info.proofs.EntryLaws.{step_end}
 use Rattle.info.proofs.TellLaws.{info_tells}
 use Rattle.info.proofs.First.{first}
@@ -62,17 +59,17 @@ module _ (t key : List ℕ) (x : Step) (e : step_paper x ≡ find_answer t key) 
     unfolding shown_of step_paper entry_places value_places
     shown_absent v = at_end (rw (q, v))
 
-  pub shown_none : OneOf (1 ∷ 2 ∷ 3 ∷ 4 ∷ 5 ∷ []) (tag_of the_type x) → PlacesValue t key (range_at (length t) 0)
+  pub shown_none : ((en : Entry) (next : ℕ) → x ≡ S.Found en next → ⊥) → PlacesValue t key (range_at (length t) 0)
   unfolding shown_of step_paper
-  shown_none o = at_end (by x o)
+  shown_none n = at_end (by x n)
     where
-      by : (y : Step) → OneOf (1 ∷ 2 ∷ 3 ∷ 4 ∷ 5 ∷ []) (tag_of the_type y) → shown_of (length t) (step_paper y) ≡ range_at (length t) 0
-      by (S.Found en next) o = absurd (miss (1 ∷ 2 ∷ 3 ∷ 4 ∷ 5 ∷ []) 0 tt o)
-      by (S.Beyond next) o = refl
-      by (S.AfterKey next) o = refl
-      by (S.NoKey next) o = refl
-      by (S.AfterValue next) o = refl
-      by (S.Nothing next) o = refl
+      by : (y : Step) → ((en : Entry) (next : ℕ) → y ≡ S.Found en next → ⊥) → shown_of (length t) (step_paper y) ≡ range_at (length t) 0
+      by (S.Found en next) n = absurd (n en next refl)
+      by (S.Beyond next) n = refl
+      by (S.AfterKey next) n = refl
+      by (S.NoKey next) n = refl
+      by (S.AfterValue next) n = refl
+      by (S.Nothing next) n = refl
 
 pub ruleset laws = (shown_value, shown_absent, shown_none)
 
@@ -85,8 +82,8 @@ module _ {t key : List ℕ} {r : Range} (p : PlacesValue t key r) where
   pub part_fits : length t < 2 ^ 64 → Fits w64 (r.start + r.len)
   part_fits m = let w = p.within in omega arith
 
-pub part_shows : (column : Bor (List ℕ)) (key : List ℕ) (r : Range) (name : ℕ) → PlacesValue column.now key r
-    → Shows column key (sl_part column (r.start + column.ref_ptr.1) r.start (r.start + r.len) name)
-part_shows column key r name p = rw (← p.is) (lent_part column r name)
+pub part_shows : (column : Bor (List ℕ)) (key : List ℕ) (r : Range) → PlacesValue column.now key r
+    → Shows column key (sl_partˢ column (r.start + column.ref_ptr.1) r.start (r.start + r.len))
+part_shows column key r p = rw (← p.is) (lent_part column r)
 
 pub ruleset part_laws = (part_within, part_fits, part_shows)
