@@ -19,8 +19,8 @@ mem_at (g ∷ gs) zero h = Memᴰ.head refl
 mem_at (g ∷ gs) (suc i) h = Memᴰ.tail (mem_at gs i (le_of_suc-le-suc h))
 
 at_mem : {g : List ℕ} (gs : List (List ℕ)) → Memᴰ g gs → (i : ℕ) × ((i < length gs) × (get_or gs i [] ≡ g))
-at_mem [] m = absurd (Memᴰ.not_nil m)
-at_mem {g} (x ∷ gs) m = ⊎_elim (λ e. (0, (omega arith, sym e))) (λ w. let r = at_mem gs w in (suc r.0, (let l = r.1.0 in omega arith, r.1.1))) (Memᴰ.cases_cons m)
+at_mem [] m = absurd (Memᴰ.not-nil m)
+at_mem {g} (x ∷ gs) m = ⊎_elim (λ e. (0, (omega arith, sym e))) (λ w. let r = at_mem {g = g} gs w in (suc r.0, (let l = r.1.0 in omega arith, r.1.1))) (Memᴰ.cases_cons m)
 
 pub counted : Counted ordering
 counted p n = length_ordering p n

@@ -27,6 +27,7 @@ module _ (g : List ℕ) where
   first_at (h ∷ gs) (suc i) l e n = later (n 0 (omega arith)) (first_at gs i (le_of_suc-le-suc l) e (λ j w. n (suc j) (omega arith)))
 
   first_within : (gs : List (List ℕ)) (i : ℕ) → FirstOf (λ h. h ≡ g) gs i → (i < length gs) × (get_or gs i [] ≡ g)
+  first_within [] i x = elim x [ ]
   first_within (h ∷ gs) zero (here e) = (omega arith, e)
   first_within (h ∷ gs) (suc i) (later n f) = let r = first_within gs i f in (let l = r.0 in omega arith, r.1)
 
