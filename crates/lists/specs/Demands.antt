@@ -53,10 +53,10 @@ Valid K.Alts t = AltValid t
 abbrev pub Fine : Kind → List ℕ → Type 0
 Fine kind t = Valid kind t × ((cs : List (List ℕ)) × Unspaced t cs)
 
--- 5 exactly where the text has no characters; 0 exactly where it is fine; else 14 or 15
+-- 5 exactly where the text has no characters; fine exactly where it is valid and no character is white space; else 14 or 15
 pub record JudgedAs (kind : Kind) (t : List ℕ) (a : Answer) : Type 0 where
   pub broken : (a ≡ says 5 []) ↔ ((cs : List (List ℕ)) → Characters t cs → ⊥)
-  pub fine : (a ≡ says 0 []) ↔ Fine kind t
+  pub fine : (a ≡ says 0 []) ↔ (Valid kind t × ((cs : List (List ℕ)) × Unspaced t cs))
   pub other : (a ≡ says 5 [] → ⊥) → (a ≡ says 0 [] → ⊥) → a ≡ says (invalid_of kind) []
 
 unfoldable pub Judges : (Kind → List ℕ → Answer) → Type 0

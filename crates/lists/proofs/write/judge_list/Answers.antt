@@ -1,0 +1,19 @@
+-- `lists::write::judge_list` meets its contract: the entries still to judge are judged as all are. Assumes nothing.
+use Prim.Native.Nat.{◌-◌}
+use Rattle.std.proofs.Common.{rules}
+use lib.ListN.{length}
+use Rattle.entries.proofs.PlaceLaws.{entry_shown}
+use Rattle.lists.proofs.WriteLaws.{Judging, laws}
+use Rattle.lists.proofs.write.judge_list.Goals as goal
+
+pub loop-i-preserved : goal.loop-i-preserved
+loop-i-preserved c = search (rules, laws, entry_shown _ _ _ c.entry_text-entry.ensures)
+
+pub returns-in-NotUtf8 : goal.returns-in-NotUtf8
+returns-in-NotUtf8 c = search (rules, laws, entry_shown _ _ _ c.entry_text-entry.ensures)
+
+pub returns-in-Invalid : goal.returns-in-Invalid
+returns-in-Invalid c = search (rules, laws, entry_shown _ _ _ c.entry_text-entry.ensures)
+
+pub returns : goal.returns
+returns c = search (rules, laws)
