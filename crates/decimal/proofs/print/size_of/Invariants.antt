@@ -1,6 +1,5 @@
 -- The digits counted, and those of what is left, keep their sum; the power times what is left never passes the number. Assumes nothing.
-use Rattle.std.proofs.Common.{rules}
-use Rattle.decimal.proofs.PrintLaws.{Sizing, laws}
+use Rattle.decimal.proofs.PrintLaws.{Sizing}
 use Rattle.decimal.proofs.print.size_of.Given as goal
 
 abbrev pub invariant-loop-m : goal.invariant-loop-m

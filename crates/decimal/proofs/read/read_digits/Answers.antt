@@ -1,8 +1,6 @@
 -- The number so far, with the digits from `i` on, keeps the value of the whole, and one law says what each way through a turn makes of that. Assumes nothing.
-use Prim.Native.Nat.{◌-◌}
-use lib.ListN.{length}
 use Rattle.std.proofs.Common.{rules}
-use Rattle.decimal.proofs.ReadLaws.{Going, laws}
+use Rattle.decimal.proofs.ReadLaws.{laws}
 use Rattle.decimal.proofs.read.read_digits.Goals as goal
 
 pub returns-then-s-eq0 : goal.returns-then-s-eq0

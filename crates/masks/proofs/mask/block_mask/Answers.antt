@@ -1,7 +1,6 @@
 -- Each turn keeps one weight or loses it. Assumes nothing.
-use Prim.Native.Nat.{◌-◌}
 use Rattle.std.proofs.Common.{rules}
-use Rattle.masks.proofs.WeightLaws.{Weighing, laws}
+use Rattle.masks.proofs.WeightLaws.{laws}
 use Rattle.masks.proofs.mask.block_mask.Goals as goal
 
 pub loop-l-init : goal.loop-l-init

@@ -1,8 +1,7 @@
 -- The invariant says that no flag is set exactly where each byte so far is neither of the two. Assumes nothing.
 use Prim.Native.Nat.{◌-◌}
-use Rattle.std.proofs.Common.{rules}
 use Rattle.text.specs.Flags.{Neither}
-use Rattle.text.proofs.FlagLaws.{Gathered, laws}
+use Rattle.text.proofs.FlagLaws.{Gathered}
 use Rattle.pieces.proofs.block.is_quiet.Given as goal
 
 abbrev pub invariant-loop-i : goal.invariant-loop-i

@@ -1,8 +1,7 @@
 -- The invariant says that the first of the two from i on is the first from `at` on; a quiet block has neither. Assumes nothing.
 use Prim.Native.Nat.{◌-◌}
 use lib.ListN.{length}
-use Rattle.std.proofs.Common.{rules}
-use Rattle.pieces.proofs.BlockLaws.{Passing, laws}
+use Rattle.pieces.proofs.BlockLaws.{Passing}
 use Rattle.pieces.proofs.block.past_quiet.Given as goal
 
 abbrev pub invariant-loop-i : goal.invariant-loop-i

@@ -1,8 +1,7 @@
 -- The invariant says that the bytes counted and those to come are those of the whole; each part adds its own. Assumes nothing.
 use Prim.Native.Nat.{◌-◌}
 use lib.ListN.{length}
-use Rattle.std.proofs.Common.{rules}
-use Rattle.pieces.proofs.CountLaws.{Counting, laws}
+use Rattle.pieces.proofs.CountLaws.{Counting}
 use Rattle.pieces.proofs.count.count_byte.Given as goal
 
 abbrev pub invariant-loop-i : goal.invariant-loop-i

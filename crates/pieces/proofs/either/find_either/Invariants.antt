@@ -1,9 +1,7 @@
 -- The invariant says that the first of the two from i on is the first from `from` on, from the place past the blocks on. Assumes nothing.
 use Prim.Native.Nat.{◌-◌}
 use lib.ListN.{length}
-use Rattle.std.proofs.Common.{rules}
 use Rattle.pieces.specs.Inner.{Seeking}
-use Rattle.pieces.proofs.EitherLaws.{laws}
 use Rattle.pieces.proofs.either.find_either.Given as goal
 
 abbrev pub invariant-loop-i : goal.invariant-loop-i

@@ -1,8 +1,6 @@
 -- `pieces::nth::piece_nth` meets its contract: piece `left` of those from `at` on is the piece asked for. Assumes nothing.
-use Prim.Native.Nat.{◌-◌}
-use lib.ListN.{length}
 use Rattle.std.proofs.Common.{rules}
-use Rattle.pieces.proofs.NthLaws.{Counted, laws}
+use Rattle.pieces.proofs.NthLaws.{laws}
 use Rattle.pieces.proofs.nth.piece_nth.Goals as goal
 
 pub loop-range-init : goal.loop-range-init

@@ -1,8 +1,7 @@
 -- `pieces::nth::piece_nth` meets its contract: piece `left` of those from `at` on is the piece asked for. Assumes nothing.
 use Prim.Native.Nat.{◌-◌}
 use lib.ListN.{length}
-use Rattle.std.proofs.Common.{rules}
-use Rattle.pieces.proofs.NthLaws.{Counted, laws}
+use Rattle.pieces.proofs.NthLaws.{Counted}
 use Rattle.pieces.proofs.nth.piece_nth.Given as goal
 
 abbrev pub invariant-loop-range : goal.invariant-loop-range

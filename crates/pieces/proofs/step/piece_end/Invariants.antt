@@ -1,8 +1,6 @@
 -- The invariant says that the first separator from i on is the first from `from` on; past 32 bytes that is the far search's. Assumes nothing.
 use Prim.Native.Nat.{◌-◌}
-use Rattle.std.proofs.Common.{rules}
 use Rattle.pieces.specs.Inner.{Seeking}
-use Rattle.pieces.proofs.EitherLaws.{seek_first, near_within, laws}
 use Rattle.pieces.proofs.step.piece_end.Given as goal
 
 abbrev pub invariant-loop-i : goal.invariant-loop-i

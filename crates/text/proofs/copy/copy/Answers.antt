@@ -1,8 +1,6 @@
 -- `text::copy::copy` meets its contract: the bytes still to copy, stored from i on, give what all of them give stored from 0. Assumes nothing.
-use Prim.Native.Nat.{◌-◌}
 use Rattle.std.proofs.Common.{rules}
-use lib.ListN.{length}
-use Rattle.text.proofs.CopyLaws.{Copying, laws}
+use Rattle.text.proofs.CopyLaws.{laws}
 use Rattle.text.proofs.copy.copy.Goals as goal
 
 pub returns-then-from-out : goal.returns-then-from-out

@@ -1,8 +1,7 @@
 -- `text::copy::copy` meets its contract: the bytes still to copy, stored from i on, give what all of them give stored from 0. Assumes nothing.
 use Prim.Native.Nat.{◌-◌}
-use Rattle.std.proofs.Common.{rules}
 use lib.ListN.{length}
-use Rattle.text.proofs.CopyLaws.{Copying, laws}
+use Rattle.text.proofs.CopyLaws.{Copying}
 use Rattle.text.proofs.copy.copy.Given as goal
 
 abbrev pub invariant-loop-i : goal.invariant-loop-i

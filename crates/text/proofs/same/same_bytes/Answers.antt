@@ -1,8 +1,6 @@
 -- `text::same::same_bytes` meets its contract: what is left of the two texts compares as the whole of them. Assumes nothing.
-use Prim.Native.Nat.{◌-◌}
-use lib.ListN.{length}
 use Rattle.std.proofs.Common.{rules}
-use Rattle.text.proofs.SameLaws.{Comparing, laws}
+use Rattle.text.proofs.SameLaws.{laws}
 use Rattle.text.proofs.same.same_bytes.Goals as goal
 
 pub returns-then-s-t : goal.returns-then-s-t

@@ -1,8 +1,7 @@
 -- `text::same::same_bytes` meets its contract: what is left of the two texts compares as the whole of them. Assumes nothing.
 use Prim.Native.Nat.{◌-◌}
 use lib.ListN.{length}
-use Rattle.std.proofs.Common.{rules}
-use Rattle.text.proofs.SameLaws.{Comparing, laws}
+use Rattle.text.proofs.SameLaws.{Comparing}
 use Rattle.text.proofs.same.same_bytes.Given as goal
 
 abbrev pub invariant-loop-i : goal.invariant-loop-i

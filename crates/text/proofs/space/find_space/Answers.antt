@@ -1,8 +1,6 @@
 -- `text::space::find_space` meets its contract: the answer for what is left from i on is the answer for the whole. Assumes nothing.
-use Prim.Native.Nat.{◌-◌}
-use lib.ListN.{length}
 use Rattle.std.proofs.Common.{rules}
-use Rattle.text.proofs.SpaceLaws.{Seeking, laws}
+use Rattle.text.proofs.SpaceLaws.{laws}
 use Rattle.text.proofs.space.find_space.Goals as goal
 
 pub returns-then-n-eq0 : goal.returns-then-n-eq0

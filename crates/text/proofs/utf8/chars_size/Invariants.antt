@@ -1,8 +1,6 @@
 -- `text::utf8::chars_size` meets its contract: the characters passed so far leave as much to be judged as there was. Assumes nothing.
 use Prim.Native.Nat.{◌+◌, ◌-◌}
-use Rattle.std.proofs.Common.{rules}
 use Rattle.text.specs.Inner.{Passes}
-use Rattle.text.proofs.RunLaws.{laws}
 use Rattle.text.proofs.utf8.chars_size.Given as goal
 
 abbrev pub invariant-loop-n : goal.invariant-loop-n

@@ -1,9 +1,7 @@
 -- `text::utf8::past_ascii` meets its contract: what is left from i on is UTF-8 exactly when what is left from `at` on is. Assumes nothing.
 use Prim.Native.Nat.{◌-◌}
 use lib.ListN.{length}
-use Rattle.std.proofs.Common.{rules}
 use Rattle.text.specs.Inner.{Passes}
-use Rattle.text.proofs.RunLaws.{laws}
 use Rattle.text.proofs.utf8.past_ascii.Given as goal
 
 abbrev pub invariant-loop-i : goal.invariant-loop-i
