@@ -6,8 +6,6 @@ use mathlib.Core.Bool.{Bool, true, false}
 use mathlib.Core.List.{List, [], ◌∷◌}
 use mathlib.Core.Option.{none}
 use native.Mathlib.Omega.{arith}
-use types.Run.{OneOf}
-use denote.Enum.Declared.{tag_of}
 use lib.ListN.{length}
 use lib.Dec.{leb}
 use borrow.Author.Tests.{lt-ltb, le-ltb, le-leb, leb-true}
@@ -23,7 +21,6 @@ use Rattle.allele.specs.Paper.{step_paper}
 use Rattle.allele.specs.declared.allele.Allele.{Allele}
 use Rattle.allele.specs.declared.step.Step.{Step}
 use Rattle.allele.specs.declared.step.Step.TheVariants as S
-use Rattle.allele.specs.contracts.step.Step as T
 use Rattle.allele.proofs.StepLaws.{found_less}
 use Rattle.genotype.specs.Answers.{first_above, above_answer, checked_answer, checked_text}
 use Rattle.genotype.specs.Paper.{read_paper}
@@ -33,7 +30,6 @@ use Rattle.genotype.specs.declared.above.Above.{Above}
 use Rattle.genotype.specs.declared.above.Above.TheVariants as O
 use Rattle.genotype.specs.declared.lay.Whole.{Whole}
 use Rattle.genotype.specs.Inner.{ListMeant, whole_answer, NoneAbove, Judged, above_paper}
-use Rattle.genotype.specs.contracts.read.Read as D
 use Rattle.genotype.proofs.JudgeLaws.{other_number, judge_fits, judge_other}
 use Rattle.genotype.proofs.Ahead.{left_of, Ahead, ahead_first, left_first, ahead_turn, left_turn, left_end}
 
@@ -65,7 +61,7 @@ module _ (t : List ℕ) (count at k : ℕ) (x : Step) (g : Finding t count at k)
     unfolding first_above
     find_turn h = record { ahead = ahead_turn g.ahead e q; same = rw (left, where_later _ k a (left_of t next (k + 1)) (le-ltb _ _ h)) at g.same }
 
-  pub find_none : OneOf (1 ∷ 2 ∷ 3 ∷ 4 ∷ []) (tag_of T.the_type x) → above_paper O.Nothing ≡ first_above count 0 (list_of (reading_of t))
+  pub find_none : ((a : Allele) (next : ℕ) → x ≡ S.Found a next → ⊥) → above_paper O.Nothing ≡ first_above count 0 (list_of (reading_of t))
   unfolding above_paper
   find_none h = find_past g (left_end t at k x g.ahead e h)
 
@@ -107,7 +103,7 @@ whole_list t (bad k) n e = cc
 whole_list t empty n e = cc
 
 module _ (t alt : List ℕ) (room : ℕ) (w : Whole) (g : Judged t w) where
-  pub check_other : OneOf (1 ∷ 2 ∷ 3 ∷ 4 ∷ 5 ∷ []) (tag_of D.the_type w.read) → read_paper w.read ≡ checked_text t alt room
+  pub check_other : ((k : ℕ) → w.read ≡ R.Done k → ⊥) → read_paper w.read ≡ checked_text t alt room
   unfolding checked_answer above_answer
   check_other h =
       rw (other_above (alt_count alt) t (reading_of t) (λ z. other_number w.read h (rw g.answer z))) (judge_other t room w.read g.answer h)

@@ -5,8 +5,6 @@ use mathlib.Core.Bool.{Bool, true, false}
 use mathlib.Core.List.{List, [], ◌∷◌}
 use mathlib.Core.Option.{Option, some, none}
 use native.Mathlib.Omega.{arith}
-use types.Run.{OneOf, miss}
-use denote.Enum.Declared.{tag_of}
 use lib.ListN.{length, drop}
 use lib.Dec.{ltb}
 use borrow.Author.Tests.{ltb-true, ltb-false}
@@ -15,7 +13,6 @@ use Rattle.allele.specs.Paper.{step_paper}
 use Rattle.allele.specs.declared.allele.Allele.{Allele}
 use Rattle.allele.specs.declared.step.Step.{Step}
 use Rattle.allele.specs.declared.step.Step.TheVariants as S
-use Rattle.allele.specs.contracts.step.Step as T
 use Rattle.allele.proofs.PieceLaws.{parts_end}
 use Rattle.allele.proofs.StepLaws.{first_at, past_at, Further, further_at, wrong_at, step_means, found}
 use Rattle.allele.proofs.ReadingLaws.{reading_some, reading_none, with_list, with_cons}
@@ -69,9 +66,9 @@ unfolding gathered list_of
 left_none t at k h = rw (parts_end t at h)
 
 -- where a step finds no allele, neither
-pub left_end : (t : List ℕ) (at k : ℕ) (x : Step) → Ahead t at k → step_paper x ≡ step_answer t at → OneOf (1 ∷ 2 ∷ 3 ∷ 4 ∷ []) (tag_of T.the_type x) → left_of t at k ≡ []
+pub left_end : (t : List ℕ) (at k : ℕ) (x : Step) → Ahead t at k → step_paper x ≡ step_answer t at → ((a : Allele) (next : ℕ) → x ≡ S.Found a next → ⊥) → left_of t at k ≡ []
 unfolding gathered list_of
-left_end t at k (S.Found a next) g e h = absurd (miss (1 ∷ 2 ∷ 3 ∷ 4 ∷ []) 0 tt h)
+left_end t at k (S.Found a next) g e h = absurd (h a next refl)
 left_end t at k S.Beyond g e h = absurd (let f = step_means t at S.Beyond e in omega arith)
 left_end t at k S.Nothing g e h = let f = step_means t at S.Nothing e in left_none t at k (omega arith)
 left_end t at k S.Empty g e h = let f = step_means t at S.Empty e in left_none t at k (omega arith)

@@ -4,8 +4,6 @@ use mathlib.Core.Path.{◌≡◌, refl, sym, ◌∙◌}
 use mathlib.Core.List.{List, [], ◌∷◌}
 use native.Mathlib.Omega.{arith}
 use native.Mathlib.Nat.{zero-add}
-use types.Run.{OneOf, miss}
-use denote.Enum.Declared.{tag_of}
 use lib.ListN.{length, drop}
 use borrow.Author.Tests.{lt-leb, le-leb}
 use Rattle.text.specs.Answer.{Answer, says, number_of}
@@ -15,7 +13,6 @@ use Rattle.allele.specs.Paper.{step_paper}
 use Rattle.allele.specs.declared.allele.Allele.{Allele}
 use Rattle.allele.specs.declared.step.Step.{Step}
 use Rattle.allele.specs.declared.step.Step.TheVariants as S
-use Rattle.allele.specs.contracts.step.Step as T
 use Rattle.allele.proofs.PieceLaws.{parts_end}
 use Rattle.allele.proofs.StepLaws.{further_fault, step_means, found}
 use Rattle.allele.proofs.ReadingLaws.{reading_some, reading_none}
@@ -24,7 +21,6 @@ use Rattle.genotype.specs.Paper.{read_paper}
 use Rattle.genotype.specs.declared.read.Read.{Read}
 use Rattle.genotype.specs.declared.read.Read.TheVariants as R
 use Rattle.genotype.specs.Inner.{whole_answer}
-use Rattle.genotype.specs.contracts.read.Read as D
 
 -- ---- the whole text
 
@@ -47,12 +43,12 @@ whole_with t k a (bad j) = refl
 whole_with t k a empty = refl
 
 -- neither an allele nor a bad piece, at a place of the text: it is the end
-pub end_tells : (t : List ℕ) (at : ℕ) (x : Step) → at ≤ length t → step_paper x ≡ step_answer t at → OneOf (1 ∷ 2 ∷ 3 ∷ []) (tag_of T.the_type x) → length t ≤ at
-end_tells t at (S.Found a next) w e h = absurd (miss (1 ∷ 2 ∷ 3 ∷ []) 0 tt h)
-end_tells t at S.Beyond w e h = let f = step_means t at S.Beyond e in omega arith
-end_tells t at S.Nothing w e h = let f = step_means t at S.Nothing e in omega arith
-end_tells t at S.Empty w e h = let f = step_means t at S.Empty e in omega arith
-end_tells t at (S.Bad fault) w e h = absurd (miss (1 ∷ 2 ∷ 3 ∷ []) 4 tt h)
+pub end_tells : (t : List ℕ) (at : ℕ) (x : Step) → at ≤ length t → step_paper x ≡ step_answer t at → ((a : Allele) (next : ℕ) → x ≡ S.Found a next → ⊥) → ((fault : ℕ) → x ≡ S.Bad fault → ⊥) → length t ≤ at
+end_tells t at (S.Found a next) w e h b = absurd (h a next refl)
+end_tells t at S.Beyond w e h b = let f = step_means t at S.Beyond e in omega arith
+end_tells t at S.Nothing w e h b = let f = step_means t at S.Nothing e in omega arith
+end_tells t at S.Empty w e h b = let f = step_means t at S.Empty e in omega arith
+end_tells t at (S.Bad fault) w e h b = absurd (b fault refl)
 
 -- k alleles are passed, and at stands behind them: a fault from there on is one of the whole
 pub record Judging (t : List ℕ) (at k : ℕ) : Type 0 where
@@ -106,9 +102,9 @@ pub done_number : (n : ℕ) → number_of (read_paper (R.Done n)) ≡ 0
 unfolding read_paper
 done_number n = refl
 
-pub other_number : (x : Read) → OneOf (1 ∷ 2 ∷ 3 ∷ 4 ∷ 5 ∷ []) (tag_of D.the_type x) → number_of (read_paper x) ≡ 0 → ⊥
+pub other_number : (x : Read) → ((k : ℕ) → x ≡ R.Done k → ⊥) → number_of (read_paper x) ≡ 0 → ⊥
 unfolding read_paper
-other_number (R.Done n) h e = miss (1 ∷ 2 ∷ 3 ∷ 4 ∷ 5 ∷ []) 0 tt h
+other_number (R.Done n) h e = h n refl
 other_number R.Empty h e = omega arith
 other_number (R.Bad k fault) h e = omega arith
 other_number R.Lengths h e = omega arith
@@ -142,7 +138,7 @@ module _ (t : List ℕ) (room : ℕ) (x : Read) (e : read_paper x ≡ whole_answ
   pub judge_fits : {n : ℕ} (y : Read) → x ≡ R.Done n → read_paper y ≡ room_for n room → read_paper y ≡ text_answer t room
   judge_fits {n} y q f = f ∙ whole_count t (reading_of t) n room (rw q at e)
 
-  pub judge_other : OneOf (1 ∷ 2 ∷ 3 ∷ 4 ∷ 5 ∷ []) (tag_of D.the_type x) → read_paper x ≡ text_answer t room
+  pub judge_other : ((k : ℕ) → x ≡ R.Done k → ⊥) → read_paper x ≡ text_answer t room
   judge_other h = e ∙ whole_other t (reading_of t) room (λ z. other_number x h (rw e z))
 
 pub ruleset laws = (fit_short, fit_done, judge_fits, judge_other)

@@ -5,8 +5,6 @@ use mathlib.Core.Path.{◌≡◌, refl, sym, ap, ◌∙◌}
 use mathlib.Core.List.{List, [], ◌∷◌, map}
 use native.Mathlib.Omega.{arith}
 use native.Mathlib.Numerals.{add-one}
-use types.Run.{OneOf, hit}
-use denote.Enum.Declared.{tag_of}
 use lib.ListN.{length, set, length-set, length-map}
 use lib.Seq.{sets, set_out}
 use Rattle.text.specs.Over.{over}
@@ -18,7 +16,6 @@ use Rattle.allele.specs.Paper.{step_paper}
 use Rattle.allele.specs.declared.allele.Allele.{Allele}
 use Rattle.allele.specs.declared.step.Step.{Step}
 use Rattle.allele.specs.declared.step.Step.TheVariants as S
-use Rattle.allele.specs.contracts.step.Step as T
 use Rattle.allele.proofs.StepLaws.{found_less}
 use Rattle.genotype.specs.Paper.{read_paper}
 use Rattle.genotype.specs.declared.read.Read.{Read}
@@ -155,9 +152,9 @@ module _ (t n₀ m₀ p₀ n m p : List ℕ) (at k most : ℕ) (x : Step) (g : L
 
   pub lay_bad : {fault : ℕ} → x ≡ S.Bad fault → Lays t n₀ m₀ p₀ (record { read = R.Bad k fault; most = most }) n m p
   lay_bad q =
-      lay_ends g (λ l. left_end t at k x (g.columns l).ahead e (rw q (hit (1 ∷ 2 ∷ 3 ∷ 4 ∷ []) 4 tt))) (judge_bad t at k x g.judging e q)
+      lay_ends g (λ l. left_end t at k x (g.columns l).ahead e (λ a next f. cc)) (judge_bad t at k x g.judging e q)
 
-  pub lay_nothing : OneOf (1 ∷ 2 ∷ 3 ∷ []) (tag_of T.the_type x) → Lays t n₀ m₀ p₀ (record { read = R.Done k; most = most }) n m p
-  lay_nothing h = lay_past g (end_tells t at x g.judging.within e h)
+  pub lay_nothing : ((a : Allele) (next : ℕ) → x ≡ S.Found a next → ⊥) → ((fault : ℕ) → x ≡ S.Bad fault → ⊥) → Lays t n₀ m₀ p₀ (record { read = R.Done k; most = most }) n m p
+  lay_nothing h b = lay_past g (end_tells t at x g.judging.within e h b)
 
 pub ruleset laws = (store_out, store_in, lay_empty, lay_first, found_less, lay_turn, lay_bad, lay_nothing, lay_past)

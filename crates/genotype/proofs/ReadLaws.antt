@@ -6,8 +6,6 @@ use mathlib.Core.List.{List, [], ◌∷◌}
 use mathlib.Core.Option.{Option, some, none}
 use native.Mathlib.Omega.{arith}
 use native.Mathlib.Decide.{dec_le}
-use types.Run.{OneOf}
-use denote.Enum.Declared.{tag_of}
 use lib.ListN.{length}
 use lib.Dec.{eqb}
 use borrow.Author.Tests.{eqb-true, eq-eqb, ne_eqb}
@@ -24,7 +22,6 @@ use Rattle.genotype.specs.declared.read.Read.{Read}
 use Rattle.genotype.specs.declared.read.Read.TheVariants as R
 use Rattle.genotype.specs.Inner.{Judged, Room, Laid, Lays, Copies, Keeps, Kept, Fillable, FindsPair, KnowsPair, pair_of}
 use Rattle.genotype.specs.declared.lay.Whole.{Whole}
-use Rattle.genotype.specs.contracts.read.Read as D
 use Rattle.genotype.proofs.JudgeLaws.{other_number, judge_fits, judge_other}
 use Rattle.genotype.proofs.KeepLaws.{laid_keeps, keeps_laid}
 use Rattle.genotype.proofs.PairLaws.{pair_reads, pair_length, pair_told}
@@ -44,7 +41,7 @@ module _ (as' : List Allele) (n m p : List ℕ) where
       }
 
   module _ (x : Read) where
-    pub judged_other : OneOf (1 ∷ 2 ∷ 3 ∷ 4 ∷ 5 ∷ []) (tag_of D.the_type x) → Reads (read_paper x) as' n m p x n m p
+    pub judged_other : ((k : ℕ) → x ≡ R.Done k → ⊥) → Reads (read_paper x) as' n m p x n m p
     judged_other o = refused (read_paper x) refl (other_number x o)
 
     pub judged_done : {k : ℕ} {n' m' p' : List ℕ} → x ≡ R.Done k → n' ≡ over (numbers_of as') n → m' ≡ over (missing_of as') m → p' ≡ over (phased_of as') p
@@ -134,7 +131,7 @@ fillable r f =
     record { meant = λ k q. record { is = (f k q).meant }; count = λ k q. (f k q).count; few = λ k q. omega (arith, (f k q).few, (f k q).count) }
 
 module _ (t : List ℕ) (w : Whole) (h : Judged t w) where
-  pub read_other : (n m p : List ℕ) → OneOf (1 ∷ 2 ∷ 3 ∷ 4 ∷ 5 ∷ []) (tag_of D.the_type w.read) → Reads (text_answer t (length n)) (list_of (reading_of t)) n m p w.read n m p
+  pub read_other : (n m p : List ℕ) → ((k : ℕ) → w.read ≡ R.Done k → ⊥) → Reads (text_answer t (length n)) (list_of (reading_of t)) n m p w.read n m p
   read_other n m p o = rw (judge_other t (length n) w.read h.answer o) at (judged_other (list_of (reading_of t)) n m p w.read o)
 
   module _ {k : ℕ} (q : w.read ≡ R.Done k) (r : Read) (room : ℕ) (f : read_paper r ≡ room_for k room) where

@@ -1,0 +1,7 @@
+-- `genotype::above::least_alts` meets its contract: a column that is not `.` or empty has one allele. Assumes nothing.
+use Rattle.genotype.proofs.AboveLaws.{laws}
+use Rattle.std.proofs.Common.{rules}
+use Rattle.genotype.proofs.above.least_alts.Goals as goal
+
+pub returns : goal.returns
+returns c = search (rules, laws)
