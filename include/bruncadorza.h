@@ -1,7 +1,7 @@
 /*
  * Bruncadorza from C: lines of VCF 4.4 text, read and written.
  *
- * The archive is target/staticlib/libexports.a, for x86-64 Linux; bindings/README.md says how it is built and linked. Each
+ * The archive is crates/exports/out/libexports.a, for x86-64 Linux; bindings/README.md says how it is built and linked. Each
  * function takes all inputs, keeps nothing between calls, allocates nothing and can be called from several threads.
  *
  * How a slice crosses. As two arguments: a pointer, and how many elements (not bytes) it points to. A caller must keep this,

@@ -1,9 +1,10 @@
 // Standard input as lines, each answered once it has ended.
-use crate::output::{Buffer, CLOSED, Place, flush};
+use crate::output::{Buffer, CLOSED, Place, failure, flush};
 use crate::parts::part;
 use crate::verbs::{answer, refuse};
 use crate::words::{Text, mark_from};
-use libc::STDIN_FILENO;
+use std::io;
+use std::io::Read;
 
 const LONGEST: usize = 65536;
 
@@ -18,13 +19,6 @@ type Chunk = [u8; 65536];
 struct State {
     len: usize,
     at: Place,
-}
-
-#[derive(Clone, Copy)]
-enum Got {
-    Bytes(usize),
-    End,
-    Failed,
 }
 
 // Puts bytes into the line, and answers its length then.
@@ -84,42 +78,35 @@ fn finish(line: &[u8], text: &mut Text, out: &mut Buffer, state: State) {
     flush(out, next);
 }
 
-fn read_some(bytes: &mut [u8]) -> Got {
-    let got = libc::read(STDIN_FILENO, bytes);
-    if got < 0 {
-        return Got::Failed;
-    }
-    if got == 0 {
-        return Got::End;
-    }
-    Got::Bytes(io::count(got, bytes))
-}
-
-// Where a read fails, the line that it cut is left unanswered. A proved loop has to end, and
-// nothing says that the input does: so the loop counts its turns down, from a number that no run
-// uses up.
-pub fn answer_all(bytes: &mut Chunk, line: &mut Line, text: &mut Text, out: &mut Buffer) {
-    let mut turns = u64::MAX;
+// Where a read fails, the line that it cut is left unanswered. A proved loop has to end, and nothing says that the input does: so the
+// loop takes a number of turns that no run uses up.
+pub fn answer_all<R: Read>(
+    input: &mut R,
+    bytes: &mut Chunk,
+    line: &mut Line,
+    text: &mut Text,
+    out: &mut Buffer,
+) -> io::Result<()> {
     let mut state = State { len: 0, at: 0 };
-    while turns > 0 {
-        let got = read_some(bytes);
-        match got {
-            Got::Bytes(n) => {
+    for _ in 0..u64::MAX {
+        match input.read(bytes) {
+            Ok(0) => {
+                finish(line, text, out, state);
+                return failure(out);
+            }
+            Ok(n) => {
                 state = take_bytes(part(bytes, 0, n), line, text, out, state);
                 if state.at == CLOSED {
-                    return;
+                    return failure(out);
                 }
-                turns -= 1;
             }
-            Got::End => {
-                finish(line, text, out, state);
-                return;
-            }
-            Got::Failed => {
+            Err(e) => {
                 let at = state.at;
                 flush(out, at);
-                return;
+                failure(out)?;
+                return Err(e);
             }
         }
     }
+    Ok(())
 }

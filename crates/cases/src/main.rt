@@ -19,10 +19,18 @@ mod vectors;
 mod verbs;
 mod words;
 
-fn main() {
+use std::io;
+
+fn main(rt: HostRuntime) -> io::Result<()> {
     let mut bytes = [0u8; 65536];
     let mut line = [0u8; 65536];
     let mut text = [0u8; 32768];
-    let mut out = [0u8; 65536];
-    input::answer_all(&mut bytes, &mut line, &mut text, &mut out);
+    let mut out = output::empty_buffer(rt.stdout());
+    input::answer_all(
+        &mut rt.stdin(),
+        &mut bytes,
+        &mut line,
+        &mut text,
+        &mut out,
+    )
 }

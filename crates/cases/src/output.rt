@@ -1,12 +1,22 @@
-// Answers, gathered in a lent buffer that is written out when it is full.
+// Answers, gathered in a buffer that is written out when it is full.
 ghost use Rattle.std.specs.Prelude.{◌<◌};
 
-use libc::STDOUT_FILENO;
+use crate::parts::part;
+use decimal::print::print_decimal;
+use std::io;
+use std::io::{Stdout, Write};
+use text::copy::Written;
 use text::range::Range;
 
 const FULL: usize = 65536;
 
-pub type Buffer = [u8; FULL];
+// What was gathered, where it is written out, and the error of the write that failed.
+#[derive(Drop)]
+pub struct Buffer {
+    bytes: [u8; FULL],
+    output: Stdout,
+    failed: Option<io::Error>,
+}
 
 // Where the next byte goes, or CLOSED once a write has failed: from then on nothing is kept.
 pub type Place = usize;
@@ -20,24 +30,43 @@ pub enum Answer {
     NoCase,
 }
 
+pub fn empty_buffer(output: Stdout) -> Buffer {
+    Buffer {
+        bytes: [0; FULL],
+        output,
+        failed: None,
+    }
+}
+
 // Writes out what was gathered.
-pub fn flush(out: &[u8], at: Place) -> Place {
-    if at > out.len() {
+pub fn flush(out: &mut Buffer, at: Place) -> Place {
+    if at > FULL {
         return CLOSED;
     }
-    if io::write_all(STDOUT_FILENO, &out[0..at]) {
-        return 0;
+    match out.output.write_all(&out.bytes[..at]) {
+        Ok(()) => 0,
+        Err(e) => {
+            out.failed = Some(e);
+            CLOSED
+        }
     }
-    CLOSED
+}
+
+// The error of the write that failed, if one did.
+pub fn failure(out: &Buffer) -> io::Result<()> {
+    match out.failed {
+        Some(e) => Err(e),
+        None => Ok(()),
+    }
 }
 
 pub fn put_byte(out: &mut Buffer, at: Place, b: u8) -> Place {
     if at < FULL {
-        out[at] = b;
+        out.bytes[at] = b;
         return at + 1;
     }
     if flush(out, at) == 0 {
-        out[0] = b;
+        out.bytes[0] = b;
         return 1;
     }
     CLOSED
@@ -55,8 +84,10 @@ fn put_bytes(out: &mut Buffer, at: Place, s: &[u8]) -> Place {
 
 pub fn put_number(out: &mut Buffer, at: Place, n: u64) -> Place {
     let mut digits = [0u8; 20];
-    let len = io::decimal(n, &mut digits);
-    put_bytes(out, at, &digits[..len])
+    match print_decimal(n, &mut digits) {
+        Written::Done(len) => put_bytes(out, at, part(&digits, 0, len)),
+        Written::Short => at,
+    }
 }
 
 fn digit(d: u8) -> u8

@@ -7,40 +7,41 @@ mod print;
 mod row;
 
 use ask::{Ask, asked};
-use libc::STDERR_FILENO;
+use std::env::{Env, FillError};
+use std::io;
 
 // So long may an argument be.
 const LONGEST: usize = 256;
 
-fn say_usage() {
-    io::write_all(
-        STDERR_FILENO,
-        b"numbering: usage: ./numbering PLOIDY ALLELES or ./numbering ALLELES GENOTYPE: ploidy 1 to 8, alleles 1 to 64, a genotype as 0/1 or /1 with alleles below ALLELES that never fall\n",
-    );
+fn say_usage<E: Eprint>(rt: &E) -> io::Result<()> {
+    rt.eprintln(
+        "numbering: usage: ./numbering PLOIDY ALLELES or ./numbering ALLELES GENOTYPE: ploidy 1 to 8, alleles 1 to 64, a genotype as 0/1 or /1 with alleles below ALLELES that never fall",
+    )
 }
 
 // What the arguments ask for. There are to be two, and none is cut short.
-fn read_arguments() -> Ask {
-    if os::arg_count() != 3 {
-        return Ask::Wrong;
-    }
+fn read_arguments<E: Env>(rt: &E) -> Ask {
     let mut first = [0u8; LONGEST];
-    let first_len = os::arg(1, &mut first);
-    if os::errno() != 0 {
+    let Ok(first_len) = rt.arg(1, &mut first) else {
         return Ask::Wrong;
-    }
+    };
     let mut second = [0u8; LONGEST];
-    let second_len = os::arg(2, &mut second);
-    if os::errno() != 0 {
+    let Ok(second_len) = rt.arg(2, &mut second) else {
         return Ask::Wrong;
-    }
+    };
+    let mut third = [0u8; LONGEST];
+    let Err(FillError::NotPresent) = rt.arg(3, &mut third) else {
+        return Ask::Wrong;
+    };
     asked(&first[..first_len], &second[..second_len])
 }
 
-fn main() {
-    match read_arguments() {
-        Ask::All(ploidy, alleles, count) => print::print_all(ploidy, alleles, count),
-        Ask::One(number) => print::print_one(number),
-        Ask::Wrong => say_usage(),
+fn main(rt: HostRuntime) -> io::Result<()> {
+    match read_arguments(&rt) {
+        Ask::All(ploidy, alleles, count) => {
+            print::print_all(&mut rt.stdout(), ploidy, alleles, count)
+        }
+        Ask::One(number) => print::print_one(&mut rt.stdout(), number),
+        Ask::Wrong => say_usage(&rt),
     }
 }

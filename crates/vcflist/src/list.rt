@@ -1,53 +1,58 @@
-// The listing of standard input: what `ask_next` asks for is done, and nothing else.
+// The listing of an input: what `ask_next` asks for is done, and nothing else.
 use crate::input::{Held, fill};
-use libc::STDOUT_FILENO;
 use listing::ask::{Ask, ask_next};
 use listing::drive::first_state;
+use std::io;
+use std::io::{Read, Write};
 
-// Writes out the first `len` bytes, and answers whether all were taken.
-fn write_out(out: &[u8], len: usize) -> bool {
+// Writes out the first `len` bytes, and answers whether there are so many.
+fn write_out<W: Write>(output: &mut W, out: &[u8], len: usize) -> io::Result<bool> {
     if len > out.len() {
-        return false;
+        return Ok(false);
     }
-    io::write_all(STDOUT_FILENO, &out[0..len])
+    output.write_all(&out[0..len])?;
+    Ok(true)
 }
 
-// A proved loop has to end, and nothing says that the input does: so the loop counts its turns down, from a number that no
-// run uses up. After a failed read what was listed stays, and only the last line is missing.
-pub fn list_all(buffer: &mut [u8], out: &mut [u8]) {
+// A proved loop has to end, and nothing says that the input does: so the loop takes a number of turns that no run uses up.
+// After a failed read what was listed stays, and only the last line is missing.
+pub fn list_all<R: Read, W: Write>(
+    input: &mut R,
+    output: &mut W,
+    buffer: &mut [u8],
+    out: &mut [u8],
+) -> io::Result<()> {
     let mut held = Held {
         end: 0,
         last: false,
-        failed: false,
+        failed: None,
     };
     let mut state = first_state();
-    let mut turns = u64::MAX;
-    while turns > 0 {
-        turns -= 1;
+    for _ in 0..u64::MAX {
         let ask = ask_next(buffer, held.end, held.last, state, out);
         match ask {
             Ask::Read(kept, next) => {
-                if held.failed {
-                    write_out(out, next.put);
-                    return;
+                if let Some(e) = held.failed {
+                    write_out(output, out, next.put)?;
+                    return Err(e);
                 }
-                held = fill(buffer, kept);
+                held = fill(input, buffer, kept);
                 state = next;
-                continue;
             }
             Ask::Write(len, next) => {
-                if !write_out(out, len) {
-                    return;
+                if !write_out(output, out, len)? {
+                    return Ok(());
                 }
                 state = next;
             }
             Ask::Last(len) => {
-                write_out(out, len);
-                return;
+                write_out(output, out, len)?;
+                return Ok(());
             }
             Ask::Beyond => {
-                return;
+                return Ok(());
             }
         }
     }
+    Ok(())
 }
