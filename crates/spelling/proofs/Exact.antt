@@ -62,7 +62,7 @@ writes_shortest major minor as' out at z =
     let d = done late as' out at z in
     record {
       text = d.bytes;
-      is = spelled_shortest late as' d.bytes d.spelled;
+      shortest = spelled_shortest late as' d.bytes d.spelled;
       count = done_answer late as' out at d.bytes d.spelled d.fits;
       fits = d.fits;
       bytes = rw (eq-eqb _ _ z, d.spelled);
@@ -134,7 +134,7 @@ exactly write m major minor as' out at h room = (only_then, then)
         by (short {t = u} l s o) = let r = room u s in omega arith
 
     then : ((t : List ℕ) → Permitted (from44 major minor) as' t → ⊥) → number_of (write major minor as' out at).answer ≡ 0 → ⊥
-    then n z = let w = m.writes_shortest major minor as' out at z in n w.text w.is.has
+    then n z = let w = m.writes_shortest major minor as' out at z in n w.text w.shortest.has
 
 pub exact : Exact writer
 exact = exactly writer meets

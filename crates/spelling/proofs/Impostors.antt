@@ -99,7 +99,7 @@ touches_nothing write same claim e = must_write write e by
     by : number_of (write 4 4 phased_zero blank 0).answer ≡ 0 → ⊥
     by z =
         let w = claim 4 4 phased_zero blank 0 z in
-        changes w.text (one_text_lem w.is (zero_shortest _)) (sym w.bytes ∙ same 4 4 phased_zero blank 0)
+        changes w.text (one_text_lem w.shortest (zero_shortest _)) (sym w.bytes ∙ same 4 4 phased_zero blank 0)
 
 -- ---- a count that is not the text's
 
@@ -127,7 +127,7 @@ invented_count write e writes claim = must_write write e by
         let v = claim 4 4 phased_zero blank 0 (same_number (write 4 4 phased_zero blank 0).answer ∙ z) in
         let m : one_more (write 4 4 phased_zero blank 0).answer ≡ says 0 ((length w.text + 1) ∷ []) = ap one_more w.count in
         let k : length w.text + 1 ≡ length v.text = cc (m, v.count) in
-        let l = ap length (one_text_lem v.is w.is) in
+        let l = ap length (one_text_lem v.shortest w.shortest) in
         omega arith
 
 -- ---- dropping the first phasing

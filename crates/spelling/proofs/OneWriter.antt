@@ -4,7 +4,7 @@ use mathlib.Core.Path.{◌≡◌}
 use Rattle.text.specs.Answer.{number_of}
 use Rattle.text.proofs.OutcomeLaws.{RefusedWhen, one_outcome, one_written}
 use Rattle.spelling.specs.Demands.{Writer, WritesShortest, Refused, Refusals, Untouched, Meets, OneWriter}
-use Rattle.spelling.proofs.Shortest.{one_text_lem}
+use Rattle.spelling.proofs.Shortest.{as_written, one_text_lem}
 
 pub one_writer : OneWriter
 unfolding OneWriter WritesShortest Refusals Untouched
@@ -18,4 +18,4 @@ one_writer write other m m' major minor as' out at = one_outcome (refused write 
     both z z' =
         let w = m.writes_shortest major minor as' out at z in
         let w' = m'.writes_shortest major minor as' out at z' in
-        one_written w w' (one_text_lem w.is w'.is)
+        one_written (as_written w) (as_written w') (one_text_lem w.shortest w'.shortest)

@@ -6,8 +6,6 @@ use mathlib.Core.List.{List, [], ◌∷◌}
 use native.Mathlib.Omega.{arith}
 use native.Mathlib.Nat.{add-zero}
 use native.Mathlib.Decide.{dec_le}
-use types.Run.{OneOf, miss}
-use denote.Enum.Declared.{tag_of}
 use mir.Syntax.{w64}
 use mir.Val.{Fits}
 use lib.ListN.{length, take, drop, set}
@@ -26,7 +24,6 @@ use Rattle.spelling.specs.Spelling.{body_text, allele_text}
 use Rattle.spelling.specs.Inner.{one_text, fits_at, PutsAt}
 use Rattle.spelling.specs.declared.tally.Plan.{Plan}
 use Rattle.spelling.specs.declared.tally.Plan.TheVariants as P
-use Rattle.spelling.specs.contracts.tally.Plan as D
 use Rattle.spelling.proofs.SpellLaws.{body_dot, body_number, bare_text, marked_text, marked_length}
 
 -- ---- without its mark
@@ -131,14 +128,14 @@ module _ (a : Allele) (bare : Bool) (at : ℕ) (l : List ℕ) where
 
 -- ---- as planned
 
-none_text : (x : Plan) (k : ℕ) (a : Allele) → OneOf (2 ∷ 3 ∷ 4 ∷ 5 ∷ []) (tag_of D.the_type x) → one_text x k a ≡ []
+none_text : (x : Plan) (k : ℕ) (a : Allele) → ((n : ℕ) → x ≡ P.Bare n → ⊥) → ((n : ℕ) → x ≡ P.Marked n → ⊥) → one_text x k a ≡ []
 unfolding one_text
-none_text (P.Bare n) k a h = absurd (miss (2 ∷ 3 ∷ 4 ∷ 5 ∷ []) 0 tt h)
-none_text (P.Marked n) k a h = absurd (miss (2 ∷ 3 ∷ 4 ∷ 5 ∷ []) 1 tt h)
-none_text P.Empty k a h = refl
-none_text (P.Bad i) k a h = refl
-none_text P.Phasing k a h = refl
-none_text P.Short k a h = refl
+none_text (P.Bare n) k a b m = absurd (b n refl)
+none_text (P.Marked n) k a b m = absurd (m n refl)
+none_text P.Empty k a b m = refl
+none_text (P.Bad i) k a b m = refl
+none_text P.Phasing k a b m = refl
+none_text P.Short k a b m = refl
 
 module _ (a : Allele) (k : ℕ) (x : Plan) {at : ℕ} {l : List ℕ} where
   module _ {n r : ℕ} {l' : List ℕ} where
@@ -150,7 +147,7 @@ module _ (a : Allele) (k : ℕ) (x : Plan) {at : ℕ} {l : List ℕ} where
     unfolding one_text
     one_marked e w = rw e w
 
-  pub one_none : OneOf (2 ∷ 3 ∷ 4 ∷ 5 ∷ []) (tag_of D.the_type x) → PutsAt (one_text x k a) at l at l
-  one_none h = rw (none_text x k a h) (puts_nothing at l)
+  pub one_none : ((n : ℕ) → x ≡ P.Bare n → ⊥) → ((n : ℕ) → x ≡ P.Marked n → ⊥) → PutsAt (one_text x k a) at l at l
+  one_none b m = rw (none_text x k a b m) (puts_nothing at l)
 
 pub ruleset laws = (put_dot, put_number, put_beyond, put_bare_sum, put_bare, put_bare_short, put_full, put_mark_sum, put_mark, put_mark_short, one_bare, one_marked, one_none)

@@ -15,6 +15,7 @@ use Rattle.genotype.proofs.MostLaws.{most_first, most_rest}
 use Rattle.spelling.specs.Permitted.{Plainly, dot, number, Following, none, more, Permitted, bare, marked}
 use Rattle.spelling.specs.Demands.{Writer, writer, WritesShortest, Meets, Fitting, RoundTrip, Follow}
 use Rattle.spelling.proofs.Exact.{meets, exactly}
+use Rattle.spelling.proofs.Shortest.{as_written}
 
 -- ---- a permitted spelling means its list
 
@@ -42,7 +43,7 @@ permitted_means f (marked e m p l) = M.marked m (plainly_body (most_first f) p) 
 trips : (write : Writer) → Meets write → RoundTrip write
 unfolding RoundTrip WritesShortest
 trips write m major minor as' out at n f e =
-    let w = m.writes_shortest major minor as' out at (ap number_of e) in
+    let w = as_written (m.writes_shortest major minor as' out at (ap number_of e)) in
     permitted_means f (written_is w (written_taken (was_written w) e refl)).has
 
 pub round_trip : RoundTrip writer

@@ -8,6 +8,7 @@ use mathlib.Core.Option.{Option, some, none}
 use native.Mathlib.Omega.{arith}
 use native.Mathlib.Nat.{le_refl}
 use lib.ListN.{length}
+use Rattle.text.specs.Outcome.{Outcome, WrittenAs}
 use Rattle.text.specs.Same.{same}
 use Rattle.text.proofs.SameLaws.{same_is, same_other}
 use Rattle.allele.specs.Means.{all_phased}
@@ -15,6 +16,7 @@ use Rattle.allele.specs.declared.allele.Allele.{Allele}
 use Rattle.spelling.specs.Spelling.{list_text, text, shaped, spell}
 use Rattle.allele.specs.Row.{first_unsound}
 use Rattle.spelling.specs.Permitted.{Permitted, bare, marked, TheShortest}
+use Rattle.spelling.specs.Demands.{Shortest, Written}
 use Rattle.allele.proofs.RowLaws.{unsound_more, sound_parts}
 use Rattle.spelling.proofs.SpellLaws.{list_bare, list_marked, marked_longer, spell_none, spell_sound, spell_bad}
 use Rattle.spelling.proofs.PermittedLaws.{plainly_only, plainly_has, plainly_sound, following_only, following_has, following_sound}
@@ -38,6 +40,10 @@ none_shorter p q = elim (beside p q) [ equal e ↦ rw e (le_refl _) | longer l �
 
 pub one_text_lem : {Q : List ℕ → Type 0} {t u : List ℕ} → TheShortest Q t → TheShortest Q u → t ≡ u
 one_text_lem p q = elim (beside p q.has) [ equal e ↦ sym e | longer l ↦ let n = none_shorter q p.has in absurd (omega arith) ]
+
+-- what is written is one text in the sense of `text`, whose laws of outcomes so hold of it
+abbrev pub as_written : {major minor : ℕ} {as' : List Allele} {out : List ℕ} {at : ℕ} {o : Outcome} → Written major minor as' out at o → WrittenAs (Shortest major minor as') out at o
+as_written w = record { text = w.text; is = w.shortest; count = w.count; fits = w.fits; bytes = w.bytes }
 
 -- ---- a permitted spelling is one of two texts
 

@@ -20,7 +20,7 @@ use Rattle.genotype.proofs.MostLaws.{means_fits}
 use Rattle.genotype.proofs.Refusals.{one_outcome, stands, accepted_stands}
 use Rattle.spelling.specs.Permitted.{from44}
 use Rattle.spelling.specs.Demands.{Writer, writer, Shortest, WritesShortest, Meets, Exact, OneSpelling, Settled, Settles, Spellings}
-use Rattle.spelling.proofs.Shortest.{one_text_lem, none_shorter}
+use Rattle.spelling.proofs.Shortest.{as_written, one_text_lem, none_shorter}
 use Rattle.spelling.proofs.Exact.{writes_shortest, meets, exactly}
 use Rattle.spelling.proofs.OneSpelling.{permitted_one, shortest_one}
 use Rattle.spelling.proofs.RoundTrip.{permitted_means}
@@ -32,7 +32,7 @@ module _ (write : Writer) (m : Meets write) where
       → Shortest major minor as' t
   unfolding WritesShortest
   written_shortest major minor as' out at h =
-      written_is (m.writes_shortest major minor as' out at (ap number_of h.count)) h
+      written_is (as_written (m.writes_shortest major minor as' out at (ap number_of h.count))) h
 
   pub one_spelling : OneSpelling write
   unfolding OneSpelling
@@ -50,7 +50,7 @@ module _ (write : Writer) (m : Meets write) where
       by : Dec (number_of (write major minor as' out at).answer ≡ 0) → write major minor as' out at ≡ laid_over u out at
       by (yes z) =
           let w = m.writes_shortest major minor as' out at z in
-          let e = one_text_lem w.is s in
+          let e = one_text_lem w.shortest s in
           same_outcome (w.count ∙ rw e) (w.bytes ∙ rw e)
       by (no z) = absurd ((exactly write m major minor as' out at (omega arith) (λ t q. let l = ap length (one_text_lem q s) in omega arith)).0 z u s.has)
 
@@ -62,7 +62,7 @@ module _ (major minor : ℕ) (as' : List Allele) (out : List ℕ) (at : ℕ) {n 
   pub ours_written : HasWritten (writer major minor as' out at) at (take n (drop at left))
   unfolding WritesShortest
   ours_written =
-      written_taken (was_written (writes_shortest major minor as' out at (ap number_of a))) a b
+      written_taken (was_written (as_written (writes_shortest major minor as' out at (ap number_of a)))) a b
 
   pub ours_shortest : Shortest major minor as' (take n (drop at left))
   ours_shortest = written_shortest writer meets major minor as' out at ours_written

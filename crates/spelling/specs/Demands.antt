@@ -3,7 +3,7 @@
 use Rattle.std.specs.Prelude.{ℕ, ◌+◌, ◌≤◌, ◌<◌, ◌≡◌, Bool, true, false, ◌↔◌, List, [], ◌∷◌, length, take, drop}
 use Rattle.text.specs.Answer.{Answer, says, number_of}
 use Rattle.text.specs.Over.{over, over_at}
-use Rattle.text.specs.Outcome.{Outcome, WrittenAs, laid_over, HasWritten}
+use Rattle.text.specs.Outcome.{Outcome, laid_over, HasWritten}
 use Rattle.text.specs.First.{FirstOf}
 use Rattle.allele.specs.Means.{Means, all_phased}
 use Rattle.allele.specs.Row.{row_of, Parallel}
@@ -37,8 +37,12 @@ Shortest major minor as' t = TheShortest (Permitted (from44 major minor) as') t
 -- ---- what is written
 
 -- what is written is the one shortest permitted spelling, and lies over the output from the place on
-abbrev pub Written : ℕ → ℕ → List Allele → List ℕ → ℕ → Outcome → Type 0
-Written major minor as' out at o = WrittenAs (Shortest major minor as') out at o
+pub record Written (major minor : ℕ) (as' : List Allele) (out : List ℕ) (at : ℕ) (o : Outcome) : Type 0 where
+  pub text : List ℕ
+  pub shortest : Shortest major minor as' text
+  pub count : o.answer ≡ says 0 (length text ∷ [])
+  pub fits : at + length text ≤ length out
+  pub bytes : o.output ≡ over_at at text out
 
 unfoldable pub WritesShortest : Writer → Type 0
 WritesShortest write = (major minor : ℕ) (as' : List Allele) (out : List ℕ) (at : ℕ) → number_of (write major minor as' out at).answer ≡ 0
