@@ -1,8 +1,6 @@
 -- The invariant says that the ends to come rise from the last one on, where all rise from 0 on; each way out is a law of that. Assumes nothing.
-use Prim.Native.Nat.{◌-◌}
-use lib.ListN.{length}
 use Rattle.std.proofs.Common.{rules}
-use Rattle.entries.proofs.EntryLaws.{Judging, laws}
+use Rattle.entries.proofs.EntryLaws.{laws}
 use Rattle.entries.proofs.entries.judge_ends.Goals as goal
 
 pub returns-then-end-start : goal.returns-then-end-start

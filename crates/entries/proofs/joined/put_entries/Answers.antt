@@ -1,9 +1,7 @@
 -- `entries::joined::put_entries` meets its contract: the entries still to write, joined and laid from the place reached, leave what all leave. Assumes nothing.
-use Prim.Native.Nat.{◌-◌}
 use Rattle.std.proofs.Common.{rules}
-use lib.ListN.{length}
 use Rattle.entries.proofs.PlaceLaws.{entry_shown}
-use Rattle.entries.proofs.JoinedLaws.{Laying, lay_laws}
+use Rattle.entries.proofs.JoinedLaws.{lay_laws}
 use Rattle.entries.proofs.joined.put_entries.Goals as goal
 
 pub returns-then-ends-eq0-clause-value : goal.returns-then-ends-eq0-clause-value

@@ -1,9 +1,7 @@
 -- `lists::write::judge_list` meets its contract: the entries still to judge are judged as all are. Assumes nothing.
-use Prim.Native.Nat.{◌-◌}
 use Rattle.std.proofs.Common.{rules}
-use lib.ListN.{length}
 use Rattle.entries.proofs.PlaceLaws.{entry_shown}
-use Rattle.lists.proofs.WriteLaws.{Judging, laws}
+use Rattle.lists.proofs.WriteLaws.{laws}
 use Rattle.lists.proofs.write.judge_list.Goals as goal
 
 pub loop-i-preserved : goal.loop-i-preserved

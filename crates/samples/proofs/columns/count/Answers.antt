@@ -1,5 +1,4 @@
 -- `samples::columns::count` meets its contract: the samples are the pieces between tabs. Assumes nothing.
-use Rattle.std.proofs.Common.{rules}
 use Rattle.samples.specs.Samples.{samples_of}
 use Rattle.samples.proofs.columns.count.Goals as goal
 

@@ -1,5 +1,4 @@
 -- `samples::columns::sample` meets its contract: a sample by number is a piece between tabs. Assumes nothing.
-use Rattle.std.proofs.Common.{rules}
 use Rattle.samples.specs.Samples.{sample_answer}
 use Rattle.samples.proofs.columns.sample.Goals as goal
 

@@ -1,6 +1,4 @@
 -- A subfield by number is a piece between colons; the first one is asked for by itself. Assumes nothing.
-use Rattle.samples.proofs.SampleLaws.{laws}
-use Rattle.std.proofs.Common.{rules}
 use Rattle.samples.specs.Samples.{subfield_answer}
 use Rattle.samples.proofs.columns.subfield.Goals as goal
 

@@ -1,8 +1,7 @@
 -- `samples::keys::key_index` meets its contract: the first equal key of those from `at` on is the first of all. Assumes nothing.
 use Prim.Native.Nat.{◌-◌}
 use lib.ListN.{length}
-use Rattle.std.proofs.Common.{rules}
-use Rattle.samples.proofs.KeyLaws.{Looking, laws}
+use Rattle.samples.proofs.KeyLaws.{Looking}
 use Rattle.samples.proofs.keys.key_index.Given as goal
 
 abbrev pub invariant-loop-range : goal.invariant-loop-range

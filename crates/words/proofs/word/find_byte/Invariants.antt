@@ -1,8 +1,6 @@
 -- The invariant says that the first b from i on is the first from `from` on; the lowest mark of a word is its first b. Assumes nothing.
 use Prim.Native.Nat.{◌-◌}
-use Rattle.std.proofs.Common.{arith}
-use Rattle.std.proofs.Common.{rules}
-use Rattle.words.proofs.FindLaws.{Nearing, word_within, laws}
+use Rattle.words.proofs.FindLaws.{Nearing}
 use Rattle.words.proofs.word.find_byte.Given as goal
 
 abbrev pub invariant-loop-i : goal.invariant-loop-i

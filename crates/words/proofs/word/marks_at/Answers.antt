@@ -1,7 +1,6 @@
 -- The steps on the word are steps on each byte: the law over all words of bytes, at eight. Assumes nothing.
-use Rattle.words.proofs.WordLaws.{marks_made, laws}
+use Rattle.words.proofs.WordLaws.{marks_made}
 use Rattle.std.proofs.Common.{arith}
-use Rattle.std.proofs.Common.{rules}
 use Rattle.words.proofs.word.marks_at.Goals as goal
 
 pub returns : goal.returns

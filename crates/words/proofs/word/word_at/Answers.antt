@@ -1,7 +1,7 @@
 -- The invariant says that the word so far is that of the bytes from i on; seven bytes leave room for one more. Assumes nothing.
 use Rattle.std.proofs.Common.{arith}
 use Rattle.std.proofs.Common.{rules}
-use Rattle.words.proofs.WordLaws.{Reading, read_first, laws}
+use Rattle.words.proofs.WordLaws.{read_first, laws}
 use Rattle.words.proofs.word.word_at.Goals as goal
 
 pub loop-i-init : goal.loop-i-init

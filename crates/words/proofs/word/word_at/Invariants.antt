@@ -1,7 +1,5 @@
 -- The invariant says that the word so far is that of the bytes from i on; seven bytes leave room for one more. Assumes nothing.
-use Rattle.std.proofs.Common.{arith}
-use Rattle.std.proofs.Common.{rules}
-use Rattle.words.proofs.WordLaws.{Reading, read_first, laws}
+use Rattle.words.proofs.WordLaws.{Reading}
 use Rattle.words.proofs.word.word_at.Given as goal
 
 abbrev pub invariant-loop-i : goal.invariant-loop-i
