@@ -6,8 +6,6 @@ use mathlib.Core.List.{List, [], ◌∷◌}
 use native.Mathlib.Omega.{arith}
 use lib.ListN.{length, get_or}
 use lib.Dec.{leb, ltb}
-use types.Run.{OneOf, miss}
-use denote.Enum.Declared.{tag_of}
 use borrow.Author.Tests.{le-leb, ltb-true}
 use Rattle.text.specs.Pick.{pick}
 use Rattle.text.specs.Answer.{says, number_of}
@@ -21,7 +19,6 @@ use Rattle.numbering.specs.declared.counts.Numbered.{Numbered}
 use Rattle.numbering.specs.declared.counts.Numbered.TheVariants as N
 use Rattle.numbering.specs.declared.genotype.Filled.{Filled}
 use Rattle.numbering.specs.declared.genotype.Filled.TheVariants as F
-use Rattle.numbering.specs.contracts.genotype.Filled as D
 use Rattle.numbering.proofs.LimitLaws.{limited}
 use Rattle.numbering.proofs.CaseLaws.{number_is, number_wrong}
 use Rattle.numbering.proofs.Functions.{OfOrder, counts, of_order, off_order}
@@ -45,9 +42,9 @@ pub record Placed (i p n : ℕ) (l l' : List ℕ) : Type 0 where
   pub row : l' ≡ over (get_or (ordering p n) i []) l
 
 -- an answer that is not done has another number
-pub other_filled : (x : Filled) → OneOf (1 ∷ 2 ∷ []) (tag_of D.the_type x) → number_of (filled_paper x) ≡ 0 → ⊥
+pub other_filled : (x : Filled) → ((n : ℕ) → x ≡ F.Done n → ⊥) → number_of (filled_paper x) ≡ 0 → ⊥
 unfolding filled_paper
-other_filled (F.Done n) h e = miss (1 ∷ 2 ∷ []) 0 tt h
+other_filled (F.Done n) h e = h n refl
 other_filled F.Wrong h e = omega arith
 other_filled F.Short h e = omega arith
 
@@ -65,7 +62,7 @@ module _ (i p n : ℕ) (l : List ℕ) {x : Filled} {l' : List ℕ} (w : PlacesGe
       by false t f k r = let z : ◌≡◌ {A = ℕ} 0 1 = cc in absurd (omega arith)
 
   -- a row of eight is never too short
-  pub place_refused : 8 ≤ length l → OneOf (1 ∷ 2 ∷ []) (tag_of D.the_type x) → is_there i p n ≡ false
+  pub place_refused : 8 ≤ length l → ((n : ℕ) → x ≡ F.Done n → ⊥) → is_there i p n ≡ false
   unfolding genotype_answer
   place_refused h o = by (is_there i p n) refl w.answer
     where

@@ -6,8 +6,6 @@ use mathlib.Core.List.{List, [], ◌∷◌}
 use mathlib.Core.Option.{some}
 use native.Mathlib.Omega.{arith}
 use native.Mathlib.Decide.{dec_le}
-use types.Run.{OneOf}
-use denote.Enum.Declared.{tag_of}
 use lib.ListN.{length, take}
 use lib.Seq.{length-take-le}
 use lib.Dec.{ltb, eqb}
@@ -30,7 +28,6 @@ use Rattle.genotype.specs.Answers.{read_answer, text_answer, ReadsText}
 use Rattle.genotype.specs.Paper.{read_paper}
 use Rattle.genotype.specs.declared.read.Read.{Read}
 use Rattle.genotype.specs.declared.read.Read.TheVariants as G
-use Rattle.genotype.specs.contracts.read.Read as D
 use Rattle.genotype.proofs.JudgeLaws.{other_number}
 use Rattle.genotype.proofs.AnswerLaws.{answer_list, row_even, Holds, reads_list}
 use Rattle.genotype.proofs.ReadLaws.{Fits, read_fits}
@@ -110,7 +107,7 @@ module _ (n : ℕ) (t : List ℕ) {x : Read} {a b c : List ℕ} (g : ReadsText t
   text_told : read_paper x ≡ text_answer t 8
   text_told = g.answer ∙ row_even eight eight eight (text_answer t 8) refl refl
 
-  pub one_other : OneOf (1 ∷ 2 ∷ 3 ∷ 4 ∷ 5 ∷ []) (tag_of D.the_type x) → ask_paper A.Wrong ≡ one_answer (some n) (reading_of t)
+  pub one_other : ((k : ℕ) → x ≡ G.Done k → ⊥) → ask_paper A.Wrong ≡ one_answer (some n) (reading_of t)
   unfolding ask_paper one_answer
   one_other o = by (reading_of t) text_told
     where

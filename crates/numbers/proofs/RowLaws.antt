@@ -7,8 +7,6 @@ use native.Mathlib.Omega.{arith}
 use lib.ListN.{length, get_or, take, drop, set, length-set, length-append, length-drop, drop_of_length-le}
 use lib.Seq.{length-take-le}
 use lib.Dec.{leb}
-use types.Run.{OneOf}
-use denote.Enum.Declared.{tag_of}
 use mir.Syntax.{w64}
 use mir.Val.{Fits}
 use borrow.Author.Tests.{le-leb, lt-leb, leb-true, lt-ltb}
@@ -29,7 +27,6 @@ use Rattle.numbering.specs.Answers.{is_there}
 use Rattle.numbering.specs.Promises.{PlacesGenotype}
 use Rattle.numbering.specs.declared.genotype.Filled.{Filled}
 use Rattle.numbering.specs.declared.genotype.Filled.TheVariants as F
-use Rattle.numbering.specs.contracts.genotype.Filled as D
 use Rattle.numbering.proofs.OrderLaws.{length_ordering, listed, rises_ploidy, rises_genotype}
 use Rattle.numbering.proofs.CountLaws.{count_small}
 use Rattle.numbering.proofs.LimitLaws.{limits_yes}
@@ -259,7 +256,7 @@ module _ (i p n at : ℕ) (out : List ℕ) where
   unfolding row_paper row_answer
   row_beyond h = let e = lt-leb at (length out) h in record { answer = rw e; bytes = rw e }
 
-  pub row_wrong : {x : Filled} {l : List ℕ} → at ≤ length out → PlacesGenotype i p n eight x l → OneOf (1 ∷ 2 ∷ []) (tag_of D.the_type x) → PutsRow i p n out at R.Wrong out
+  pub row_wrong : {x : Filled} {l : List ℕ} → at ≤ length out → PlacesGenotype i p n eight x l → ((v : ℕ) → x ≡ F.Done v → ⊥) → PutsRow i p n out at R.Wrong out
   unfolding row_paper row_answer
   row_wrong h w o =
       let f = le-leb at (length out) h in
