@@ -1,0 +1,16 @@
+-- `listing::ask::ask_where` meets its contract: each way through it is a case of the definition, by why the turns stop. Assumes nothing.
+use Rattle.listing.proofs.AskLaws.{ask_clears, ask_full, ask_keeps, ask_last}
+use Rattle.std.proofs.Common.{rules}
+use Rattle.listing.proofs.ask.ask_where.Goals as goal
+
+pub returns-in-More : goal.returns-in-More
+returns-in-More c = search (rules, ask_keeps)
+
+pub returns-in-Full : goal.returns-in-Full
+returns-in-Full c = search (rules, ask_full)
+
+pub returns-in-Done-print_totals : goal.returns-in-Done-print_totals
+returns-in-Done-print_totals c = search (rules, ask_last)
+
+pub returns-in-Short : goal.returns-in-Short
+returns-in-Short c = search (rules, ask_clears)
