@@ -1,0 +1,15 @@
+-- The definition goes by whether the range holds a `.`, as the code does; such a range ends within the buffer. Assumes nothing.
+use Rattle.std.proofs.Common.{arith}
+use Rattle.std.proofs.Common.{rules}
+use Rattle.fields.proofs.FieldLaws.{dot_within, laws}
+use Rattle.fields.proofs.field.text_in.Goals as goal
+
+pub dot-requires : goal.dot-requires
+dot-requires c = let h = dot_within c.args.s.now c.args.range c.is_dot.ensures c.if-is_dot.true in
+    omega arith
+
+pub returns-then-is_dot : goal.returns-then-is_dot
+returns-then-is_dot c = search (rules, laws)
+
+pub returns : goal.returns
+returns c = search (rules, laws)
