@@ -1,8 +1,6 @@
 -- `numbers::row::put_genotype` meets its contract: what is left to be put, from allele to allele, is `Going`, and the measure is how many alleles are left. Assumes nothing.
-use Prim.Native.Nat.{◌-◌}
-use lib.ListN.{length}
 use Rattle.std.proofs.Common.{rules}
-use Rattle.numbers.proofs.RowLaws.{Going, laws}
+use Rattle.numbers.proofs.RowLaws.{laws}
 use Rattle.numbers.proofs.row.put_genotype.Goals as goal
 
 pub put_number-next-requires : goal.put_number-next-requires

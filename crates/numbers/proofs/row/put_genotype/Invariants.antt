@@ -1,8 +1,7 @@
 -- `numbers::row::put_genotype` meets its contract: what is left to be put, from allele to allele, is `Going`, and the measure is how many alleles are left. Assumes nothing.
 use Prim.Native.Nat.{◌-◌}
 use lib.ListN.{length}
-use Rattle.std.proofs.Common.{rules}
-use Rattle.numbers.proofs.RowLaws.{Going, laws}
+use Rattle.numbers.proofs.RowLaws.{Going}
 use Rattle.numbers.proofs.row.put_genotype.Given as goal
 
 abbrev pub invariant-loop-k : goal.invariant-loop-k
