@@ -29,7 +29,7 @@ use Rattle.line.proofs.Meets as LineMeets
 use Rattle.join.specs.Join.{line_text, list_answer, join_answer}
 use Rattle.join.specs.Demands.{Joiner, joiner, IsLine, WritesLine, Refused, beyond, few, fault, short, Refusals, Meets, Exact, HasRead, Back, Forth, Follow, EntriesJoiner, Rejoins}
 use Rattle.join.proofs.FaultLaws.{line_whole, line_faultless, line_again, line_is}
-use Rattle.join.proofs.Demands.{meets}
+use Rattle.join.proofs.Demands.{meets, as_written}
 
 -- ---- refused exactly when there is no line
 
@@ -47,7 +47,7 @@ exactly join m cs e out at h room = (only_then, then)
         by (short {t} l i o) = let r = room t i in omega arith
 
     then : ((s rest : List ℕ) → Begins s cs e rest → ⊥) → number_of (join cs e out at).answer ≡ 0 → ⊥
-    then n z = let w = m.writes_line cs e out at z in n w.text [] w.is
+    then n z = let w = m.writes_line cs e out at z in n w.text [] w.line
 
 -- ---- what is joined is read
 
@@ -73,7 +73,7 @@ module _ (read : Reader) (g : Line.Meets read) where
   back : (join : Joiner) → Meets join → Back read join
   unfolding Back WritesLine
   back join m cs e out at n q s p rest d r =
-      let w = m.writes_line cs e out at (ap number_of q) in
+      let w = as_written (m.writes_line cs e out at (ap number_of q)) in
       begun_read s p (line_begins (written_is w (written_taken (was_written w) q refl)) d r)
 
 -- ---- what was read is given back
@@ -97,7 +97,7 @@ module _ (join : Joiner) (m : Meets join) where
       by : Dec (number_of (join cs e out p).answer ≡ 0) → join cs e out p ≡ record { answer = says 0 (n ∷ []); output = over_at p (take n s) out }
       by (yes z) =
           let w = m.writes_line cs e out p z in
-          let t = line_is w.is in
+          let t = line_is w.line in
           same_outcome (w.count ∙ rw (t, l)) (w.bytes ∙ rw (t, line_taken b n l))
       by (no z) =
           let room : (t : List ℕ) → IsLine cs e t → p + length t ≤ length out = λ t i. rw (line_is i, l) h in

@@ -8,6 +8,7 @@ use native.Mathlib.Decide.{dec_le}
 use lib.ListN.{length, drop, length-drop}
 use borrow.Author.Tests.{le-leb, lt-leb, eq-eqb}
 use Rattle.text.specs.Answer.{Answer, says, number_of}
+use Rattle.text.specs.Outcome.{Outcome, WrittenAs}
 use Rattle.text.proofs.CopyLaws.{room_fits, room_lacks, laid_at_refused}
 use Rattle.text.proofs.OutcomeLaws.{RefusedWhen, one_outcome, one_written}
 use Rattle.record.specs.Ending.{Ending}
@@ -67,7 +68,7 @@ unfolding WritesLine joiner
 writes_line cs e out at z = by (told cs e out at) refl
   where
     by : {a : Answer} → Told cs e out at a → (joiner cs e out at).answer ≡ a → Written cs e out at (joiner cs e out at)
-    by (done l r) q = record { text = line_text cs e; is = l; count = q; fits = r; bytes = rw (eq-eqb _ _ z) }
+    by (done l r) q = record { text = line_text cs e; line = l; count = q; fits = r; bytes = rw (eq-eqb _ _ z) }
     by (refuses n f) q = absurd (n (sym (ap number_of q) ∙ z))
 
 pub refusals : Refusals joiner
@@ -85,6 +86,10 @@ untouched cs e out at n = laid_at_refused (joiner cs e out at).answer at (line_t
 pub meets : Meets joiner
 meets = record { writes_line = writes_line; refusals = refusals; untouched = untouched }
 
+-- what a joiner has written, as what any writer has
+abbrev pub as_written : {cs : List (List ℕ)} {e : Ending} {out : List ℕ} {at : ℕ} {o : Outcome} → Written cs e out at o → WrittenAs (IsLine cs e) out at o
+as_written w = record { text = w.text; is = w.line; count = w.count; fits = w.fits; bytes = w.bytes }
+
 -- ---- one joiner
 
 pub one_joiner : OneJoiner
@@ -98,4 +103,4 @@ one_joiner join other m m' cs e out at = one_outcome (refused join m) (refused o
     both z z' =
         let w = m.writes_line cs e out at z in
         let w' = m'.writes_line cs e out at z' in
-        one_written w w' (line_is w.is ∙ sym (line_is w'.is))
+        one_written (as_written w) (as_written w') (line_is w.line ∙ sym (line_is w'.line))

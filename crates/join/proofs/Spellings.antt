@@ -20,7 +20,7 @@ use Rattle.line.proofs.RecordLaws.{begins_some}
 use Rattle.join.specs.Paper.{joined_paper}
 use Rattle.join.specs.Demands.{Joiner, joiner, IsLine, WritesLine, Meets, OneSpelling, Settles, Spellings, Wrote, ReadsJoined, JoinedTwice}
 use Rattle.join.proofs.FaultLaws.{line_is}
-use Rattle.join.proofs.Demands.{writes_line, meets}
+use Rattle.join.proofs.Demands.{writes_line, meets, as_written}
 use Rattle.join.proofs.BackForth.{line_begins, begun_read, begun_joined, entries_joiner}
 
 -- ---- any joiner and any reader
@@ -29,7 +29,7 @@ module _ (join : Joiner) (m : Meets join) where
   written_line : (cs : List (List ℕ)) (e : Ending) (out : List ℕ) (at : ℕ) {t : List ℕ} → HasWritten (join cs e out at) at t → IsLine cs e t
   unfolding WritesLine
   written_line cs e out at h =
-      written_is (m.writes_line cs e out at (ap number_of h.count)) h
+      written_is (as_written (m.writes_line cs e out at (ap number_of h.count))) h
 
   one_spelling : OneSpelling join
   unfolding OneSpelling
@@ -73,7 +73,7 @@ module _ {t ends : List ℕ} {e : Ending} {at : ℕ} {out : List ℕ} {n : ℕ} 
   unfolding WritesLine
   has_line =
       let a = sym as_list.0 ∙ w.done in
-      written_taken (was_written (writes_line (entry_list t ends) e out at (ap number_of a))) a as_list.1
+      written_taken (was_written (as_written (writes_line (entry_list t ends) e out at (ap number_of a)))) a as_list.1
 
   line_length : length (take n (drop at out')) ≡ n
   line_length = written_length has_line (sym as_list.0 ∙ w.done)

@@ -3,7 +3,7 @@
 use Rattle.std.specs.Prelude.{ℕ, ◌+◌, ◌-◌, ◌<◌, ◌≤◌, ◌≡◌, true, false, ◌↔◌, List, [], ◌∷◌, ◌++◌, length, get_or, take, drop}
 use Rattle.text.specs.Answer.{Answer, says, number_of, values_of}
 use Rattle.text.specs.Bytes.{ends_in}
-use Rattle.text.specs.Outcome.{Outcome, WrittenAs, laid_over, HasWritten}
+use Rattle.text.specs.Outcome.{Outcome, laid_over, HasWritten}
 use Rattle.text.specs.Over.{laid_at, over_at}
 use Rattle.text.specs.Place.{placed}
 use Rattle.text.specs.Utf8.{is_utf8}
@@ -40,8 +40,12 @@ IsLine cs e t = Begins t cs e []
 -- ---- what is written
 
 -- what is written is the line, and lies over the output from the place on
-abbrev pub Written : List (List ℕ) → Ending → List ℕ → ℕ → Outcome → Type 0
-Written cs e out at o = WrittenAs (IsLine cs e) out at o
+pub record Written (cs : List (List ℕ)) (e : Ending) (out : List ℕ) (at : ℕ) (o : Outcome) : Type 0 where
+  pub text : List ℕ
+  pub line : IsLine cs e text
+  pub count : o.answer ≡ says 0 (length text ∷ [])
+  pub fits : at + length text ≤ length out
+  pub bytes : o.output ≡ over_at at text out
 
 unfoldable pub WritesLine : Joiner → Type 0
 WritesLine join = (cs : List (List ℕ)) (e : Ending) (out : List ℕ) (at : ℕ) → number_of (join cs e out at).answer ≡ 0 → Written cs e out at (join cs e out at)
