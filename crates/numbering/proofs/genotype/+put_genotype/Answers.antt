@@ -1,4 +1,4 @@
--- The last allele is written, and the rest is the genotype of the number that is left, of one ploidy less.
+-- The last allele is written, and the rest is the genotype of the number that is left, of one ploidy less. Assumes nothing.
 use Rattle.std.proofs.Common.{rules}
 use Rattle.numbering.proofs.GenotypeLaws.{laws}
 use Rattle.numbering.proofs.genotype.+put_genotype.Goals as goal

@@ -1,4 +1,4 @@
--- The blocks of the alleles passed are written, and the next block fits behind them.
+-- The blocks of the alleles passed are written, and the next block fits behind them. Assumes nothing.
 use Rattle.std.proofs.Common.{rules}
 use Rattle.numbering.proofs.ListLaws.{go_turn, laws}
 use Rattle.numbering.proofs.list.+put_all.Goals as goal

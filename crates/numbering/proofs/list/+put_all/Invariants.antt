@@ -1,4 +1,4 @@
--- The ploidy falls at each call of `numbering::list::put_all` to itself. The blocks of the alleles passed are written.
+-- The ploidy falls at each call of `numbering::list::put_all` to itself. The blocks of the alleles passed are written. Assumes nothing.
 use Rattle.std.proofs.Common.{◌-◌}
 use Rattle.numbering.proofs.ListLaws.{Going}
 use Rattle.numbering.proofs.list.+put_all.Given as goal

@@ -1,4 +1,4 @@
--- The number of the alleles before the last, and the count of the genotypes whose last allele is lower.
+-- The number of the alleles before the last, and the count of the genotypes whose last allele is lower. Assumes nothing.
 use Rattle.std.proofs.Common.{rules}
 use Rattle.numbering.proofs.NumberLaws.{laws}
 use Rattle.numbering.proofs.number.+number_to.Goals as goal
