@@ -87,6 +87,7 @@ fn far_end(s: &[u8], from: usize) -> Stop
 }
 
 // Columns 1 to 7 and FORMAT must be ended by a tab.
+#[tactic(auto, unfolding(crate::specs::Line::required))]
 fn is_required(k: usize) -> bool
     ensures { result ≡ required k }
 {

@@ -1,6 +1,5 @@
 -- `forms::made::is_chained` meets its contract: at each turn one field less is left. Assumes nothing.
-use Prim.Native.Nat.{◌-◌}
-use Rattle.forms.proofs.ChainLaws.{Chaining, laws}
+use Rattle.forms.proofs.ChainLaws.{laws}
 use Rattle.std.proofs.Common.{rules}
 use Rattle.forms.proofs.made.is_chained.Goals as goal
 

@@ -1,7 +1,6 @@
 -- `forms::made::is_chained` meets its contract: at each turn one field less is left. Assumes nothing.
 use Prim.Native.Nat.{◌-◌}
-use Rattle.forms.proofs.ChainLaws.{Chaining, laws}
-use Rattle.std.proofs.Common.{rules}
+use Rattle.forms.proofs.ChainLaws.{Chaining}
 use Rattle.forms.proofs.made.is_chained.Given as goal
 
 abbrev pub invariant-loop-i : goal.invariant-loop-i

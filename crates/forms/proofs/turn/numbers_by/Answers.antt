@@ -1,7 +1,5 @@
 -- `forms::turn::numbers_by` meets its contract: the ends one by one are the list's. Assumes nothing.
-use Rattle.forms.proofs.TurnLaws.{numbers_told, end_within}
-use Rattle.std.proofs.Common.{rules}
-use Rattle.std.proofs.Common.{arith}
+use Rattle.forms.proofs.TurnLaws.{numbers_told}
 use Rattle.forms.proofs.turn.numbers_by.Goals as goal
 
 pub returns : goal.returns

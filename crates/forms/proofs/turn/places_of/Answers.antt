@@ -1,6 +1,5 @@
 -- `forms::turn::places_of` meets its contract: the ten places one by one. Assumes nothing.
 use Rattle.record.proofs.SpanLaws.{places_told}
-use Rattle.std.proofs.Common.{rules}
 use Rattle.forms.proofs.turn.places_of.Goals as goal
 
 pub returns : goal.returns

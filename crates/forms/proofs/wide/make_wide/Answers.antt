@@ -1,6 +1,5 @@
 -- `forms::wide::make_wide` meets its contract: its numbers one by one are the list's. Assumes nothing.
 use Rattle.forms.proofs.WideLaws.{wide_made}
-use Rattle.std.proofs.Common.{rules}
 use Rattle.forms.proofs.wide.make_wide.Goals as goal
 
 pub returns : goal.returns

@@ -1,7 +1,6 @@
 -- `forms::wide::wide_place` meets its contract: each arm is the definition's clause for its name. Assumes nothing.
 use mathlib.Core.Path.{sym, ap}
 use Rattle.forms.specs.Paper.{wide_range}
-use Rattle.std.proofs.Common.{rules}
 use Rattle.forms.proofs.wide.wide_place.Goals as goal
 
 pub returns-in-Chrom : goal.returns-in-Chrom

@@ -1,8 +1,7 @@
 -- `line::flags::ascii64` meets its contract: each byte is gathered into one flag. Assumes nothing.
 use Prim.Native.Nat.{◌-◌}
-use Rattle.std.proofs.Common.{rules}
 use Rattle.text.specs.Flags.{Plain}
-use Rattle.text.proofs.FlagLaws.{Gathered, laws}
+use Rattle.text.proofs.FlagLaws.{Gathered}
 use Rattle.line.proofs.flags.ascii64.Given as goal
 
 abbrev pub invariant-loop-i : goal.invariant-loop-i

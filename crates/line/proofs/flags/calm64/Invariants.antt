@@ -1,9 +1,7 @@
 -- `line::flags::calm64` meets its contract: each byte sets a flag or none. Assumes nothing.
 use Prim.Native.Nat.{◌-◌}
-use Rattle.std.proofs.Common.{rules}
-use Rattle.text.proofs.FlagLaws.{Gathered, laws}
+use Rattle.text.proofs.FlagLaws.{Gathered}
 use Rattle.line.specs.Scan.{Calm}
-use Rattle.line.proofs.CalmLaws.{laws as calm-laws}
 use Rattle.line.proofs.flags.calm64.Given as goal
 
 abbrev pub invariant-loop-i : goal.invariant-loop-i

@@ -1,8 +1,6 @@
 -- `line::flags::quiet64` meets its contract: each byte sets a flag or none. Assumes nothing.
-use Prim.Native.Nat.{◌-◌}
 use Rattle.std.proofs.Common.{rules}
-use Rattle.text.proofs.FlagLaws.{Gathered, laws}
-use Rattle.line.specs.Scan.{Smooth}
+use Rattle.text.proofs.FlagLaws.{laws}
 use Rattle.line.proofs.CalmLaws.{laws as calm-laws}
 use Rattle.line.proofs.flags.quiet64.Goals as goal
 

@@ -1,7 +1,5 @@
 -- `line::read::column_end` meets its contract: neither a tab nor an LF stands before i; past 32 bytes the far search tells. Assumes nothing.
-use Prim.Native.Nat.{◌-◌}
 use Rattle.std.proofs.Common.{rules}
-use Rattle.line.specs.Inner.{Clear}
 use Rattle.pieces.proofs.EitherLaws.{near_within}
 use Rattle.line.proofs.ReadLaws.{laws}
 use Rattle.line.proofs.read.column_end.Goals as goal

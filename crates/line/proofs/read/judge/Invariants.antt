@@ -1,11 +1,7 @@
 -- `line::read::judge` meets its contract: what is left from column k on is judged as the whole, and the tabs before it are kept. Assumes nothing.
 use Prim.Native.Nat.{◌+◌, ◌-◌}
 use lib.ListN.{length}
-use Rattle.std.proofs.Common.{arith}
-use Rattle.std.proofs.Common.{rules}
-use Rattle.line.proofs.ReadLaws.{stop_tab, stop_feed, laws as judged-laws}
 use Rattle.line.specs.Inner.{Judging}
-use Rattle.line.proofs.MarkLaws.{marks_fed, laws}
 use Rattle.line.proofs.read.judge.Given as goal
 
 abbrev pub invariant-columns : goal.invariant-columns

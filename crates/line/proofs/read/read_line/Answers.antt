@@ -1,8 +1,7 @@
 -- `line::read::read_line` meets its contract: what the scan found is in order; else it is `read_columns`. Assumes nothing.
-use Rattle.std.proofs.Common.{arith}
 use Rattle.std.proofs.Common.{rules}
 use Rattle.line.proofs.AnswerLaws.{reads_line, laws as answer-laws}
-use Rattle.line.proofs.SwiftLaws.{swift_next, laws}
+use Rattle.line.proofs.SwiftLaws.{laws}
 use Rattle.line.proofs.read.read_line.Goals as goal
 
 pub returns-then-at-s-clause-reads_line : goal.returns-then-at-s-clause-reads_line

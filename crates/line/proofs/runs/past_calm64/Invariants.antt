@@ -1,9 +1,7 @@
 -- `line::runs::past_calm64` meets its contract: one block more in each turn. Assumes nothing.
 use Prim.Native.Nat.{◌-◌}
 use lib.ListN.{length}
-use Rattle.std.proofs.Common.{rules}
 use Rattle.line.specs.Scan.{Calm, Runs}
-use Rattle.line.proofs.CalmLaws.{laws}
 use Rattle.line.proofs.runs.past_calm64.Given as goal
 
 abbrev pub invariant-loop-i : goal.invariant-loop-i

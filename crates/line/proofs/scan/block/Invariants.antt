@@ -1,7 +1,5 @@
 -- `line::scan::block` meets its contract: the lowest bit is the next mark, and the others are left. Assumes nothing.
-use Rattle.std.proofs.Common.{arith}
-use Rattle.std.proofs.Common.{rules}
-use Rattle.line.proofs.ScanLaws.{Marking, mark_within, laws}
+use Rattle.line.proofs.ScanLaws.{Marking}
 use Rattle.line.proofs.scan.block.Given as goal
 
 abbrev pub invariant-loop-m : goal.invariant-loop-m

@@ -1,9 +1,7 @@
 -- `line::scan::scan` meets its contract: one law for each answer of a block. Assumes nothing.
 use Prim.Native.Nat.{◌-◌}
 use lib.ListN.{length}
-use Rattle.std.proofs.Common.{rules}
 use Rattle.line.specs.Scan.{Swept}
-use Rattle.line.proofs.ScanLaws.{scan_laws}
 use Rattle.line.proofs.scan.scan.Given as goal
 
 abbrev pub invariant-loop-i : goal.invariant-loop-i

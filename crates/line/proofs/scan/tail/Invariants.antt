@@ -1,9 +1,7 @@
 -- `line::scan::tail` meets its contract: one law for each kind of byte. Assumes nothing.
 use Prim.Native.Nat.{◌-◌}
 use lib.ListN.{length}
-use Rattle.std.proofs.Common.{rules}
 use Rattle.line.specs.Scan.{Swept}
-use Rattle.line.proofs.ScanLaws.{tail_laws}
 use Rattle.line.proofs.scan.tail.Given as goal
 
 abbrev pub invariant-loop-i : goal.invariant-loop-i

@@ -1,7 +1,6 @@
 -- `record::place::place_of` meets its contract: each arm is the definition's clause for its name. Assumes nothing.
 use mathlib.Core.Path.{sym, ap, ◌∙◌}
 use Rattle.record.specs.Place.{range_of}
-use Rattle.std.proofs.Common.{rules}
 use Rattle.record.proofs.place.place_of.Goals as goal
 
 pub returns-in-Chrom : goal.returns-in-Chrom

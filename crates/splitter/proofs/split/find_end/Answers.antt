@@ -1,7 +1,7 @@
 -- `splitter::split::find_end` meets its contract: no LF stands before the place that is looked at; where the loop stops, the byte there, and the one before it, tell the ending. Assumes nothing.
 use Rattle.std.proofs.Common.{rules}
 use Rattle.line.specs.Demands.{FirstFeed}
-use Rattle.splitter.proofs.EndLaws.{Unfed, unended, first_feed, unfed_turn, ends_return, ends_none, ends_bare, laws}
+use Rattle.splitter.proofs.EndLaws.{unended, first_feed, ends_return, ends_none, ends_bare, laws}
 use Rattle.splitter.proofs.split.find_end.Goals.{then-loop-feed-test+else-s-feed-ne10, else-loop-feed-test, else-feed-at-via-then-feed-at+else-s-feed-eq13, else-feed-at-via-else-feed-at}
 use Rattle.splitter.proofs.split.find_end.Goals as goal
 

@@ -1,8 +1,7 @@
 -- `splitter::split::find_tabs` meets its contract: up to the place that is looked at, what is kept is that of the tabs seen; the joined ways of a turn are taken apart. Assumes nothing.
-use Prim.Native.Nat.{◌-◌}
 use mathlib.Core.Path.{◌∙◌}
 use Rattle.std.proofs.Common.{rules}
-use Rattle.splitter.proofs.TabLaws.{Looked, nine_more, nine_full, looked_tab, looked_beside, look_new, look_old, look_none, laws}
+use Rattle.splitter.proofs.TabLaws.{nine_more, nine_full, looked_tab, looked_beside, look_new, look_old, look_none, laws}
 use Rattle.splitter.proofs.split.find_tabs.Goals.{then-t-i-eq9, then-count-lt9, else-count-lt9, then-i-start+then-gap-end, else-i-start, else-i-start-via-then-i-start+else-gap-end, else-i-start-via-else-i-start, else-t-i-eq9}
 use Rattle.splitter.proofs.split.find_tabs.Goals as goal
 

@@ -1,10 +1,6 @@
 -- `splitter::split::find_tabs` meets its contract: up to the place that is looked at, what is kept is that of the tabs seen; the joined ways of a turn are taken apart. Assumes nothing.
 use Prim.Native.Nat.{◌-◌}
-use mathlib.Core.Path.{◌∙◌}
-use mathlib.Core.Logic.{⊎_elim}
-use borrow.Author.Tests.{eqb-true, eqb-false}
-use Rattle.std.proofs.Common.{rules}
-use Rattle.splitter.proofs.TabLaws.{Looked, nine_more, nine_full, looked_tab, looked_beside, look_new, look_old, look_none, laws}
+use Rattle.splitter.proofs.TabLaws.{Looked}
 use Rattle.splitter.proofs.split.find_tabs.Given as goal
 
 abbrev pub invariant-loop-i : goal.invariant-loop-i
