@@ -5,8 +5,6 @@ use mathlib.Core.Bool.{true}
 use mathlib.Core.List.{List, [], ◌∷◌}
 use native.Mathlib.Omega.{arith}
 use native.Mathlib.Nat.{add-zero}
-use types.Run.{OneOf, hit}
-use denote.Enum.Declared.{tag_of}
 use lib.ListN.{length, set}
 use lib.Seq.{sets}
 use borrow.Author.Tests.{ne_eqb}
@@ -20,7 +18,6 @@ use Rattle.genotype.specs.Paper.{read_paper}
 use Rattle.allele.specs.declared.allele.Allele.{Allele}
 use Rattle.genotype.specs.declared.read.Read.{Read}
 use Rattle.genotype.specs.declared.read.Read.TheVariants as R
-use Rattle.genotype.specs.contracts.read.Read as D
 use Rattle.allele.proofs.StepLaws.{past_at, Further}
 use Rattle.genotype.proofs.JudgeLaws.{done_number, other_number}
 use Rattle.genotype.proofs.Ahead.{left_of, Ahead, ahead_first, left_first, ahead_past, left_past, left_some}
@@ -30,10 +27,6 @@ use Rattle.alleles.specs.Read.{ReadsRow, ReadsRowChecked}
 use Rattle.alleles.specs.declared.read.Turn.{Turn}
 use Rattle.alleles.proofs.TurnLaws.{other_lays, turn_none, turn_counted, turn_lays}
 use Rattle.alleles.proofs.Turns.{fill_done}
-
--- the answers that are not done
-abbrev others : List ℕ
-others = 1 ∷ 2 ∷ 3 ∷ 4 ∷ 5 ∷ []
 
 -- an ended turn is done
 ended_done : {u : Turn} → ended ≡ u → u.done ≡ true
@@ -79,7 +72,7 @@ module _ (t : List ℕ) (row : List Allele) where
   row_laid_done : (count : ℕ) → Fits (reading_of t) (length row) count → filled_row t (R.Done count) row ≡ laid (read_paper (R.Done count)) (list_of (reading_of t)) row
   row_laid_done count f = rw (done_number count) (row_done count f)
 
-  row_other : (x : Read) → OneOf others (tag_of D.the_type x) → filled_row t x row ≡ laid (read_paper x) (list_of (reading_of t)) row
+  row_other : (x : Read) → ((k : ℕ) → x ≡ R.Done k → ⊥) → filled_row t x row ≡ laid (read_paper x) (list_of (reading_of t)) row
   unfolding filled_row
   row_other x h =
       rw (ne_eqb (number_of (read_paper x)) 0 (other_number x h))
@@ -87,11 +80,11 @@ module _ (t : List ℕ) (row : List Allele) where
 
   row_laid : (x : Read) → ((count : ℕ) → x ≡ R.Done count → Fits (reading_of t) (length row) count) → filled_row t x row ≡ laid (read_paper x) (list_of (reading_of t)) row
   row_laid (R.Done count) f = row_laid_done count (f count refl)
-  row_laid R.Empty f = row_other R.Empty (hit others 1 tt)
-  row_laid (R.Bad k o) f = row_other (R.Bad k o) (hit others 2 tt)
-  row_laid R.Lengths f = row_other R.Lengths (hit others 3 tt)
-  row_laid R.Short f = row_other R.Short (hit others 4 tt)
-  row_laid (R.Above k) f = row_other (R.Above k) (hit others 5 tt)
+  row_laid R.Empty f = row_other R.Empty (λ k e. (let z : ◌≡◌ {A = ℕ} 0 1 = cc in omega arith))
+  row_laid (R.Bad k o) f = row_other (R.Bad k o) (λ k e. (let z : ◌≡◌ {A = ℕ} 0 1 = cc in omega arith))
+  row_laid R.Lengths f = row_other R.Lengths (λ k e. (let z : ◌≡◌ {A = ℕ} 0 1 = cc in omega arith))
+  row_laid R.Short f = row_other R.Short (λ k e. (let z : ◌≡◌ {A = ℕ} 0 1 = cc in omega arith))
+  row_laid (R.Above k) f = row_other (R.Above k) (λ k e. (let z : ◌≡◌ {A = ℕ} 0 1 = cc in omega arith))
 
 -- ---- the readers
 
@@ -104,3 +97,5 @@ module _ (t : List ℕ) (row : List Allele) {r x : Read} {row' : List Allele} (e
 
   pub reads_row_checked : (alt : List ℕ) → read_paper x ≡ checked_text t alt (length row) → ReadsRowChecked t alt row r row'
   reads_row_checked alt h = rw e (record { answer = h; records = w ∙ laid_by h (λ k q. checked_fits t alt (length row) x h q) })
+
+pub ruleset laws = (reads_row, reads_row_checked)

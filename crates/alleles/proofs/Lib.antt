@@ -1,13 +1,8 @@
-pub mod Row
-pub mod Parts
-pub mod Rest
 pub mod TurnLaws
 pub mod Turns
 pub mod FillLaws
 pub mod Demands
-pub mod Small
-pub mod Tallying
-pub mod Putting
+pub mod RowLoops
 pub mod WriteLaws
 pub mod EndToEnd
 pub mod Determined

@@ -2,11 +2,9 @@
 use Prim.Native.Nat.{ℕ, ◌≤◌, ◌<◌}
 use mathlib.Core.Path.{◌≡◌, refl, ◌∙◌}
 use mathlib.Core.Bool.{true, false, and-false}
-use mathlib.Core.List.{List, [], ◌∷◌}
+use mathlib.Core.List.{List}
 use mathlib.Core.Option.{none}
 use native.Mathlib.Omega.{arith}
-use types.Run.{OneOf, miss}
-use denote.Enum.Declared.{tag_of}
 use lib.ListN.{drop, drop_of_length-le}
 use borrow.Author.Tests.{lt-ltb, le-ltb}
 use Rattle.text.proofs.Lists.{here}
@@ -17,8 +15,6 @@ use Rattle.allele.specs.declared.step.Step.{Step}
 use Rattle.allele.specs.declared.step.Step.TheVariants as S
 use Rattle.genotype.specs.declared.read.Read.{Read}
 use Rattle.genotype.specs.declared.read.Read.TheVariants as R
-use Rattle.allele.specs.contracts.step.Step as T
-use Rattle.genotype.specs.contracts.read.Read as D
 use Rattle.allele.proofs.StepLaws.{Further, step_means}
 use Rattle.alleles.specs.Inner.{ended, laid_turn, lays, turn_at}
 use Rattle.alleles.specs.declared.read.Turn.{Turn}
@@ -30,8 +26,8 @@ module _ (t : List ℕ) (at : ℕ) where
   unfolding laid_turn
   first_found a next f = rw (here t at (omega (arith, f.past, f.within)), f.first, f.ends)
 
-  first_none : (x : Step) → step_paper x ≡ step_answer t at → OneOf (1 ∷ 2 ∷ 3 ∷ 4 ∷ []) (tag_of T.the_type x) → first_of (drop at t) ≡ none
-  first_none (S.Found a next) e h = absurd (miss (1 ∷ 2 ∷ 3 ∷ 4 ∷ []) 0 tt h)
+  first_none : (x : Step) → step_paper x ≡ step_answer t at → ((a : Allele) (next : ℕ) → x ≡ S.Found a next → ⊥) → first_of (drop at t) ≡ none
+  first_none (S.Found a next) e h = absurd (h a next refl)
   first_none S.Beyond e h = let f = step_means t at S.Beyond e in rw (drop_of_length-le t {i = at} (omega arith))
   first_none S.Nothing e h = let f = step_means t at S.Nothing e in rw (drop_of_length-le t {i = at} (omega arith))
   first_none S.Empty e h = let f = step_means t at S.Empty e in rw (drop_of_length-le t {i = at} (omega arith))
@@ -44,9 +40,9 @@ unfolding ended
 end_is = refl
 
 -- nothing is laid where the answer is not done
-pub other_lays : (x : Read) (n i : ℕ) → OneOf (1 ∷ 2 ∷ 3 ∷ 4 ∷ 5 ∷ []) (tag_of D.the_type x) → lays x n i ≡ false
+pub other_lays : (x : Read) (n i : ℕ) → ((k : ℕ) → x ≡ R.Done k → ⊥) → lays x n i ≡ false
 unfolding lays
-other_lays (R.Done count) n i h = absurd (miss (1 ∷ 2 ∷ 3 ∷ 4 ∷ 5 ∷ []) 0 tt h)
+other_lays (R.Done count) n i h = absurd (h count refl)
 other_lays R.Empty n i h = refl
 other_lays (R.Bad k fault) n i h = refl
 other_lays R.Lengths n i h = refl
@@ -58,7 +54,7 @@ module _ (t : List ℕ) (x : Read) (n i at : ℕ) where
   unfolding turn_at
   turn_none e = rw e
 
-  pub turn_other : {r : Turn} → r ≡ ended → OneOf (1 ∷ 2 ∷ 3 ∷ 4 ∷ 5 ∷ []) (tag_of D.the_type x) → r ≡ turn_at t x n i at
+  pub turn_other : {r : Turn} → r ≡ ended → ((k : ℕ) → x ≡ R.Done k → ⊥) → r ≡ turn_at t x n i at
   turn_other e h = e ∙ turn_none (other_lays x n i h)
 
   module _ {count : ℕ} (q : x ≡ R.Done count) where
@@ -83,7 +79,7 @@ module _ (t : List ℕ) (x : Read) (n i at : ℕ) where
         pub turn_found : (a : Allele) (next : ℕ) → y ≡ S.Found a next → record { done = false; allele = a; next = next } ≡ turn_at t x n i at
         turn_found a next p = turn_lays a next (step_means t at (S.Found a next) (rw p at f))
 
-        pub turn_past : {r : Turn} → r ≡ ended → OneOf (1 ∷ 2 ∷ 3 ∷ 4 ∷ []) (tag_of T.the_type y) → r ≡ turn_at t x n i at
+        pub turn_past : {r : Turn} → r ≡ ended → ((a : Allele) (next : ℕ) → y ≡ S.Found a next → ⊥) → r ≡ turn_at t x n i at
         unfolding turn_at laid_turn
         turn_past e h = e ∙ rw (lays_one, first_none t at y f h)
 

@@ -1,9 +1,12 @@
 -- The row's tally, the plan made of it and the records written by it give the outcome that the writer states. Assumes nothing.
-use Prim.Native.Nat.{ℕ, ◌≤◌, ◌<◌}
+use Prim.Native.Nat.{ℕ, ◌≤◌, ◌<◌, ◌-◌}
+use native.Mathlib.Nat.{le_refl}
 use mathlib.Core.Path.{◌≡◌}
 use mathlib.Core.Bool.{Bool}
-use mathlib.Core.List.{List, ◌++◌}
-use lib.ListN.{length, take, drop}
+use mathlib.Core.List.{List, ◌++◌, append-nil}
+use lib.ListN.{length, take, drop, drop_of_length-le, length-drop}
+use borrow.Rule.Slice.PartMut.{put_mid}
+use Rattle.text.proofs.Lists.{rest_all}
 use Rattle.allele.specs.declared.allele.Allele.{Allele}
 use Rattle.spelling.specs.Permitted.{from44}
 use Rattle.spelling.specs.Inner.{tally_of, plan_of, answer_of, WritesList}
@@ -25,6 +28,9 @@ writes_start as' late l te pe e a = planned_writes as' late l te pe a (e (planne
 
 -- ---- from a place of an output
 
+put_end : (at : ℕ) (out ys : List ℕ) → put_mid at (length out - at) out ys ≡ take at out ++ ys
+put_end at out ys = let n : length (drop at out) ≤ length out - at = simp length-drop (le_refl _) in rw (drop_of_length-le (drop at out) n, append-nil)
+
 module _ (as' : List Allele) (major minor : ℕ) (out : List ℕ) (at : ℕ) (small : Fitting as') where
   writes_by : {r : Write} {out' : List ℕ} → ListOutcome as' (from44 major minor) out at r out' → WritesAlleles as' major minor out at r out'
   writes_by g = record { answer = g.answer; bytes = g.bytes; small = small }
@@ -32,5 +38,6 @@ module _ (as' : List Allele) (major minor : ℕ) (out : List ℕ) (at : ℕ) (sm
   pub writes_beyond : length out < at → WritesAlleles as' major minor out at W.Beyond out
   writes_beyond h = writes_by (list_beyond as' (from44 major minor) out at h)
 
-  pub writes_rest : {r : Write} {ys : List ℕ} → at ≤ length out → WritesList as' (from44 major minor) (drop at out) r ys → WritesAlleles as' major minor out at r (take at out ++ ys)
-  writes_rest h w = writes_by (list_rest as' (from44 major minor) out at h w)
+  pub writes_rest : {r : Write} {ys : List ℕ} → at ≤ length out → WritesList as' (from44 major minor) (take (length out - at) (drop at out)) r ys
+      → WritesAlleles as' major minor out at r (put_mid at (length out - at) out ys)
+  writes_rest {ys = ys} h w = rw (put_end at out ys) (writes_by (list_rest as' (from44 major minor) out at h (rw (rest_all out at) at w)))

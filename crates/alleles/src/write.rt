@@ -1,7 +1,8 @@
 // Writing a row of alleles.
-ghost use Rattle.std.specs.Prelude.{◌≡◌};
+ghost use Rattle.std.specs.Prelude.{◌≡◌, ◌≤◌};
 ghost use Rattle.spelling.specs.Permitted.{from44};
 ghost use Rattle.spelling.specs.Inner.{tally_of, WritesList};
+ghost use Rattle.spelling.specs.Demands.{Fitting};
 ghost use Rattle.alleles.specs.Inner.{LaysRow};
 ghost use Rattle.alleles.specs.Write.{WritesAlleles};
 
@@ -9,6 +10,22 @@ use allele::allele::Allele;
 use spelling::put::put_one;
 use spelling::tally::{Plan, Tally, add, begin, plan_for};
 use spelling::write::{Write, answer_of};
+
+// A number that is passed has 64 bits.
+fn note_number(number: u64)
+    ensures { number ≤ 18446744073709551615 }
+{}
+
+// So has that of each record behind a reference. Nothing is done: the compiler leaves nothing of the loop.
+fn note_numbers(row: &[Allele])
+    ensures { Fitting row.now }
+{
+    let mut i = 0;
+    while i < row.len() {
+        note_number(row[i].number);
+        i += 1;
+    }
+}
 
 // The tally of the whole row.
 fn tally_row(row: &[Allele], room: usize) -> Tally
@@ -49,6 +66,7 @@ fn write_rest(row: &[Allele], major: u32, minor: u32, out: &mut [u8]) -> Write
 pub fn write_alleles(row: &[Allele], major: u32, minor: u32, out: &mut [u8], at: usize) -> Write
     ensures { WritesAlleles row.now major minor out.old at result out.new }
 {
+    note_numbers(row);
     if at > out.len() {
         return Write::Beyond;
     }
