@@ -1,7 +1,6 @@
 -- `line::extent::line_at` meets its contract: one law for each way that the line ends. Assumes nothing.
 use Rattle.line.proofs.ExtentLaws.{stop_inside, laws}
-use Rattle.std.proofs.Common.{arith}
-use Rattle.std.proofs.Common.{rules}
+use Rattle.std.proofs.Common.{arith, rules}
 use Rattle.line.proofs.extent.line_at.Goals as goal
 
 pub returns-then-at-s : goal.returns-then-at-s

@@ -1,6 +1,5 @@
 -- `splitter::split::judge` meets its contract: each way through it is the verdict on the columns, by what is known of the tabs. Assumes nothing.
-use Rattle.std.proofs.Common.{arith}
-use Rattle.std.proofs.Common.{rules}
+use Rattle.std.proofs.Common.{arith, rules}
 use Rattle.splitter.proofs.JudgeLaws.{count_few, laws}
 use Rattle.splitter.proofs.split.judge.Goals as goal
 
