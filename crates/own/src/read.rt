@@ -1,5 +1,4 @@
-// Reading into a row that is passed by value and given back, for callers that have none to lend: a function that names a slice
-// of records is not covered by the borrow checker, and neither is who calls it.
+// Reading into a row that is passed by value and given back, for callers that have none to lend.
 ghost use Rattle.std.specs.Prelude.{◌≤◌};
 ghost use Rattle.own.specs.Read.{ReadsOwn, ReadsOwnChecked};
 

@@ -1,5 +1,4 @@
-// Writing a row that is passed by value, for callers that have none to lend: a function that names a slice of records is not
-// covered by the borrow checker, and neither is who calls it.
+// Writing a row that is passed by value, for callers that have none to lend.
 ghost use Rattle.std.specs.Prelude.{◌≤◌};
 ghost use Rattle.own.specs.Write.{WritesOwn};
 
