@@ -26,11 +26,5 @@ fn main(rt: HostRuntime) -> io::Result<()> {
     let mut line = [0u8; 65536];
     let mut text = [0u8; 32768];
     let mut out = output::empty_buffer(rt.stdout());
-    input::answer_all(
-        &mut rt.stdin(),
-        &mut bytes,
-        &mut line,
-        &mut text,
-        &mut out,
-    )
+    input::answer_all(&mut rt.stdin(), &mut bytes, &mut line, &mut text, &mut out)
 }
