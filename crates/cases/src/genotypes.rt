@@ -1,13 +1,13 @@
 // The verbs of the genotype readers over parallel slices, and of one step.
+use crate::case_words::{
+    Decoded, Numeral, Pairs, Placed, Text, decode, decode_and_number, decode_two, index_in, number,
+    word,
+};
 use crate::output::{
     Answer, Buffer, Place, Said, put_byte, put_number, put_said, then_bytes, then_number,
     then_numbers,
 };
 use crate::parts::{byte_at, front, front_numbers, part};
-use crate::words::{
-    Decoded, Numeral, Pairs, Placed, Text, decode, decode_and_number, decode_two, index_in, number,
-    word,
-};
 use allele::allele::Allele;
 use allele::step::{Step, step_at};
 use genotype::read::{Read, read_checked, read_genotype};

@@ -1,11 +1,11 @@
 // The verbs of the crate info.
+use crate::case_words::{
+    Decoded, Pairs, Placed, Text, decode, decode_and_number, decode_two, index_in, word,
+};
 use crate::output::{
     Answer, Buffer, Place, Said, put_comma, put_hex, put_number, put_said, then_bytes, then_range,
 };
 use crate::parts::part;
-use crate::words::{
-    Decoded, Pairs, Placed, Text, decode, decode_and_number, decode_two, index_in, word,
-};
 use info::count::count;
 use info::find::{find, value};
 use info::reader::step_from;

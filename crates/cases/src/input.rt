@@ -1,8 +1,8 @@
 // Standard input as lines, each answered once it has ended.
+use crate::case_words::{Text, mark_from};
 use crate::output::{Buffer, CLOSED, Place, failure, flush};
 use crate::parts::part;
 use crate::verbs::{answer, refuse};
-use crate::words::{Text, mark_from};
 use std::io;
 use std::io::Read;
 

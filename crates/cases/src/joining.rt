@@ -2,12 +2,12 @@
 // ends, and the ALT count.
 ghost use Rattle.std.specs.Prelude.{◌<◌};
 
-use crate::output::{Answer, Buffer, Place, Said, put_number, put_said, then_hex};
-use crate::parts::{first, front, part};
-use crate::words::{
+use crate::case_words::{
     Counted, Decoded, Ended, Numeral, ROOM, Row, Text, decode, ending, index_in, number, numbers,
     word,
 };
+use crate::output::{Answer, Buffer, Place, Said, put_number, put_said, then_hex};
+use crate::parts::{first, front, part};
 use join::columns::{Joined, join};
 use lists::alternate_bases::{alt_count, write_alts};
 use lists::filters::write_filters;

@@ -1,7 +1,7 @@
 // The verbs of the crates text and decimal.
+use crate::case_words::{Decoded, Numeral, ROOM, Text, decode, index_in, number, word};
 use crate::output::{Answer, Buffer, Place, Said, put_said, then_hex};
 use crate::parts::{front, part};
-use crate::words::{Decoded, Numeral, ROOM, Text, decode, index_in, number, word};
 use decimal::print::print_decimal;
 use decimal::read::{Number, read_decimal};
 use text::copy::Written;

@@ -1,11 +1,11 @@
 // The verbs of the crates line, splitter and fields.
+use crate::case_words::{
+    Decoded, Numeral, Placed, Text, decode, decode_and_number, index_in, number, word,
+};
 use crate::output::{
     Answer, Buffer, Place, Said, put_number, put_said, then_bytes, then_each, then_range,
 };
 use crate::parts::part;
-use crate::words::{
-    Decoded, Numeral, Placed, Text, decode, decode_and_number, index_in, number, word,
-};
 use fields::field;
 use fields::field::{field, place_in};
 use fields::pos::{Position, read_pos};

@@ -2,6 +2,7 @@
 
 #![tactic(auto)]
 
+mod case_words;
 mod genotypes;
 mod infos;
 mod input;
@@ -17,7 +18,6 @@ mod spellings;
 mod turning;
 mod vectors;
 mod verbs;
-mod words;
 
 use std::io;
 

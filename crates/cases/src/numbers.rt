@@ -1,9 +1,9 @@
 // The verbs of the crate numbering.
 ghost use Rattle.std.specs.Prelude.{◌<◌};
 
+use crate::case_words::{Counted, Numeral, Row, index_in, number, numbers, word};
 use crate::output::{Answer, Buffer, Place, Said, put_said, then_numbers};
 use crate::parts::{first_numbers, front_numbers};
-use crate::words::{Counted, Numeral, Row, index_in, number, numbers, word};
 use numbering::counts::{Numbered, count_of};
 use numbering::genotype::{Filled, genotype_of};
 use numbering::list::list_all;

@@ -2,10 +2,9 @@
 ghost use Rattle.std.specs.Prelude.{◌<◌};
 
 use crate::parts::part;
-use decimal::print::print_decimal;
+use decimal::print::{decimal_len, print_decimal};
 use std::io;
 use std::io::{Stdout, Write};
-use text::copy::Written;
 use text::range::Range;
 
 const FULL: usize = 65536;
@@ -84,10 +83,8 @@ fn put_bytes(out: &mut Buffer, at: Place, s: &[u8]) -> Place {
 
 pub fn put_number(out: &mut Buffer, at: Place, n: u64) -> Place {
     let mut digits = [0u8; 20];
-    match print_decimal(n, &mut digits) {
-        Written::Done(len) => put_bytes(out, at, part(&digits, 0, len)),
-        Written::Short => at,
-    }
+    print_decimal(n, &mut digits);
+    put_bytes(out, at, part(&digits, 0, decimal_len(n)))
 }
 
 fn digit(d: u8) -> u8

@@ -1,9 +1,11 @@
 // The verbs of rows of allele records, by the crate own: 64 records, of which a case uses the last.
+use crate::case_words::{
+    Decoded, Numeral, Pairs, Text, decode, decode_two, index_in, number, word,
+};
 use crate::genotypes::{ROW, then_record};
 use crate::output::{Answer, Buffer, Place, put_said, then_bytes, then_hex};
 use crate::parts::{front, part};
 use crate::spellings::{Asked, Format, Listed, Room, allele_of, terms};
-use crate::words::{Decoded, Numeral, Pairs, Text, decode, decode_two, index_in, number, word};
 use crate::{genotypes, spellings};
 use allele::allele::Allele;
 use own::read::{Filled, read_own, read_own_checked};

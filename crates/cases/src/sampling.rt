@@ -1,9 +1,9 @@
 // The verbs of the crate samples.
-use crate::output::{Answer, Buffer, Place, Said, put_comma, put_number, put_said, then_range};
-use crate::parts::part;
-use crate::words::{
+use crate::case_words::{
     Decoded, Pairs, Placed, Text, decode, decode_and_number, decode_two, index_in, word,
 };
+use crate::output::{Answer, Buffer, Place, Said, put_comma, put_number, put_said, then_range};
+use crate::parts::part;
 use pieces::nth::Nth;
 use pieces::step::Step;
 use samples::columns::{count, sample, sample_at, subfield};

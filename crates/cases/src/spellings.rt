@@ -1,10 +1,10 @@
 // The verbs of the genotype writer over parallel slices.
+use crate::case_words::{
+    Counted, Numeral, ROOM, between, index_in, number, number_of, word, words_from,
+};
 use crate::genotypes::ROW;
 use crate::output::{Answer, Buffer, Place, Said, put_said, then_hex};
 use crate::parts::{first_numbers, front, part};
-use crate::words::{
-    Counted, Numeral, ROOM, between, index_in, number, number_of, word, words_from,
-};
 use pieces::count::count_byte;
 use spelling::write::{Write, write_genotype};
 use text::same::same_bytes;

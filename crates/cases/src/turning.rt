@@ -1,6 +1,6 @@
 // The verbs of the crate forms: from each form of a line's record to the other.
+use crate::case_words::{Ended, Numeral, ending, index_in, number, word};
 use crate::output::{Answer, Buffer, Place, put_number, then_each};
-use crate::words::{Ended, Numeral, ending, index_in, number, word};
 use forms::turn::{Narrowed, Widened, narrow, widen};
 use forms::wide::{make_wide, wide_places};
 use record::ending::Ending;

@@ -1,9 +1,11 @@
 // The verbs of the crate bcf.
+use crate::case_words::{
+    Counted, Decoded, Numeral, Text, decode, index_in, number, word, words_from,
+};
 use crate::genotypes::{ROW, then_row};
 use crate::output::{Answer, Buffer, Place, Said, put_said, then_hex};
 use crate::parts::{first_numbers, front, front_numbers, part};
 use crate::spellings::{Lent, Marks, Numbers, Room, list, room_of};
-use crate::words::{Counted, Decoded, Numeral, Text, decode, index_in, number, word, words_from};
 use bcf::read::{Read, read_vector};
 use bcf::write::{Write, write_vector};
 

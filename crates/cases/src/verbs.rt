@@ -1,7 +1,7 @@
 // The answer line of a case. Each area is a module that answers the verbs it knows; they are asked
 // in turn.
+use crate::case_words::Text;
 use crate::output::{Answer, Buffer, Place, put_byte};
-use crate::words::Text;
 use crate::{
     genotypes, infos, joining, leaves, lines, numbers, rows, sampling, spellings, turning, vectors,
 };

@@ -1,7 +1,7 @@
--- `cases::words::decode_pairs` is safe and ends: each index has its own test, and the measure is how many digits are left. Assumes nothing.
+-- `cases::case_words::decode_pairs` is safe and ends: each index has its own test, and the measure is how many digits are left. Assumes nothing.
 use Prim.Native.Nat.{◌-◌}
 use lib.ListN.{length}
-use Rattle.cases.proofs.words.decode_pairs.Given as goal
+use Rattle.cases.proofs.case_words.decode_pairs.Given as goal
 
 abbrev pub invariant-loop-i : goal.invariant-loop-i
 invariant-loop-i l = Unit {0}
