@@ -116,7 +116,6 @@ fn judge(s: &[u8], at: usize, end: usize, ending: Ending, next: usize, tabs: Tab
 }
 
 // Columns 1 to 7, and column 9, which is FORMAT, must be ended by a tab.
-#[tactic(auto, unfolding(line::specs::Line::required))]
 fn needs_tab(number: usize) -> bool
     ensures { result ≡ required number }
 {
