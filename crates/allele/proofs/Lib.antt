@@ -7,6 +7,7 @@ pub mod StepLaws
 pub mod ReadingLaws
 pub mod ColumnLaws
 pub mod RowLaws
+pub mod SlicesLaws
 pub mod Determined
 pub mod PhasedLaws
 pub mod BodyLaws

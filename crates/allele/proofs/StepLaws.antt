@@ -11,20 +11,21 @@ use mir.Val.{Fits}
 use lib.ListN.{length, get_or, take, drop, drop_of_length-le, length-drop}
 use lib.Dec.{ltb}
 use borrow.Author.Tests.{ltb-true, ltb-false, le-leb, lt-leb}
+use Rattle.std.specs.Prelude.{nat_eq, Result, Ok, Err}
+use Rattle.std.specs.Cmp.Lexicographic.{pointwise, same_text, other_text}
 use Rattle.text.specs.Answer.{says}
 use Rattle.text.specs.Same.{same}
 use Rattle.text.proofs.Lists.{here}
+use Rattle.text.proofs.SameLaws.{same_self, same_not}
 use Rattle.decimal.specs.Decimal.{fault_of, decimal_answer}
 use Rattle.decimal.specs.Paper.{number_paper}
-use Rattle.decimal.specs.declared.read.Number.{Number}
-use Rattle.decimal.specs.declared.read.Number.TheVariants as N
+use Rattle.decimal.specs.declared.read.BadDecimal.{BadDecimal}
 use Rattle.decimal.proofs.Value.{told_value, told_bad}
 use Rattle.decimal.proofs.FirstFault.{decimal_fault}
 use Rattle.allele.specs.Reading.{is_mark, head_of, numbered, bodied, allele_in, implied_by, parts_of, piece_fault, fault_at, found_answer, allele_answer, first_answer, from_answer, step_answer}
-use Rattle.allele.specs.Paper.{step_paper}
+use Rattle.allele.specs.Paper.{Step, step_paper}
 use Rattle.allele.specs.declared.allele.Allele.{Allele}
-use Rattle.allele.specs.declared.step.Step.{Step}
-use Rattle.allele.specs.declared.step.Step.TheVariants as S
+use Rattle.allele.specs.declared.step.NoAllele.TheVariants as S
 use Rattle.allele.proofs.PaperLaws.{step_paper_injective}
 use Rattle.allele.proofs.FaultLaws.{piece_marked, piece_plain, fault_here, fault_past}
 use Rattle.allele.proofs.PieceLaws.{mark_bar, mark_slash, mark_none, in_bar, in_slash, in_plain, head_none, head_mark, head_more, head_le, head_take, parts_at, parts_end}
@@ -40,18 +41,12 @@ pub seek_first : {s : List ℕ} {from : ℕ} → from ≤ length s → Seeking s
 seek_first h = record { within = h; same = refl }
 
 module _ {s : List ℕ} {from i : ℕ} (g : Seeking s from i) where
-  at_mark : i < length s → is_mark (get_or s i 0) ≡ true → i ≡ from + length (head_of (drop from s))
-  at_mark h m = let e = rw (here s i h, head_mark _ (drop (i + 1) s) m) at g.same in omega arith
+  pub seek_mark : i < length s → is_mark (get_or s i 0) ≡ true → i ≡ from + length (head_of (drop from s))
+  seek_mark h m = let e = rw (here s i h, head_mark _ (drop (i + 1) s) m) at g.same in omega arith
 
-  pub seek_bar : i < length s → get_or s i 0 ≡ 124 → i ≡ from + length (head_of (drop from s))
-  seek_bar h e = at_mark h (mark_bar _ e)
-
-  pub seek_slash : i < length s → get_or s i 0 ≡ 47 → i ≡ from + length (head_of (drop from s))
-  seek_slash h e = at_mark h (mark_slash _ e)
-
-  pub seek_turn : i < length s → (get_or s i 0 ≡ 124 → ⊥) → (get_or s i 0 ≡ 47 → ⊥) → Seeking s from (i + 1)
-  seek_turn h p q =
-      let e = rw (here s i h, head_more _ (drop (i + 1) s) (mark_none _ p q)) at g.same in
+  pub seek_turn : i < length s → is_mark (get_or s i 0) ≡ false → Seeking s from (i + 1)
+  seek_turn h m =
+      let e = rw (here s i h, head_more _ (drop (i + 1) s) m) at g.same in
       record { within = omega arith; same = omega arith }
 
   pub seek_past : length s ≤ i → i ≡ from + length (head_of (drop from s))
@@ -59,27 +54,32 @@ module _ {s : List ℕ} {from i : ℕ} (g : Seeking s from i) where
 
 -- ---- a piece without its mark
 
+-- `==` on two texts tells whether they are the same
+pub same_by : (s t : List ℕ) (x : Bool) → x ≡ pointwise nat_eq s t → x ≡ same s t
+same_by s t true e = sym (rw (same_text s t e) (same_self t))
+same_by s t false e = sym (same_not s t (other_text s t e))
+
 module _ (s : List ℕ) (phased : Bool) (next : ℕ) {t : Bool} (d : t ≡ same s (46 ∷ [])) where
   pub body_dot : t ≡ true
-      → step_paper (S.Found (record { number = 0; missing = true; phased = phased }) next) ≡ allele_answer next (next - length s + fault_of s) (bodied phased s)
+      → step_paper (Ok (record { number = 0; missing = true; phased = phased }, next)) ≡ allele_answer next (next - length s + fault_of s) (bodied phased s)
   unfolding bodied step_paper allele_answer
   body_dot e = rw (← d, e)
 
-  module _ (x : Number) (f : number_paper x ≡ decimal_answer s) where
-    pub body_value : {n : ℕ} → t ≡ false → x ≡ N.Value n
-        → step_paper (S.Found (record { number = n; missing = false; phased = phased }) next) ≡ allele_answer next (next - length s + fault_of s) (bodied phased s)
+  module _ (x : Result ℕ BadDecimal) (f : number_paper x ≡ decimal_answer s) where
+    pub body_value : {n : ℕ} → t ≡ false → x ≡ Ok n
+        → step_paper (Ok (record { number = n; missing = false; phased = phased }, next)) ≡ allele_answer next (next - length s + fault_of s) (bodied phased s)
     unfolding bodied numbered step_paper allele_answer
     body_value {n} e g = rw (← d, e, told_value n s (rw g at f))
 
-    pub body_bad : {k : ℕ} → t ≡ false → x ≡ N.Bad k
-        → step_paper (S.Bad (next - length s + k)) ≡ allele_answer next (next - length s + fault_of s) (bodied phased s)
+    pub body_bad : {bad : BadDecimal} → t ≡ false → x ≡ Err bad
+        → step_paper (Err (S.Bad (next - length s + bad.at))) ≡ allele_answer next (next - length s + fault_of s) (bodied phased s)
     unfolding bodied numbered step_paper allele_answer
-    body_bad {k} e g = let b = told_bad k s (rw g at f) in rw (← d, e, b.0, b.1)
+    body_bad {bad} e g = let b = told_bad bad s (rw g at f) in rw (← d, e, b.0, b.1)
 
 -- a fault lies within the piece, or at its end
-pub body_fits : (s : List ℕ) (next : ℕ) (x : Number) {k : ℕ} → number_paper x ≡ decimal_answer s → x ≡ N.Bad k → length s ≤ next → next < 2 ^ 64
-    → Fits w64 (next - length s + k)
-body_fits s next x {k} f g h l = let b = (told_bad k s (rw g at f)).1 in let w = (decimal_fault s).within in omega arith
+pub body_fits : (s : List ℕ) (next : ℕ) (x : Result ℕ BadDecimal) {bad : BadDecimal} → number_paper x ≡ decimal_answer s → x ≡ Err bad → length s ≤ next → next < 2 ^ 64
+    → Fits w64 (next - length s + bad.at)
+body_fits s next x {bad} f g h l = let b = (told_bad bad s (rw g at f)).1 in let w = (decimal_fault s).within in omega arith
 
 -- ---- what a step answers
 
@@ -99,16 +99,16 @@ unfolding step_answer from_answer
 inside [] at n h = absurd (n refl)
 inside (b ∷ s) at n h = rw (le-leb at (length (b ∷ s)) h)
 
-pub step_beyond : (t : List ℕ) (at : ℕ) → length t < at → step_paper S.Beyond ≡ step_answer t at
+pub step_beyond : (t : List ℕ) (at : ℕ) → length t < at → step_paper (Err S.Beyond) ≡ step_answer t at
 unfolding step_paper step_answer
 step_beyond t at h = rw (lt-leb _ _ h)
 
-pub step_empty : (t : List ℕ) (at : ℕ) → at ≤ length t → length t ≡ 0 → step_paper S.Empty ≡ step_answer t at
+pub step_empty : (t : List ℕ) (at : ℕ) → at ≤ length t → length t ≡ 0 → step_paper (Err S.Empty) ≡ step_answer t at
 unfolding step_paper step_answer from_answer
 step_empty [] at h e = rw (le-leb at 0 h)
 step_empty (b ∷ s) at h e = absurd (omega arith)
 
-pub step_nothing : (t : List ℕ) (at : ℕ) → (length t ≡ 0 → ⊥) → at ≡ length t → step_paper S.Nothing ≡ step_answer t at
+pub step_nothing : (t : List ℕ) (at : ℕ) → (length t ≡ 0 → ⊥) → at ≡ length t → step_paper (Err S.Nothing) ≡ step_answer t at
 unfolding step_paper first_answer
 step_nothing t at n e = sym (inside t at n (omega arith) ∙ rw (drop_of_length-le t {i = at} (omega arith)))
 
@@ -193,11 +193,11 @@ pub record NoText (t : List ℕ) (at : ℕ) : Type 0 where
 
 -- what each answer of a step tells
 abbrev pub StepTells : List ℕ → ℕ → Step → Type 0
-StepTells t at (S.Found a next) = Further t at a next
-StepTells t at S.Beyond = length t < at
-StepTells t at S.Nothing = AtEnd t at
-StepTells t at S.Empty = NoText t at
-StepTells t at (S.Bad fault) = Wrong t at fault
+StepTells t at (Ok (a, next)) = Further t at a next
+StepTells t at (Err S.Beyond) = length t < at
+StepTells t at (Err S.Nothing) = AtEnd t at
+StepTells t at (Err S.Empty) = NoText t at
+StepTells t at (Err (S.Bad fault)) = Wrong t at fault
 
 module _ (t : List ℕ) (at : ℕ) (h : at < length t) where
   pub further_at : (a : Allele) → first_at t at ≡ some a → Further t at a (past_at t at)
@@ -248,19 +248,19 @@ unfolding step_paper
 answered t at = placed (ltb (length t) at) refl
   where
     some_left : at < length t → (o : Option Allele) → first_at t at ≡ o → Answered t at
-    some_left h (some a) q = let f = further_at t at h a q in record { step = S.Found a (past_at t at); is = sym (further_says f); tells = f }
-    some_left h none q = let f = wrong_at t at h q in record { step = S.Bad _; is = sym (wrong_says f); tells = f }
+    some_left h (some a) q = let f = further_at t at h a q in record { step = Ok (a, past_at t at); is = sym (further_says f); tells = f }
+    some_left h none q = let f = wrong_at t at h q in record { step = Err (S.Bad _); is = sym (wrong_says f); tells = f }
 
     ended : at ≡ length t → Dec (length t ≡ 0) → Answered t at
-    ended z (yes n) = record { step = S.Empty; is = step_empty t at (omega arith) n; tells = record { none = n; start = omega arith } }
-    ended z (no n) = record { step = S.Nothing; is = step_nothing t at n z; tells = record { is = z; some = n } }
+    ended z (yes n) = record { step = Err S.Empty; is = step_empty t at (omega arith) n; tells = record { none = n; start = omega arith } }
+    ended z (no n) = record { step = Err S.Nothing; is = step_nothing t at n z; tells = record { is = z; some = n } }
 
     reached : at ≤ length t → (c : Bool) → ltb at (length t) ≡ c → Answered t at
     reached w true h = some_left (ltb-true _ _ h) (first_at t at) refl
     reached w false h = let l = ltb-false at (length t) h in ended (omega arith) (ℕ_discrete (length t) 0)
 
     placed : (c : Bool) → ltb (length t) at ≡ c → Answered t at
-    placed true h = let l = ltb-true _ _ h in record { step = S.Beyond; is = step_beyond t at l; tells = l }
+    placed true h = let l = ltb-true _ _ h in record { step = Err S.Beyond; is = step_beyond t at l; tells = l }
     placed false h = reached (ltb-false _ _ h) (ltb at (length t)) refl
 
 -- an answer tells what the definition, whose paper it has, says
@@ -271,18 +271,18 @@ step_means t at x e = let g = answered t at in rw (step_paper_injective x g.step
 module _ (t : List ℕ) (at : ℕ) where
   pub says_found : (a : Allele) (to : ℕ) → step_answer t at ≡ found_answer to a → Further t at a to
   unfolding step_paper
-  says_found a to e = step_means t at (S.Found a to) (sym e)
+  says_found a to e = step_means t at (Ok (a, to)) (sym e)
 
   pub says_bad : (fault : ℕ) → step_answer t at ≡ says 12 (fault ∷ []) → Wrong t at fault
   unfolding step_paper
-  says_bad fault e = step_means t at (S.Bad fault) (sym e)
+  says_bad fault e = step_means t at (Err (S.Bad fault)) (sym e)
 
 -- a step that finds an allele moves on
-module _ (t : List ℕ) (at : ℕ) (x : Step) (e : step_paper x ≡ step_answer t at) (a : Allele) (next : ℕ) (q : x ≡ S.Found a next) where
+module _ (t : List ℕ) (at : ℕ) (x : Step) (e : step_paper x ≡ step_answer t at) (a : Allele) (next : ℕ) (q : x ≡ Ok (a, next)) where
   pub found : Further t at a next
-  found = step_means t at (S.Found a next) (rw q at e)
+  found = step_means t at (Ok (a, next)) (rw q at e)
 
   pub found_less : length t - next < length t - at
   found_less = let f = found in omega arith
 
-pub ruleset laws = (seek_first, seek_bar, seek_slash, seek_turn, seek_past, body_dot, body_value, body_bad, body_fits, step_beyond, step_empty, step_nothing, part_within, whole_within, step_bar, step_slash, step_plain)
+pub ruleset laws = (same_by, seek_first, seek_mark, seek_turn, seek_past, body_dot, body_value, body_bad, body_fits, step_beyond, step_empty, step_nothing, part_within, whole_within, step_bar, step_slash, step_plain)

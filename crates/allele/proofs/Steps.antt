@@ -6,17 +6,17 @@ use mathlib.Core.List.{List, [], ◌∷◌, ◌++◌}
 use mathlib.Core.Option.{Option, some}
 use native.Mathlib.Omega.{arith}
 use lib.ListN.{length, get_or, drop}
+use Rattle.std.specs.Prelude.{Ok, Err}
 use Rattle.text.specs.Answer.{says}
 use Rattle.text.proofs.Lists.{here}
 use Rattle.pieces.specs.Pieces.{lacks}
 use Rattle.allele.specs.Reading.{head_of, bodied, allele_in, implied_by, implied_of, parts_of, fault_at, step_answer}
-use Rattle.allele.specs.Paper.{step_paper}
+use Rattle.allele.specs.Paper.{Step, step_paper}
 use Rattle.allele.specs.Means as M
 use Rattle.allele.specs.Means.{Begins, Broken}
 use Rattle.allele.specs.Demands.{Stepper, Steps, OneStepper}
 use Rattle.allele.specs.declared.allele.Allele.{Allele}
-use Rattle.allele.specs.declared.step.Step.{Step}
-use Rattle.allele.specs.declared.step.Step.TheVariants as S
+use Rattle.allele.specs.declared.step.NoAllele.TheVariants as S
 use Rattle.allele.proofs.PieceLaws.{parts_first}
 use Rattle.allele.proofs.StepLaws.{StepTells, step_beyond, step_empty, step_nothing, Further, further_at, further_says, wrong_at, wrong_says, parts_open, answered, step_means, says_found, says_bad}
 use Rattle.allele.proofs.BodyLaws.{body_quiet, body_some, body_bodied, marked_allele, Piece, with_mark, plain, allele_piece}
@@ -101,9 +101,9 @@ unfolding Steps step_paper
 steps t at =
     record {
       found = λ a n. (λ e. further_begins t at a n (says_found t at a (at + n) e), λ g. further_says (begins_further t at a n g));
-      beyond = (λ e. step_means t at S.Beyond (sym e), λ h. sym (step_beyond t at h));
-      ended = (λ e. let f = step_means t at S.Nothing (sym e) in (omega arith, f.is), λ g. sym (step_nothing t at (λ z. omega arith) g.1));
-      empty = (λ e. let f = step_means t at S.Empty (sym e) in (f.none, f.start), λ g. sym (step_empty t at (omega (arith, g.1)) g.0));
+      beyond = (λ e. step_means t at (Err S.Beyond) (sym e), λ h. sym (step_beyond t at h));
+      ended = (λ e. let f = step_means t at (Err S.Nothing) (sym e) in (omega arith, f.is), λ g. sym (step_nothing t at (λ z. omega arith) g.1));
+      empty = (λ e. let f = step_means t at (Err S.Empty) (sym e) in (f.none, f.start), λ g. sym (step_empty t at (omega (arith, g.1)) g.0));
       bad = λ o. (bad_broken t at o, broken_bad t at o);
     }
 
@@ -114,13 +114,13 @@ unfolding Steps step_paper
 answers step w t at = let g = answered t at in by g.step g.is g.tells
   where
     by : (x : Step) → step_paper x ≡ step_answer t at → StepTells t at x → step t at ≡ step_answer t at
-    by (S.Found a to) e f =
+    by (Ok (a, to)) e f =
         let z : at + (to - at) ≡ to = omega (arith, f.past) in
         rw z at (((w t at).found a (to - at)).1 (further_begins t at a (to - at) (rw z f))) ∙ e
-    by S.Beyond e h = (w t at).beyond.1 h ∙ e
-    by S.Nothing e f = (w t at).ended.1 ((steps t at).ended.0 (sym e)) ∙ e
-    by S.Empty e f = (w t at).empty.1 (f.none, f.start) ∙ e
-    by (S.Bad fault) e f =
+    by (Err S.Beyond) e h = (w t at).beyond.1 h ∙ e
+    by (Err S.Nothing) e f = (w t at).ended.1 ((steps t at).ended.0 (sym e)) ∙ e
+    by (Err S.Empty) e f = (w t at).empty.1 (f.none, f.start) ∙ e
+    by (Err (S.Bad fault)) e f =
         let o : ℕ = fault_at (drop at t) 0 in
         let z : step_answer t at ≡ says 12 ((at + o) ∷ []) = sym e ∙ rw f.there in
         ((w t at).bad o).1 (bad_broken t at o z) ∙ sym z

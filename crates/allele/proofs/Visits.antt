@@ -10,13 +10,14 @@ use native.Mathlib.Nat.{zero-add}
 use lib.ListN.{length, drop}
 use lib.Dec.{ltb}
 use borrow.Author.Tests.{ltb-true, ltb-false}
+use Rattle.std.specs.Prelude.{Err}
 use Rattle.text.specs.Answer.{number_of}
 use Rattle.allele.specs.Reading.{reading_of, list, parts_of, fault_at, step_answer}
 use Rattle.allele.specs.Paper.{step_paper}
 use Rattle.allele.specs.Means.{Means, Broken}
 use Rattle.allele.specs.Demands.{Walk, end, next, Breaks, stop, past, Visits}
 use Rattle.allele.specs.declared.allele.Allele.{Allele}
-use Rattle.allele.specs.declared.step.Step.TheVariants as S
+use Rattle.allele.specs.declared.step.NoAllele.TheVariants as S
 use Rattle.allele.proofs.PieceLaws.{parts_at, parts_end}
 use Rattle.allele.proofs.StepLaws.{step_empty, step_nothing, further_at, further_says, further_fault, wrong_at, wrong_says, parts_open, step_means, says_found, says_bad}
 use Rattle.allele.proofs.ReadingLaws.{reading_some, reading_none}
@@ -27,7 +28,7 @@ use Rattle.allele.proofs.BrokenLaws.{NoneAt, here, later, parts_broken}
 
 walk_parts : {t : List ℕ} {at : ℕ} {as' : List Allele} → Walk step_answer t at as' → parts_of (drop at t) ≡ map some as'
 unfolding step_paper
-walk_parts {t} {at} (end e) = let f = step_means t at S.Nothing (sym e) in parts_end t at (omega arith)
+walk_parts {t} {at} (end e) = let f = step_means t at (Err S.Nothing) (sym e) in parts_end t at (omega arith)
 walk_parts {t} {at} (next {to = to} {a} e h w) =
     (says_found t at a to e).parts ∙ ap (λ (ps : List (Option Allele)). some a ∷ ps) (walk_parts w)
 

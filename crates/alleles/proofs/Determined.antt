@@ -4,9 +4,8 @@ use mathlib.Core.Path.{◌≡◌, sym, ◌∙◌}
 use mathlib.Core.List.{List}
 use Rattle.text.specs.Answer.{Answer}
 use Rattle.text.specs.Outcome.{OneOutcome}
-use Rattle.genotype.specs.Paper.{read_paper}
+use Rattle.genotype.specs.Paper.{Read, read_paper}
 use Rattle.allele.specs.declared.allele.Allele.{Allele}
-use Rattle.genotype.specs.declared.read.Read.{Read}
 use Rattle.genotype.proofs.PaperLaws.{read_paper_injective}
 use Rattle.spelling.proofs.PaperLaws.{write_paper_injective}
 use Rattle.alleles.specs.Write.{WritesAlleles}

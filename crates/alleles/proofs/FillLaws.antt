@@ -1,101 +1,120 @@
--- Filling a row by turns lays the list over it, where the text was judged to be one that the row holds; else nothing. Assumes nothing.
-use Prim.Native.Nat.{ℕ, zero, suc, ◌+◌, ◌≤◌}
+-- Filling a row of as many records as a text has alleles: those that are laid, and behind them those that are left, are its list. Assumes nothing.
+use Prim.Native.Nat.{ℕ, ◌+◌, ◌≤◌, ◌<◌}
 use mathlib.Core.Path.{◌≡◌, refl, sym, ap, ◌∙◌}
-use mathlib.Core.Bool.{true}
-use mathlib.Core.List.{List, [], ◌∷◌}
+use mathlib.Core.List.{List, [], ◌∷◌, ◌++◌, append_assoc, append-nil}
 use native.Mathlib.Omega.{arith}
-use native.Mathlib.Nat.{add-zero}
-use lib.ListN.{length, set}
-use lib.Seq.{sets}
-use borrow.Author.Tests.{ne_eqb}
-use Rattle.text.specs.Answer.{Answer, number_of}
-use Rattle.text.specs.Over.{laid, over}
-use Rattle.text.proofs.Lists.{sets_over}
-use Rattle.allele.specs.Reading.{reading_of, list_of}
+use lib.ListN.{length, take, drop, set, length-set, length-append}
+use lib.Seq.{length-take-le, take_all}
+use Rattle.std.specs.Prelude.{Ok, Err}
+use Rattle.std.proofs.lemmas.List.{take_more_set}
+use borrow.Rule.Slice.PartMut.{put_mid}
+use Rattle.text.specs.Answer.{Answer}
+use Rattle.text.specs.Over.{laid}
+use Rattle.text.proofs.Lists.{over_is}
+use Rattle.text.proofs.CopyLaws.{laid_refused}
+use Rattle.allele.specs.Reading.{reading_of, step_answer, list_of}
+use Rattle.allele.specs.Paper.{Step, step_paper}
+use Rattle.allele.specs.declared.allele.Allele.{Allele}
+use Rattle.allele.specs.declared.step.NoAllele.{NoAllele}
 use Rattle.genotype.specs.Inner.{ListMeant}
 use Rattle.genotype.specs.Answers.{text_answer, checked_text}
 use Rattle.genotype.specs.Paper.{read_paper}
-use Rattle.allele.specs.declared.allele.Allele.{Allele}
-use Rattle.genotype.specs.declared.read.Read.{Read}
-use Rattle.genotype.specs.declared.read.Read.TheVariants as R
-use Rattle.allele.proofs.StepLaws.{past_at, Further}
-use Rattle.genotype.proofs.JudgeLaws.{done_number, other_number}
-use Rattle.genotype.proofs.Ahead.{left_of, Ahead, ahead_first, left_first, ahead_past, left_past, left_some}
+use Rattle.genotype.specs.declared.read.ReadError.{ReadError}
+use Rattle.genotype.proofs.JudgeLaws.{error_number}
+use Rattle.genotype.proofs.Ahead.{left_of, Ahead, ahead_first, left_first, ahead_turn, left_turn, left_end}
 use Rattle.genotype.proofs.ReadLaws.{Fits, read_fits, checked_fits}
-use Rattle.alleles.specs.Inner.{ended, fill_on, filled_row}
 use Rattle.alleles.specs.Read.{ReadsRow, ReadsRowChecked}
-use Rattle.alleles.specs.declared.read.Turn.{Turn}
-use Rattle.alleles.proofs.TurnLaws.{other_lays, turn_none, turn_counted, turn_lays}
-use Rattle.alleles.proofs.Turns.{fill_done}
 
--- an ended turn is done
-ended_done : {u : Turn} → ended ≡ u → u.done ≡ true
-unfolding ended
-ended_done e = ap (λ (u : Turn). u.done) (sym e)
+-- i alleles are laid, and the text goes on at a place
+pub record Filling (t : List ℕ) (row : List Allele) (i at : ℕ) : Type 0 where
+  pub ahead : Ahead t at i
+  pub as_many : length row ≡ length (list_of (reading_of t))
+  pub same : take i row ++ left_of t at i ≡ list_of (reading_of t)
 
--- ---- a list that fits
+pub fill_first : {t : List ℕ} {row : List Allele} → ListMeant t → length row ≡ length (list_of (reading_of t)) → Filling t row 0 0
+fill_first {t} m e = record { ahead = ahead_first t m; as_many = e; same = left_first t m }
 
-module _ (t : List ℕ) (n count : ℕ) (few : count ≤ n) where
-  -- with i alleles laid, the turns store those that are left
-  turns_lay : (k i at : ℕ) (l : List Allele) → k + i ≡ n → i + length (left_of t at i) ≡ count → Ahead t at i → fill_on k t (R.Done count) n i at l ≡ sets l i (left_of t at i)
-  turns_lay zero i at l w c g = by (left_of t at i) refl
-    where
-      by : (as' : List Allele) → left_of t at i ≡ as' → l ≡ sets l i (left_of t at i)
-      by [] q = rw q
-      by (a ∷ as') q = absurd (let z = ap length q in omega arith)
-  turns_lay (suc k) i at l w c g = by (left_of t at i) refl (λ j p m. turns_lay k (i + 1) p (set l i j) (omega arith) m)
-    where
-      by : (as' : List Allele) → left_of t at i ≡ as'
-          → ((a : Allele) (next : ℕ) → i + 1 + length (left_of t next (i + 1)) ≡ count → Ahead t next (i + 1) → fill_on k t (R.Done count) n (i + 1) next (set l i a) ≡ sets (set l i a) (i + 1) (left_of t next (i + 1)))
-          → fill_on (suc k) t (R.Done count) n i at l ≡ sets l i (left_of t at i)
-      by [] q more = fill_done t (R.Done count) n i at l (suc k) (ended_done (turn_counted t (R.Done count) n i at refl refl (let z = ap length q in omega arith))) ∙ rw q
-      by (a ∷ as') q more =
-          let f : Further t at a (past_at t at) = left_some t at i a as' q g in
-          let z = ap length q in
-          let y = ap length (left_past g f) in
-          let e : i + 1 ≡ suc i = omega arith in
-          rw (← turn_lays t (R.Done count) n i at refl (omega arith) (omega arith) a (past_at t at) f, left_past g f)
-          (more a (past_at t at) (omega arith) (ahead_past g f) ∙ ap (λ (j : ℕ). sets (set l i a) j (left_of t (past_at t at) (i + 1))) e)
+module _ {t : List ℕ} {row : List Allele} {i at : ℕ} (g : Filling t row i at) (x : Step) (e : step_paper x ≡ step_answer t at) (h : i < length row) where
+  pub fill_turn : (a : Allele) (next : ℕ) → x ≡ Ok (a, next) → Filling t (set row i a) (i + 1) next
+  fill_turn a next q =
+      record {
+        ahead = ahead_turn g.ahead e q;
+        as_many = simp length-set g.as_many;
+        same = rw (take_more_set row i a h, append_assoc) (rw (left_turn g.ahead e q) at g.same);
+      }
 
-module _ (t : List ℕ) (row : List Allele) where
-  row_done : (count : ℕ) → Fits (reading_of t) (length row) count → filled_row t (R.Done count) row ≡ over (list_of (reading_of t)) row
-  unfolding filled_row
-  row_done count f =
-      let m : ListMeant t = record { is = f.meant } in
-      let as' = list_of (reading_of t) in
-      let c = f.count in
-      let w = f.few in
-      turns_lay t (length row) count (omega arith) (length row) 0 0 row (add-zero _) (rw (left_first t m) (omega arith)) (ahead_first t m)
-      ∙ rw (left_first t m) (sets_over as' row (omega arith))
+  -- while records are left, an allele is
+  pub fill_none : (y : NoAllele) → x ≡ Err y → ⊥
+  fill_none y q =
+      let z = left_end t at i x g.ahead e y q in
+      let w = ap length (rw (z, append-nil) at g.same) in
+      let l = length-take-le i row (omega arith) in
+      omega (arith, g.as_many)
 
-  -- an answer that is done is laid
-  row_laid_done : (count : ℕ) → Fits (reading_of t) (length row) count → filled_row t (R.Done count) row ≡ laid (read_paper (R.Done count)) (list_of (reading_of t)) row
-  row_laid_done count f = rw (done_number count) (row_done count f)
-
-  row_other : (x : Read) → ((k : ℕ) → x ≡ R.Done k → ⊥) → filled_row t x row ≡ laid (read_paper x) (list_of (reading_of t)) row
-  unfolding filled_row
-  row_other x h =
-      rw (ne_eqb (number_of (read_paper x)) 0 (other_number x h))
-      (fill_done t x (length row) 0 0 row (length row) (ended_done (turn_none t x (length row) 0 0 (other_lays x (length row) 0 h))))
-
-  row_laid : (x : Read) → ((count : ℕ) → x ≡ R.Done count → Fits (reading_of t) (length row) count) → filled_row t x row ≡ laid (read_paper x) (list_of (reading_of t)) row
-  row_laid (R.Done count) f = row_laid_done count (f count refl)
-  row_laid R.Empty f = row_other R.Empty (λ k e. (let z : ◌≡◌ {A = ℕ} 0 1 = cc in omega arith))
-  row_laid (R.Bad k o) f = row_other (R.Bad k o) (λ k e. (let z : ◌≡◌ {A = ℕ} 0 1 = cc in omega arith))
-  row_laid R.Lengths f = row_other R.Lengths (λ k e. (let z : ◌≡◌ {A = ℕ} 0 1 = cc in omega arith))
-  row_laid R.Short f = row_other R.Short (λ k e. (let z : ◌≡◌ {A = ℕ} 0 1 = cc in omega arith))
-  row_laid (R.Above k) f = row_other (R.Above k) (λ k e. (let z : ◌≡◌ {A = ℕ} 0 1 = cc in omega arith))
+-- the row is full
+pub fill_past : {t : List ℕ} {row : List Allele} {i at : ℕ} → Filling t row i at → length row ≤ i → row ≡ list_of (reading_of t)
+fill_past {t} {row} {i} {at} g h = by (left_of t at i) (rw (take_all i row h) at g.same)
+  where
+    by : (as' : List Allele) → row ++ as' ≡ list_of (reading_of t) → row ≡ list_of (reading_of t)
+    by [] e = rw append-nil at e
+    by (a ∷ as') e = absurd (let w = rw length-append at (ap length e) in omega (arith, g.as_many))
 
 -- ---- the readers
 
-module _ (t : List ℕ) (row : List Allele) {r x : Read} {row' : List Allele} (e : r ≡ x) (w : row' ≡ filled_row t x row) where
-  laid_by : {a : Answer} → read_paper x ≡ a → ((count : ℕ) → x ≡ R.Done count → Fits (reading_of t) (length row) count) → filled_row t x row ≡ laid a (list_of (reading_of t)) row
-  laid_by h f = row_laid t row x f ∙ ap (λ (a : Answer). laid a (list_of (reading_of t)) row) h
+module _ (t : List ℕ) (row : List Allele) (a : Answer) where
+  -- what is refused changes nothing
+  error_row : (e : ReadError) → read_paper (Err e) ≡ a → row ≡ laid a (list_of (reading_of t)) row
+  error_row e h = sym (laid_refused a (list_of (reading_of t)) row (λ z. error_number e (rw h z)))
 
-  pub reads_row : read_paper x ≡ text_answer t (length row) → ReadsRow t row r row'
-  reads_row h = rw e (record { answer = h; records = w ∙ laid_by h (λ k q. read_fits t (length row) x h q) })
+  -- and a list that is read lies over the row
+  done_row : {k : ℕ} {ys : List Allele} → read_paper (Ok k) ≡ a → Fits (reading_of t) (length row) k → ys ≡ list_of (reading_of t) → ys ++ drop k row ≡ laid a (list_of (reading_of t)) row
+  unfolding read_paper
+  done_row {k} h f e = rw (← h, e, over_is (list_of (reading_of t)) row, f.count)
 
-  pub reads_row_checked : (alt : List ℕ) → read_paper x ≡ checked_text t alt (length row) → ReadsRowChecked t alt row r row'
-  reads_row_checked alt h = rw e (record { answer = h; records = w ∙ laid_by h (λ k q. checked_fits t alt (length row) x h q) })
+module _ (t : List ℕ) (row : List Allele) where
+  pub reads_error : {e : ReadError} → read_paper (Err e) ≡ text_answer t (length row) → ReadsRow t row (Err e) row
+  reads_error h = record { answer = h; records = error_row t row _ _ h }
 
-pub ruleset laws = (reads_row, reads_row_checked)
+  module _ (k : ℕ) (h : read_paper (Ok k) ≡ text_answer t (length row)) where
+    reads_fits : Fits (reading_of t) (length row) k
+    reads_fits = read_fits t (length row) (Ok k) h refl
+
+    pub reads_within : k ≤ length row
+    reads_within = let f = reads_fits in omega (arith, f.count, f.few)
+
+    pub reads_part : k ≡ length (take k row)
+    reads_part = sym (length-take-le k row reads_within)
+
+    pub reads_meant : ListMeant t
+    reads_meant = record { is = reads_fits.meant }
+
+    pub reads_long : length (take k row) ≡ length (list_of (reading_of t))
+    reads_long = sym reads_part ∙ sym reads_fits.count
+
+    pub reads_done : {ys : List Allele} → ys ≡ list_of (reading_of t) → ReadsRow t row (Ok k) (put_mid 0 k row ys)
+    reads_done e = record { answer = h; records = done_row t row _ h reads_fits e }
+
+module _ (t alt : List ℕ) (row : List Allele) where
+  pub checks_error : {e : ReadError} → read_paper (Err e) ≡ checked_text t alt (length row) → ReadsRowChecked t alt row (Err e) row
+  checks_error h = record { answer = h; records = error_row t row _ _ h }
+
+  module _ (k : ℕ) (h : read_paper (Ok k) ≡ checked_text t alt (length row)) where
+    checks_fits : Fits (reading_of t) (length row) k
+    checks_fits = checked_fits t alt (length row) (Ok k) h refl
+
+    pub checks_within : k ≤ length row
+    checks_within = let f = checks_fits in omega (arith, f.count, f.few)
+
+    pub checks_part : k ≡ length (take k row)
+    checks_part = sym (length-take-le k row checks_within)
+
+    pub checks_meant : ListMeant t
+    checks_meant = record { is = checks_fits.meant }
+
+    pub checks_long : length (take k row) ≡ length (list_of (reading_of t))
+    checks_long = sym checks_part ∙ sym checks_fits.count
+
+    pub checks_done : {ys : List Allele} → ys ≡ list_of (reading_of t) → ReadsRowChecked t alt row (Ok k) (put_mid 0 k row ys)
+    checks_done e = record { answer = h; records = done_row t row _ h checks_fits e }
+
+pub ruleset laws = (fill_first, fill_turn, fill_none, fill_past)

@@ -1,5 +1,3 @@
-pub mod TurnLaws
-pub mod Turns
 pub mod FillLaws
 pub mod Demands
 pub mod RowLoops

@@ -6,9 +6,11 @@ use mathlib.Core.List.{List, ◌∷◌}
 use native.Mathlib.Omega.{arith}
 use native.Mathlib.Decide.{dec_lt}
 use native.Mathlib.Numerals.{add-one}
+use Rattle.std.specs.Prelude.{Ok}
 use lib.ListN.{length, get_or, drop, drop_of_length-le}
 use lib.Seq.{drop-cons}
 use Rattle.std.proofs.lemmas.List.{get_or_default}
+use Rattle.text.specs.Over.{over}
 use Rattle.allele.specs.declared.allele.Allele.{Allele}
 use Rattle.spelling.specs.Demands.{Fitting}
 use Rattle.spelling.specs.Inner.{planned_text, tallied, tally_of}
@@ -17,7 +19,6 @@ use Rattle.spelling.specs.declared.tally.Tally.{Tally}
 use Rattle.spelling.specs.declared.tally.Plan.{Plan}
 use Rattle.spelling.proofs.LayLaws.{Laying, lay_turn, lay_bytes}
 use Rattle.spelling.proofs.RowLaws.{Tallying, tally_turn, tally_past}
-use Rattle.alleles.specs.Inner.{LaysRow}
 
 -- what is read past the end of a row, as `Fitting` has it
 abbrev blank : Allele
@@ -56,12 +57,12 @@ module _ {row : List Allele} {i : ℕ} (d : Allele) where
 
   -- ---- written
 
-  pub lay_more : {plan : Plan} {l₀ l l' : List ℕ} {at r : ℕ} → Laying row plan l₀ l at i → i < length row → PutsOne (get_or row i d) plan i l at r l' → Laying row plan l₀ l' r (i + 1)
+  pub lay_more : {plan : Plan} {l₀ l l' : List ℕ} {at r : ℕ} → Laying row plan l₀ l at i → i < length row → PutsOne (get_or row i d) (Ok plan) i l at r l' → Laying row plan l₀ l' r (i + 1)
   lay_more g h w = lay_turn g (here row i d h) w
 
 module _ {row : List Allele} {i : ℕ} (h : length row ≤ i) where
   pub tally_end : {room : ℕ} {t : Tally} → Tallying row room t i → t ≡ tally_of room row
   tally_end g = tally_past g (drop_of_length-le row h)
 
-  pub lay_end : {plan : Plan} {l₀ l : List ℕ} {at : ℕ} → (length (planned_text plan row) ≤ length l₀ → Laying row plan l₀ l at i) → LaysRow row plan l₀ l
-  lay_end g k = lay_bytes (g k) (drop_of_length-le row h)
+  pub lay_end : {plan : Plan} {l₀ l : List ℕ} {at : ℕ} → Laying row plan l₀ l at i → l ≡ over (planned_text plan row) l₀
+  lay_end g = lay_bytes g (drop_of_length-le row h)

@@ -2,9 +2,8 @@
 -- Assumes nothing.
 use Rattle.std.specs.Prelude.{ℕ, ◌≡◌, List, length}
 use Rattle.genotype.specs.Answers.{text_answer, checked_text, row_read, row_checked}
-use Rattle.genotype.specs.Paper.{read_paper}
+use Rattle.genotype.specs.Paper.{Read, read_paper}
 use Rattle.allele.specs.declared.allele.Allele.{Allele}
-use Rattle.genotype.specs.declared.read.Read.{Read}
 
 pub record ReadsRow (t : List ℕ) (row : List Allele) (r : Read) (row' : List Allele) : Type 0 where
   pub answer : read_paper r ≡ text_answer t (length row)

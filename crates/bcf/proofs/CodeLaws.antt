@@ -5,6 +5,7 @@ use mathlib.Core.Bool.{Bool, true, false}
 use native.Mathlib.Omega.{arith}
 use native.Mathlib.Nat.{pow-le-pow_right}
 use lib.Dec.{eqb, ltb}
+use mir.Val.{bool_byte}
 use borrow.Author.Tests.{le-ltb, eq-eqb, ne_eqb, ltb-true, ltb-false, eqb-true, eqb-false}
 use Rattle.text.specs.Pick.{pick, one_if}
 use Rattle.allele.specs.declared.allele.Allele.{Allele}
@@ -12,6 +13,12 @@ use Rattle.bcf.specs.Layout.{size, padding, largest, code_of, Codable}
 use Rattle.bcf.specs.declared.width.Width.{Width}
 use Rattle.bcf.specs.declared.width.Width.TheVariants.{W8, W16, W32}
 use Rattle.bcf.specs.Reading.{negative, allele_by}
+
+-- ---- a mark
+
+pub byte_is : (b : Bool) → bool_byte b ≡ one_if b
+byte_is true = refl
+byte_is false = refl
 
 -- ---- the widths
 

@@ -7,6 +7,7 @@ use mathlib.Core.List.{List, [], ◌∷◌}
 use native.Mathlib.Omega.{arith}
 use lib.ListN.{length, take, drop}
 use lib.Dec.{leb}
+use Rattle.std.specs.Prelude.{Result}
 use Rattle.text.specs.Pick.{pick}
 use Rattle.text.specs.Answer.{says, number_of}
 use Rattle.allele.specs.Row.{row_of, Parallel}
@@ -22,7 +23,7 @@ use Rattle.bcf.specs.Writing.{list_answer, row_answer}
 use Rattle.bcf.specs.Demands.{told, writer, WrittenRead, ReadWritten, SlicesReader, SlicesWriter, Follow, RoundTrips}
 use Rattle.bcf.specs.EndToEnd.{Wrote, ChoosesSmallest, ReadsBack, WritesBack}
 use Rattle.bcf.specs.Paper.{read_paper}
-use Rattle.bcf.specs.declared.read.Read.{Read}
+use Rattle.bcf.specs.declared.read.ReadError.{ReadError}
 use Rattle.bcf.proofs.LayoutLaws.{lays_read, lays_length}
 use Rattle.bcf.proofs.SmallestLaws.{width_by_lem}
 use Rattle.bcf.proofs.MeetsReading.{meets_told}
@@ -49,7 +50,7 @@ read_even w v n m p z = record { missing = row_done_nm n m p _ z; phased = row_d
 
 -- ---- read by the width that was told
 
-module _ (w : Width) (v n m p : List ℕ) {r : Read} {n' m' p' : List ℕ} where
+module _ (w : Width) (v n m p : List ℕ) {r : Result ℕ ReadError} {n' m' p' : List ℕ} where
   told_vector : ReadsTold (size w) v n m p r n' m' p' → ReadsVector w v n m p r n' m' p'
   unfolding told_answer told_list
   told_vector g = rw (width_by_lem w) at g

@@ -8,8 +8,11 @@ use native.Mathlib.Omega.{arith}
 use native.Mathlib.Nat.{zero-add, mul-mod_left, div-add-mod'}
 use native.Mathlib.Numerals.{add-one}
 use lib.ListN.{length, get_or, drop, set, length-set, drop_of_length-le}
-use lib.Dec.{leb}
+use lib.Dec.{ltb, eqb, leb}
+use mir.Val.{bool_byte}
+use mathlib.Core.Logic.{◌⊎◌, inl, inr}
 use borrow.Author.Tests.{lt-ltb, le-ltb, eq-eqb, ne_eqb, le-leb, lt-leb}
+use Rattle.std.specs.Prelude.{Result, Ok, Err}
 use Rattle.text.specs.Pick.{pick, one_if}
 use Rattle.text.specs.Same.{same}
 use Rattle.text.specs.Answer.{Answer, says, number_of}
@@ -28,9 +31,10 @@ use Rattle.bcf.specs.Paper.{read_paper}
 use Rattle.bcf.specs.Demands.{Bytes, Whole}
 use Rattle.bcf.specs.declared.width.Width.{Width}
 use Rattle.bcf.specs.declared.width.Width.TheVariants.{W8, W16, W32}
-use Rattle.bcf.specs.declared.read.Read.{Read}
-use Rattle.bcf.specs.declared.read.Read.TheVariants as R
+use Rattle.bcf.specs.declared.read.ReadError.{ReadError}
+use Rattle.bcf.specs.declared.read.ReadError.TheVariants as R
 use Rattle.bcf.proofs.ReadingLaws.{codes_none, codes_more, codes_stop, codes_few, list_length, list_here}
+use Rattle.bcf.proofs.CodeLaws.{byte_is}
 use Rattle.bcf.proofs.EntryLaws.{whole}
 use Rattle.bcf.proofs.PlaceLaws.{entries_length, entry_there}
 use Rattle.bcf.proofs.LayoutLaws.{readable_lays, lays_length}
@@ -117,29 +121,17 @@ module _ {w : Width} {v : List ℕ} {n b from i : ℕ} (g : Padded w v n b from 
 -- ---- an entry
 
 module _ (c : ℕ) where
-  pub number_low : c < 2 → 0 ≡ (allele_by c).number
+  pub number_told : {x : ℕ} → x ≡ c / 2 - 1 → x ≡ (allele_by c).number
   unfolding allele_by
-  number_low h = omega arith
+  number_told e = e
 
-  pub number_high : c / 2 - 1 ≡ (allele_by c).number
+  pub missing_told : {x : ℕ} → x ≡ bool_byte (ltb c 2) → x ≡ one_if (allele_by c).missing
   unfolding allele_by
-  number_high = refl
+  missing_told e = e ∙ byte_is (ltb c 2)
 
-  pub missing_low : c < 2 → 1 ≡ one_if (allele_by c).missing
+  pub phased_told : {x : ℕ} → x ≡ bool_byte (eqb (c % 2) 1) → x ≡ one_if (allele_by c).phased
   unfolding allele_by
-  missing_low h = rw (lt-ltb c 2 h)
-
-  pub missing_high : 2 ≤ c → 0 ≡ one_if (allele_by c).missing
-  unfolding allele_by
-  missing_high h = rw (le-ltb c 2 h)
-
-  pub phased_odd : c % 2 ≡ 1 → 1 ≡ one_if (allele_by c).phased
-  unfolding allele_by
-  phased_odd h = rw (eq-eqb (c % 2) 1 h)
-
-  pub phased_even : (c % 2 ≡ 1 → ⊥) → 0 ≡ one_if (allele_by c).phased
-  unfolding allele_by
-  phased_even h = rw (ne_eqb (c % 2) 1 h)
+  phased_told e = e ∙ byte_is (eqb (c % 2) 1)
 
 -- ---- filling
 
@@ -242,7 +234,7 @@ module _ (w : Width) (v : List ℕ) where
   readable_whole b e = let d = div-add-mod' (length v) (size w) in rw (whole w (length v / size w) v b (omega arith), same_self v)
 
 -- a refusal is given where it is due, and nothing is laid
-read_refused : {a : Answer} {as' : List Allele} {n m p : List ℕ} {r : Read} → a ≡ read_paper r → (number_of (read_paper r) ≡ 0 → ⊥) → ReadsAs a as' n m p r n m p
+read_refused : {a : Answer} {as' : List Allele} {n m p : List ℕ} {r : Result ℕ ReadError} → a ≡ read_paper r → (number_of (read_paper r) ≡ 0 → ⊥) → ReadsAs a as' n m p r n m p
 read_refused {as' = as'} {n = n} {m = m} {p = p} {r = r} e z =
     record {
       answer = sym e;
@@ -252,24 +244,21 @@ read_refused {as' = as'} {n = n} {m = m} {p = p} {r = r} e z =
     }
 
 module _ (w : Width) (v n m p : List ℕ) where
-  pub read_nm : (length n ≡ length m → ⊥) → ReadsVector w v n m p R.Lengths n m p
+  pub read_uneven : (length n ≡ length m → ⊥) ⊎ (length n ≡ length p → ⊥) → ReadsVector w v n m p (Err R.Lengths) n m p
   unfolding read_paper
-  read_nm h = read_refused (row_uneven_nm n m p _ h) (λ z. omega arith)
-
-  pub read_np : (length n ≡ length p → ⊥) → ReadsVector w v n m p R.Lengths n m p
-  unfolding read_paper
-  read_np h = read_refused (row_uneven_np n m p _ h) (λ z. omega arith)
+  read_uneven (inl h) = read_refused (row_uneven_nm n m p _ h) (λ z. omega arith)
+  read_uneven (inr h) = read_refused (row_uneven_np n m p _ h) (λ z. omega arith)
 
   module _ (e : length n ≡ length m) (f : length n ≡ length p) where
-    bad : readable w v ≡ false → ReadsVector w v n m p R.Bad n m p
+    bad : readable w v ≡ false → ReadsVector w v n m p (Err R.Bad) n m p
     unfolding read_paper vector_answer
     bad h = read_refused (row_even n m p _ e f ∙ rw h) (λ z. omega arith)
 
-    pub read_left : {x : ℕ} → x ≡ length v % size w → (x ≡ 0 → ⊥) → ReadsVector w v n m p R.Bad n m p
+    pub read_left : {x : ℕ} → x ≡ length v % size w → (x ≡ 0 → ⊥) → ReadsVector w v n m p (Err R.Bad) n m p
     read_left i h = bad (readable_left w v (λ z. h (i ∙ z)))
 
     module _ {c : ℕ} (q : c ≡ length (codes_in w (entries_in w v))) where
-      pub read_none : c ≡ 0 → ReadsVector w v n m p R.Bad n m p
+      pub read_none : c ≡ 0 → ReadsVector w v n m p (Err R.Bad) n m p
       unfolding is_vector
       read_none h = bad (readable_none w v (rw (le-ltb 0 (length (codes_in w (entries_in w v))) (omega arith))))
 
@@ -281,7 +270,7 @@ module _ (w : Width) (v n m p : List ℕ) where
         unfolding is_vector
         is = rw (lt-ltb 0 (length (codes_in w (entries_in w v))) (omega arith), ← q, ← x)
 
-        pub read_more : r ≡ false → ReadsVector w v n m p R.Bad n m p
+        pub read_more : r ≡ false → ReadsVector w v n m p (Err R.Bad) n m p
         read_more y = bad (readable_none w v (is ∙ y))
 
         module _ (y : r ≡ true) {d : ℕ} (i : d ≡ length v % size w) (o : d ≡ 0) (b : Bytes v) where
@@ -289,11 +278,11 @@ module _ (w : Width) (v n m p : List ℕ) where
           unfolding vector_answer list_read
           vector = row_even n m p _ e f ∙ rw (readable_whole w v b (sym i ∙ o), is, y, list_length w (entries_in w v), ← q)
 
-          pub read_short : length n < c → ReadsVector w v n m p R.Short n m p
+          pub read_short : length n < c → ReadsVector w v n m p (Err R.Short) n m p
           unfolding read_paper
           read_short h = read_refused (vector ∙ rw (lt-leb c (length n) h)) (λ z. omega arith)
 
-          pub read_done : c ≤ length n → {n' m' p' : List ℕ} → Laid (list_read w v) n m p n' m' p' → ReadsVector w v n m p (R.Done c) n' m' p'
+          pub read_done : c ≤ length n → {n' m' p' : List ℕ} → Laid (list_read w v) n m p n' m' p' → ReadsVector w v n m p (Ok c) n' m' p'
           unfolding read_paper
           read_done h l =
               let a : slices_answer w v n m p ≡ says 0 (c ∷ []) = vector ∙ rw (le-leb c (length n) h) in
@@ -305,7 +294,7 @@ module _ (w : Width) (v n m p : List ℕ) where
 -- ---- told the width
 
 module _ (b : ℕ) (v n m p : List ℕ) where
-  module _ {r : Read} {n' m' p' : List ℕ} where
+  module _ {r : Result ℕ ReadError} {n' m' p' : List ℕ} where
     pub told_1 : b ≡ 1 → ReadsVector W8 v n m p r n' m' p' → ReadsTold b v n m p r n' m' p'
     unfolding width_by told_answer told_list
     told_1 e g = rw e g
@@ -318,8 +307,8 @@ module _ (b : ℕ) (v n m p : List ℕ) where
     unfolding width_by told_answer told_list
     told_4 e g = rw e g
 
-  pub told_other : (b ≡ 1 → ⊥) → (b ≡ 2 → ⊥) → (b ≡ 4 → ⊥) → ReadsTold b v n m p R.Unknown n m p
+  pub told_other : (b ≡ 1 → ⊥) → (b ≡ 2 → ⊥) → (b ≡ 4 → ⊥) → ReadsTold b v n m p (Err R.Unknown) n m p
   unfolding width_by told_answer read_paper
   told_other x y z = read_refused (rw (ne_eqb b 1 x, ne_eqb b 2 y, ne_eqb b 4 z)) (λ q. omega arith)
 
-pub ruleset laws = (count_first, count_within, count_turn, count_stop, count_past, pad_first, pad_within, pad_turn, pad_stop, pad_past, number_low, number_high, missing_low, missing_high, phased_odd, phased_even, fill_first, fill_within, fill_n, fill_m, fill_p, fill_turn, fill_len_n, fill_len_m, fill_len_p, fill_past, read_nm, read_np, read_left, read_none, read_within, read_more, read_short, read_room, read_done, told_1, told_2, told_4, told_other)
+pub ruleset laws = (count_first, count_within, count_turn, count_stop, count_past, pad_first, pad_within, pad_turn, pad_stop, pad_past, number_told, missing_told, phased_told, fill_first, fill_within, fill_n, fill_m, fill_p, fill_turn, fill_len_n, fill_len_m, fill_len_p, fill_past, read_uneven, read_left, read_none, read_within, read_more, read_short, read_room, read_done, told_1, told_2, told_4, told_other)

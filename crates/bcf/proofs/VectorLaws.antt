@@ -15,7 +15,7 @@ use Rattle.bcf.specs.declared.width.Width.{Width}
 use Rattle.bcf.specs.Writing.{entries_for, vector_of, most_of}
 use Rattle.bcf.specs.Demands.{HasVector, Vectors, Wider}
 use Rattle.bcf.proofs.CodeLaws.{wider_holds}
-use Rattle.bcf.proofs.MostLaws.{Larger, is_second, is_first, larger_is, most_first, most_rest, at_most, most_at}
+use Rattle.bcf.proofs.MostLaws.{most_first, most_rest, at_most, most_at}
 
 -- ---- what passes is coded
 
@@ -68,11 +68,7 @@ coded_most : {w : Width} {as' : List Allele} {es : List ℕ} → Coded w as' es 
 unfolding most_of
 coded_most end = zero-le
 coded_most (pad c) = zero-le
-coded_most {w} (code {a = a} {as' = as'} g c) = by (larger_is a.number (most_of as')) (coded_most c)
-  where
-    by : {x : ℕ} → Larger a.number (most_of as') x → most_of as' ≤ largest w → x ≤ largest w
-    by (is_second h) r = r
-    by (is_first h) r = g.small
+coded_most (code g c) = let f = g.small in let r = coded_most c in omega arith
 
 pub coded_few : {w : Width} {as' : List Allele} {es : List ℕ} → Coded w as' es → length as' ≤ length es
 coded_few end = zero-le

@@ -1,6 +1,6 @@
 -- What is asked of the layout over any width, and of any reader and writer of vectors, as functions on lists (docs/RULES.md, "Genotypes in
 -- BCF"; docs/STATEMENTS.md). Assumes nothing.
-use Rattle.std.specs.Prelude.{ℕ, ◌+◌, ◌*◌, ◌≤◌, ◌<◌, ◌≡◌, ◌↔◌, List, [], ◌∷◌, length, get_or, take, drop}
+use Rattle.std.specs.Prelude.{ℕ, ◌+◌, ◌*◌, ◌≤◌, ◌<◌, ◌≡◌, ◌↔◌, List, [], ◌∷◌, length, get_or, take, drop, Result}
 use Rattle.std.proofs.Math.Option as O
 use Rattle.std.proofs.Math.Option.{Option}
 use Rattle.text.specs.Answer.{Answer, says, number_of}
@@ -18,8 +18,9 @@ use Rattle.bcf.specs.Writing.{vector_of, smallest, placed_answer, WritesVector}
 use Rattle.bcf.specs.Paper.{read_paper, write_paper}
 use Rattle.bcf.specs.declared.width.Width.{Width}
 use Rattle.bcf.specs.declared.width.Width.TheVariants.{W32}
-use Rattle.bcf.specs.declared.read.Read.{Read}
-use Rattle.bcf.specs.declared.write.Write.{Write}
+use Rattle.bcf.specs.declared.read.ReadError.{ReadError}
+use Rattle.bcf.specs.declared.write.Vector.{Vector}
+use Rattle.bcf.specs.declared.write.WriteError.{WriteError}
 
 -- ---- the layout
 
@@ -251,16 +252,16 @@ TextAgrees = (w : Width) (read : Reader) (write : S.Writer) → MeetsReading w r
 
 -- given slices of one length, `read_vector` answers as the reader does and leaves slices that stand for the row that it leaves
 unfoldable pub SlicesReader : Type 0
-SlicesReader = (b : ℕ) (v n m p : List ℕ) (r : Read) (n' m' p' : List ℕ) → Parallel n m p → ReadsTold b v n m p r n' m' p'
+SlicesReader = (b : ℕ) (v n m p : List ℕ) (r : Result ℕ ReadError) (n' m' p' : List ℕ) → Parallel n m p → ReadsTold b v n m p r n' m' p'
     → (read_paper r ≡ (told b v (row_of n m p)).answer) × (row_of n' m' p' ≡ (told b v (row_of n m p)).row)
 
 -- and `write_vector` answers and leaves what the writer does with the list that they stand for
 unfoldable pub SlicesWriter : Type 0
-SlicesWriter = (n m p : List ℕ) (k : ℕ) (out : List ℕ) (at : ℕ) (r : Write) (out' : List ℕ) → Parallel n m p → WritesVector n m p k out at r out'
+SlicesWriter = (n m p : List ℕ) (k : ℕ) (out : List ℕ) (at : ℕ) (r : Result Vector WriteError) (out' : List ℕ) → Parallel n m p → WritesVector n m p k out at r out'
     → (write_paper r ≡ (writer k (row_of n m p) out at).answer) × (out' ≡ (writer k (row_of n m p) out at).output)
 
 -- slices of unequal lengths stand for no row: 27 where no width has so many bytes, else 16, and they are left as they were
-pub record UnevenRead (b : ℕ) (n m p : List ℕ) (r : Read) (n' m' p' : List ℕ) : Type 0 where
+pub record UnevenRead (b : ℕ) (n m p : List ℕ) (r : Result ℕ ReadError) (n' m' p' : List ℕ) : Type 0 where
   pub unknown : ((w : Width) → b ≡ size w → ⊥) → read_paper r ≡ says 27 []
   pub known : (w : Width) → b ≡ size w → read_paper r ≡ says 16 []
   pub numbers : n' ≡ n
@@ -268,14 +269,14 @@ pub record UnevenRead (b : ℕ) (n m p : List ℕ) (r : Read) (n' m' p' : List �
   pub phased : p' ≡ p
 
 unfoldable pub UnevenReader : Type 0
-UnevenReader = (b : ℕ) (v n m p : List ℕ) (r : Read) (n' m' p' : List ℕ) → (Parallel n m p → ⊥) → ReadsTold b v n m p r n' m' p' → UnevenRead b n m p r n' m' p'
+UnevenReader = (b : ℕ) (v n m p : List ℕ) (r : Result ℕ ReadError) (n' m' p' : List ℕ) → (Parallel n m p → ⊥) → ReadsTold b v n m p r n' m' p' → UnevenRead b n m p r n' m' p'
 
 -- and for no list: 6 beyond the output, else 16, and it is left as it was
-pub record UnevenWritten (out : List ℕ) (at : ℕ) (r : Write) (out' : List ℕ) : Type 0 where
+pub record UnevenWritten (out : List ℕ) (at : ℕ) (r : Result Vector WriteError) (out' : List ℕ) : Type 0 where
   pub beyond : length out < at → write_paper r ≡ says 6 []
   pub lengths : at ≤ length out → write_paper r ≡ says 16 []
   pub output : out' ≡ out
 
 unfoldable pub UnevenWriter : Type 0
-UnevenWriter = (n m p : List ℕ) (k : ℕ) (out : List ℕ) (at : ℕ) (r : Write) (out' : List ℕ) → (Parallel n m p → ⊥) → WritesVector n m p k out at r out'
+UnevenWriter = (n m p : List ℕ) (k : ℕ) (out : List ℕ) (at : ℕ) (r : Result Vector WriteError) (out' : List ℕ) → (Parallel n m p → ⊥) → WritesVector n m p k out at r out'
     → UnevenWritten out at r out'

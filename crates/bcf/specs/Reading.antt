@@ -1,6 +1,6 @@
 -- What a vector reads as, and what its reader answers (docs/RULES.md, "Genotypes in BCF"): its entries, the codes before the first that
 -- is negative, and behind them nothing but padding. Assumes nothing.
-use Rattle.std.specs.Prelude.{ℕ, zero, suc, ◌+◌, ◌-◌, ◌*◌, ◌/◌, ◌%◌, ◌≡◌, Bool, true, ◌&&◌, List, [], ◌∷◌, map, length, take, drop, eqb, ltb}
+use Rattle.std.specs.Prelude.{ℕ, zero, suc, ◌+◌, ◌-◌, ◌*◌, ◌/◌, ◌%◌, ◌≡◌, Bool, true, ◌&&◌, List, [], ◌∷◌, map, length, take, drop, eqb, ltb, Result}
 use Rattle.std.proofs.Math.Option.{Option, some, none}
 use Rattle.text.specs.Pick.{pick}
 use Rattle.text.specs.Same.{same}
@@ -13,7 +13,7 @@ use Rattle.bcf.specs.Layout.{size, padding, bytes_of}
 use Rattle.bcf.specs.Paper.{read_paper}
 use Rattle.bcf.specs.declared.width.Width.{Width}
 use Rattle.bcf.specs.declared.width.Width.TheVariants.{W8, W16, W32}
-use Rattle.bcf.specs.declared.read.Read.{Read}
+use Rattle.bcf.specs.declared.read.ReadError.{ReadError}
 
 -- ---- an entry
 
@@ -79,13 +79,13 @@ abbrev pub slices_answer : Width → List ℕ → List ℕ → List ℕ → List
 slices_answer w v n m p = row_answer n m p (vector_answer w v (length n))
 
 -- r is the answer, and slices that held n, m and p are left with the list laid over them where it is done
-pub record ReadsAs (a : Answer) (as' : List Allele) (n m p : List ℕ) (r : Read) (n' m' p' : List ℕ) : Type 0 where
+pub record ReadsAs (a : Answer) (as' : List Allele) (n m p : List ℕ) (r : Result ℕ ReadError) (n' m' p' : List ℕ) : Type 0 where
   pub answer : read_paper r ≡ a
   pub numbers : n' ≡ laid a (numbers_of as') n
   pub missing : m' ≡ laid a (missing_of as') m
   pub phased : p' ≡ laid a (phased_of as') p
 
-abbrev pub ReadsVector : Width → List ℕ → List ℕ → List ℕ → List ℕ → Read → List ℕ → List ℕ → List ℕ → Type 0
+abbrev pub ReadsVector : Width → List ℕ → List ℕ → List ℕ → List ℕ → Result ℕ ReadError → List ℕ → List ℕ → List ℕ → Type 0
 ReadsVector w v n m p = ReadsAs (slices_answer w v n m p) (list_read w v) n m p
 
 -- ---- told the width
@@ -103,5 +103,5 @@ unfoldable pub told_list : Option Width → List ℕ → List Allele
 told_list none v = []
 told_list (some w) v = list_read w v
 
-abbrev pub ReadsTold : ℕ → List ℕ → List ℕ → List ℕ → List ℕ → Read → List ℕ → List ℕ → List ℕ → Type 0
+abbrev pub ReadsTold : ℕ → List ℕ → List ℕ → List ℕ → List ℕ → Result ℕ ReadError → List ℕ → List ℕ → List ℕ → Type 0
 ReadsTold b v n m p = ReadsAs (told_answer (width_by b) v n m p) (told_list (width_by b) v) n m p

@@ -1,5 +1,5 @@
 -- The vector of a list, and what its writer answers and leaves in the output (docs/RULES.md, "Genotypes in BCF"). Assumes nothing.
-use Rattle.std.specs.Prelude.{ℕ, ◌-◌, ◌*◌, ◌≡◌, List, [], ◌∷◌, ◌++◌, map, length, drop, replicate, eqb, ltb, leb}
+use Rattle.std.specs.Prelude.{ℕ, ◌-◌, ◌*◌, max, ◌≡◌, List, [], ◌∷◌, ◌++◌, map, length, drop, replicate, eqb, ltb, leb, Result}
 use Rattle.std.proofs.Math.Option.{Option, some, none}
 use Rattle.text.specs.Pick.{pick}
 use Rattle.text.specs.Answer.{Answer, says}
@@ -12,7 +12,8 @@ use Rattle.bcf.specs.Layout.{size, padding, largest, code_of, bytes_of}
 use Rattle.bcf.specs.Paper.{write_paper}
 use Rattle.bcf.specs.declared.width.Width.{Width}
 use Rattle.bcf.specs.declared.width.Width.TheVariants.{W8, W16, W32}
-use Rattle.bcf.specs.declared.write.Write.{Write}
+use Rattle.bcf.specs.declared.write.Vector.{Vector}
+use Rattle.bcf.specs.declared.write.WriteError.{WriteError}
 
 -- ---- the vector
 
@@ -25,13 +26,10 @@ vector_of w n as' = bytes_of w (entries_for w n as')
 
 -- ---- its width
 
-abbrev pub larger : ℕ → ℕ → ℕ
-larger a b = pick (ltb a b) b a
-
 -- the largest number of a list
 unfoldable pub most_of : List Allele → ℕ
 most_of [] = 0
-most_of (a ∷ as') = larger a.number (most_of as')
+most_of (a ∷ as') = max a.number (most_of as')
 
 -- the smallest width that holds a number, or the widest where none does
 unfoldable pub width_for : ℕ → Width
@@ -78,6 +76,6 @@ row_answer k n m p out at = placed at out (G.row_answer n m p (list_answer k (ro
 abbrev pub row_left : ℕ → List ℕ → List ℕ → List ℕ → List ℕ → ℕ → List ℕ
 row_left k n m p out at = laid_at (row_answer k n m p out at) at (vector_of (smallest (row_of n m p)) k (row_of n m p)) out
 
-pub record WritesVector (n m p : List ℕ) (k : ℕ) (out : List ℕ) (at : ℕ) (r : Write) (out' : List ℕ) : Type 0 where
+pub record WritesVector (n m p : List ℕ) (k : ℕ) (out : List ℕ) (at : ℕ) (r : Result Vector WriteError) (out' : List ℕ) : Type 0 where
   pub answer : write_paper r ≡ row_answer k n m p out at
   pub output : out' ≡ row_left k n m p out at

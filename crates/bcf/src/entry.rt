@@ -6,21 +6,14 @@ ghost use Rattle.bcf.specs.Reading.{number_by, entries_in};
 
 use crate::width::Width;
 
-fn wide(b: u8) -> u64
-    ensures value { result ≡ b }
-    ensures upper_bound { result ≤ 255 }
-{
-    b as u64
-}
-
 // The number whose two bytes begin at `at`.
 fn two_from(bytes: &[u8], at: usize) -> u64
     requires { at + 2 ≤ length bytes.now }
     ensures value { result ≡ number_by (take 2 (drop at bytes.now)) }
     ensures upper_bound { result ≤ 65535 }
 {
-    let low = wide(bytes[at]);
-    let high = wide(bytes[at + 1]);
+    let low = u64::from(bytes[at]);
+    let high = u64::from(bytes[at + 1]);
     low + 256 * high
 }
 
@@ -32,18 +25,6 @@ fn four_from(bytes: &[u8], at: usize) -> u64
     let low = two_from(bytes, at);
     let high = two_from(bytes, at + 2);
     low + 65536 * high
-}
-
-// The entry with index k.
-pub(crate) fn entry_at(width: Width, bytes: &[u8], k: usize) -> u64
-    requires { k < length bytes.now / size width }
-    ensures { result ≡ get_or (entries_in width bytes.now) k 0 }
-{
-    match width {
-        Width::W8 => wide(bytes[k]),
-        Width::W16 => two_from(bytes, 2 * k),
-        Width::W32 => four_from(bytes, 4 * k),
-    }
 }
 
 // Writes the lowest byte of a number.
@@ -72,14 +53,28 @@ fn put_four(number: u64, out: &mut [u8], at: usize)
     put_two(number / 65536, out, at + 2);
 }
 
-// Writes the entry with index k.
-pub(crate) fn put_entry(width: Width, entry: u64, out: &mut [u8], k: usize)
-    requires { k < length out.old / size width }
-    ensures { out.new ≡ over_at (k * size width) (little_of (size width) entry) out.old }
-{
-    match width {
-        Width::W8 => put_byte(entry, out, k),
-        Width::W16 => put_two(entry, out, 2 * k),
-        Width::W32 => put_four(entry, out, 4 * k),
+impl Width {
+    // The entry with index k.
+    pub(crate) fn entry_at(self, bytes: &[u8], k: usize) -> u64
+        requires { k < length bytes.now / size self }
+        ensures { result ≡ get_or (entries_in self bytes.now) k 0 }
+    {
+        match self {
+            Width::W8 => u64::from(bytes[k]),
+            Width::W16 => two_from(bytes, 2 * k),
+            Width::W32 => four_from(bytes, 4 * k),
+        }
+    }
+
+    // Writes the entry with index k.
+    pub(crate) fn put_entry(self, entry: u64, out: &mut [u8], k: usize)
+        requires { k < length out.old / size self }
+        ensures { out.new ≡ over_at (k * size self) (little_of (size self) entry) out.old }
+    {
+        match self {
+            Width::W8 => put_byte(entry, out, k),
+            Width::W16 => put_two(entry, out, 2 * k),
+            Width::W32 => put_four(entry, out, 4 * k),
+        }
     }
 }

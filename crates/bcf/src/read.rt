@@ -6,14 +6,11 @@ ghost use Rattle.bcf.specs.Reading.{allele_by, entries_in, codes_in, list_read, 
 ghost use Rattle.bcf.specs.Inner.{Fillable};
 ghost use Rattle.bcf.specs.Demands.{Bytes};
 
-use crate::entry::entry_at;
-use crate::width::{Width, left_over, negative_of, padding_of, whole_in};
+use crate::width::Width;
 
-// The answer of the reader.
-#[derive(Clone, Copy)]
-pub enum Read {
-    // 0: so many alleles were read.
-    Done(usize),
+// Why a vector is not read.
+#[derive(Clone, Copy, Debug, PartialEq, Eq)]
+pub enum ReadError {
     // 27: no entry has so many bytes.
     Unknown,
     // 16: the slices' lengths differ.
@@ -29,16 +26,14 @@ fn count_codes(width: Width, bytes: &[u8]) -> usize
     ensures value { result ≡ length (codes_in width (entries_in width bytes.now)) }
     ensures bytes { Bytes bytes.now }
 {
-    let entries = whole_in(width, bytes.len());
-    let negative = negative_of(width);
-    let mut i = 0;
-    while i < entries {
-        if entry_at(width, bytes, i) >= negative {
+    let entries = width.whole_in(bytes.len());
+    let negative = width.negative();
+    for i in 0..entries {
+        if width.entry_at(bytes, i) >= negative {
             return i;
         }
-        i += 1;
     }
-    i
+    entries
 }
 
 // Whether all entries from `from` on are padding.
@@ -46,14 +41,12 @@ fn all_padding(width: Width, bytes: &[u8], from: usize) -> bool
     requires { from ≤ length (entries_in width bytes.now) }
     ensures { result ≡ only_padding width (drop from (entries_in width bytes.now)) }
 {
-    let entries = whole_in(width, bytes.len());
-    let padding = padding_of(width);
-    let mut i = from;
-    while i < entries {
-        if entry_at(width, bytes, i) != padding {
+    let entries = width.whole_in(bytes.len());
+    let padding = width.padding();
+    for i in from..entries {
+        if width.entry_at(bytes, i) != padding {
             return false;
         }
-        i += 1;
     }
     true
 }
@@ -61,31 +54,24 @@ fn all_padding(width: Width, bytes: &[u8], from: usize) -> bool
 fn number_of(code: u64) -> u64
     ensures { result ≡ (allele_by code).number }
 {
-    if code < 2 {
-        return 0;
-    }
-    code / 2 - 1
+    (code / 2).saturating_sub(1)
 }
 
 fn missing_of(code: u64) -> u8
     ensures { result ≡ one_if (allele_by code).missing }
 {
-    if code < 2 {
-        return 1;
-    }
-    0
+    u8::from(code < 2)
 }
 
 fn phased_of(code: u64) -> u8
     ensures { result ≡ one_if (allele_by code).phased }
 {
-    if code % 2 == 1 {
-        return 1;
-    }
-    0
+    u8::from(code % 2 == 1)
 }
 
 // Lays the alleles of the first `count` entries, which are codes, over the slices.
+// Kept: the three slices travel through two functions only, and as a `RowMut` each would promise besides that they stay the same
+// slices, which is no plainer.
 fn fill(
     width: Width,
     bytes: &[u8],
@@ -97,13 +83,11 @@ fn fill(
     requires { Fillable width (entries_in width bytes.now) count numbers.old missing.old phased.old }
     ensures { Laid (list_read width bytes.now) numbers.old missing.old phased.old numbers.new missing.new phased.new }
 {
-    let mut k = 0;
-    while k < count {
-        let code = entry_at(width, bytes, k);
+    for k in 0..count {
+        let code = width.entry_at(bytes, k);
         numbers[k] = number_of(code);
         missing[k] = missing_of(code);
         phased[k] = phased_of(code);
-        k += 1;
     }
 }
 
@@ -114,47 +98,41 @@ fn read_known(
     numbers: &mut [u64],
     missing: &mut [u8],
     phased: &mut [u8],
-) -> Read
+) -> Result<usize, ReadError>
     ensures { ReadsVector width bytes.now numbers.old missing.old phased.old result numbers.new missing.new phased.new }
 {
-    if numbers.len() != missing.len() {
-        return Read::Lengths;
+    if numbers.len() != missing.len() || numbers.len() != phased.len() {
+        return Err(ReadError::Lengths);
     }
-    if numbers.len() != phased.len() {
-        return Read::Lengths;
-    }
-    if left_over(width, bytes.len()) != 0 {
-        return Read::Bad;
+    if width.left_over(bytes.len()) != 0 {
+        return Err(ReadError::Bad);
     }
     let count = count_codes(width, bytes);
-    if count == 0 {
-        return Read::Bad;
+    if count == 0 || !all_padding(width, bytes, count) {
+        return Err(ReadError::Bad);
     }
-    if all_padding(width, bytes, count) {
-        if count > numbers.len() {
-            return Read::Short;
-        }
-        fill(width, bytes, count, numbers, missing, phased);
-        return Read::Done(count);
+    if count > numbers.len() {
+        return Err(ReadError::Short);
     }
-    Read::Bad
+    fill(width, bytes, count, numbers, missing, phased);
+    Ok(count)
 }
 
-// Reads a vector whose entries have `width` bytes each. Only an answer of 0 changes the slices, and only their first entries, one for each
-// allele.
+// Reads a vector whose entries have `width` bytes each, and returns how many alleles it has. Only what is read changes the slices, and
+// only their first entries, one for each allele.
 pub fn read_vector(
     bytes: &[u8],
     width: usize,
     numbers: &mut [u64],
     missing: &mut [u8],
     phased: &mut [u8],
-) -> Read
+) -> Result<usize, ReadError>
     ensures { ReadsTold width bytes.now numbers.old missing.old phased.old result numbers.new missing.new phased.new }
 {
     match width {
         1 => read_known(Width::W8, bytes, numbers, missing, phased),
         2 => read_known(Width::W16, bytes, numbers, missing, phased),
         4 => read_known(Width::W32, bytes, numbers, missing, phased),
-        _ => Read::Unknown,
+        _ => Err(ReadError::Unknown),
     }
 }

@@ -1,20 +1,25 @@
 // Writing a list of alleles, that comes as three slices of one length, as a vector of the smallest width that holds it.
-ghost use Rattle.std.specs.Prelude.{◌≡◌, not, ◌≤◌, ◌<◌, ◌-◌, ◌*◌, ◌/◌, eqb, length, replicate, map};
+ghost use Rattle.std.specs.Prelude.{◌≡◌, ◌≤◌, ◌<◌, ◌-◌, ◌*◌, ◌/◌, length, replicate, map};
 ghost use Rattle.text.specs.Over.{over, over_at};
-ghost use Rattle.text.specs.Pick.{one_if};
-ghost use Rattle.allele.specs.Row.{Parallel, allele_of, row_of};
+ghost use Rattle.spelling.specs.Row.{list_of};
 ghost use Rattle.bcf.specs.Layout.{size, padding, code_of, bytes_of};
-ghost use Rattle.bcf.specs.Writing.{larger, most_of, WritesVector};
-ghost use Rattle.bcf.specs.Inner.{JudgesRow, TellsSound, WritesEntries, WritesSized, WritesList};
+ghost use Rattle.bcf.specs.Writing.{most_of, WritesVector};
+ghost use Rattle.bcf.specs.Inner.{JudgesList, WritesEntries, WritesSized, WritesList};
 
-use crate::entry::put_entry;
-use crate::width::{Width, padding_of, size_of, whole_in, width_for};
+use crate::width::Width;
+use allele::allele::Allele;
+use spelling::row::{Row, is_sound};
 
-// The answer of the writer.
-#[derive(Clone, Copy)]
-pub enum Write {
-    // 0: entries of so many bytes each, and so many bytes in all, were written.
-    Done(usize, usize),
+// A vector that was written: entries of so many bytes each, and so many bytes in all.
+#[derive(Clone, Copy, Debug, PartialEq, Eq)]
+pub struct Vector {
+    pub width: usize,
+    pub len: usize,
+}
+
+// Why a list is not written.
+#[derive(Clone, Copy, Debug, PartialEq, Eq)]
+pub enum WriteError {
     // 6: the place lies beyond the output.
     Beyond,
     // 16: the slices' lengths differ.
@@ -31,82 +36,42 @@ pub enum Write {
     Short,
 }
 
-// What one pass over a list tells.
-#[derive(Clone, Copy)]
-enum Judged {
-    // The allele with this index is the first that is missing and has a number.
-    Bad(usize),
-    // There is none, and this is the largest number.
-    Sound(u64),
-}
-
-fn larger(a: u64, b: u64) -> u64
-    ensures { result ≡ larger a b }
-{
-    if a < b { b } else { a }
-}
-
-// Whether an allele is not missing, or has the number 0.
-fn is_sound(number: u64, missing: u8) -> bool
-    ensures { TellsSound number missing result }
-{
-    if missing == 0 {
-        return true;
-    }
-    number == 0
-}
-
-// Judges a list. Its phasings don't matter.
-fn judge(numbers: &[u64], missing: &[u8]) -> Judged
-    requires { length numbers.now ≡ length missing.now }
-    ensures { JudgesRow numbers.now missing.now result }
+// Judges a list in one pass: its largest number, or 12. Its phasings don't matter.
+fn judge(row: Row) -> Result<u64, WriteError>
+    ensures { JudgesList (list_of row.entry) result }
 {
     let mut most = 0;
-    let mut k = 0;
-    while k < numbers.len() {
-        if is_sound(numbers[k], missing[k]) {
-            most = larger(most, numbers[k]);
-            k += 1;
-        } else {
-            return Judged::Bad(k);
+    for k in 0..row.len() {
+        let allele = row.at(k);
+        if !is_sound(allele) {
+            return Err(WriteError::Bad(k));
         }
+        most = allele.number.max(most);
     }
-    Judged::Sound(most)
-}
-
-fn low_bit(phased: u8) -> u64
-    ensures value { result ≡ one_if (not (eqb phased 0)) }
-    ensures upper_bound { result ≤ 1 }
-{
-    if phased == 0 {
-        return 0;
-    }
-    1
+    Ok(most)
 }
 
 // The code of an allele whose number can be shifted.
-fn code_of(number: u64, missing: u8, phased: u8) -> u64
-    requires { number < 9223372036854775807 }
-    ensures { result ≡ code_of (allele_of number missing phased) }
+fn code_of(a: Allele) -> u64
+    requires { a.number < 9223372036854775807 }
+    ensures { result ≡ code_of a }
 {
-    if missing == 0 {
-        return 2 * (number + 1) + low_bit(phased);
+    let mark = u64::from(a.phased);
+    if a.missing {
+        mark
+    } else {
+        2 * (a.number + 1) + mark
     }
-    low_bit(phased)
 }
 
 // Writes the codes at the start of the output.
-fn put_codes(width: Width, numbers: &[u64], missing: &[u8], phased: &[u8], out: &mut [u8])
-    requires parallel { Parallel numbers.now missing.now phased.now }
-    requires phased_bound { most_of (row_of numbers.now missing.now phased.now) < 9223372036854775807 }
-    requires numbers_in_bounds { length numbers.now ≤ length out.old / size width }
-    ensures { out.new ≡ over (bytes_of width (map code_of (row_of numbers.now missing.now phased.now))) out.old }
+fn put_codes(width: Width, row: Row, out: &mut [u8])
+    requires small { most_of (list_of row) < 9223372036854775807 }
+    requires room { length (list_of row) ≤ length out.old / size width }
+    ensures { out.new ≡ over (bytes_of width (map code_of (list_of row.entry))) out.old }
 {
-    let mut k = 0;
-    while k < numbers.len() {
-        let code = code_of(numbers[k], missing[k], phased[k]);
-        put_entry(width, code, out, k);
-        k += 1;
+    for k in 0..row.len() {
+        width.put_entry(code_of(row.at(k)), out, k);
     }
 }
 
@@ -116,77 +81,53 @@ fn put_padding(width: Width, out: &mut [u8], from: usize, to: usize)
     requires to_in_bounds { to ≤ length out.old / size width }
     ensures { out.new ≡ over_at (from * size width) (bytes_of width (replicate (to - from) (padding width))) out.old }
 {
-    let padding = padding_of(width);
-    let mut i = from;
-    while i < to {
-        put_entry(width, padding, out, i);
-        i += 1;
+    let padding = width.padding();
+    for i in from..to {
+        width.put_entry(padding, out, i);
     }
 }
 
 // Writes the vector of so many entries, of this width, at the start of the output.
-fn write_by(
-    width: Width,
-    numbers: &[u64],
-    missing: &[u8],
-    phased: &[u8],
-    entries: usize,
-    out: &mut [u8],
-) -> Write
-    requires parallel { Parallel numbers.now missing.now phased.now }
-    requires phased_bound { most_of (row_of numbers.now missing.now phased.now) < 9223372036854775807 }
-    ensures { WritesEntries width entries (row_of numbers.now missing.now phased.now) out.old result out.new }
+fn write_by(width: Width, row: Row, entries: usize, out: &mut [u8]) -> Result<Vector, WriteError>
+    requires { most_of (list_of row) < 9223372036854775807 }
+    ensures { WritesEntries width entries (list_of row.entry) out.old result out.new }
 {
-    if numbers.len() > entries {
-        return Write::Long;
+    let count = row.len();
+    if count > entries {
+        return Err(WriteError::Long);
     }
-    if entries > whole_in(width, out.len()) {
-        return Write::Short;
+    if entries > width.whole_in(out.len()) {
+        return Err(WriteError::Short);
     }
-    put_codes(width, numbers, missing, phased, out);
-    put_padding(width, out, numbers.len(), entries);
-    let size = size_of(width);
-    Write::Done(size, entries * size)
+    put_codes(width, row, out);
+    put_padding(width, out, count, entries);
+    let size = width.size();
+    Ok(Vector {
+        width: size,
+        len: entries * size,
+    })
 }
 
 // Writes the vector of so many entries at the start of the output. The list is sound, and `most` is its largest number.
-fn write_sound(
-    numbers: &[u64],
-    missing: &[u8],
-    phased: &[u8],
-    most: u64,
-    entries: usize,
-    out: &mut [u8],
-) -> Write
-    requires parallel { Parallel numbers.now missing.now phased.now }
-    requires most_value { most ≡ most_of (row_of numbers.now missing.now phased.now) }
-    ensures { WritesSized entries (row_of numbers.now missing.now phased.now) out.old result out.new }
+fn write_sound(row: Row, most: u64, entries: usize, out: &mut [u8]) -> Result<Vector, WriteError>
+    requires { most ≡ most_of (list_of row) }
+    ensures { WritesSized entries (list_of row.entry) out.old result out.new }
 {
     if most > 1073741822 {
-        return Write::Large;
+        return Err(WriteError::Large);
     }
-    let width = width_for(most);
-    write_by(width, numbers, missing, phased, entries, out)
+    write_by(Width::holding(most), row, entries, out)
 }
 
 // Writes the vector of so many entries at the start of the output.
-fn write_rest(
-    numbers: &[u64],
-    missing: &[u8],
-    phased: &[u8],
-    entries: usize,
-    out: &mut [u8],
-) -> Write
-    requires { Parallel numbers.now missing.now phased.now }
-    ensures { WritesList entries (row_of numbers.now missing.now phased.now) out.old result out.new }
+fn write_rest(row: Row, entries: usize, out: &mut [u8]) -> Result<Vector, WriteError>
+    ensures { WritesList entries (list_of row.entry) out.old result out.new }
 {
-    if numbers.len() == 0 {
-        return Write::Empty;
+    if row.len() == 0 {
+        return Err(WriteError::Empty);
     }
-    match judge(numbers, missing) {
-        Judged::Bad(k) => Write::Bad(k),
-        Judged::Sound(most) => write_sound(numbers, missing, phased, most, entries, out),
-    }
+    let most = judge(row)?;
+    write_sound(row, most, entries, out)
 }
 
 // Writes the vector of so many entries, of the smallest width that holds every allele, from the place `at` on.
@@ -197,17 +138,14 @@ pub fn write_vector(
     entries: usize,
     out: &mut [u8],
     at: usize,
-) -> Write
+) -> Result<Vector, WriteError>
     ensures { WritesVector numbers.now missing.now phased.now entries out.old at result out.new }
 {
     if at > out.len() {
-        return Write::Beyond;
+        return Err(WriteError::Beyond);
     }
-    if numbers.len() != missing.len() {
-        return Write::Lengths;
-    }
-    if numbers.len() != phased.len() {
-        return Write::Lengths;
-    }
-    write_rest(numbers, missing, phased, entries, &mut out[at..])
+    let Some(row) = Row::new(numbers, missing, phased) else {
+        return Err(WriteError::Lengths);
+    };
+    write_rest(row, entries, &mut out[at..])
 }

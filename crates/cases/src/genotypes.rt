@@ -1,255 +1,109 @@
 // The verbs of the genotype readers over parallel slices, and of one step.
-use crate::case_words::{
-    Decoded, Numeral, Pairs, Placed, Text, decode, decode_and_number, decode_two, index_in, number,
-    word,
-};
-use crate::output::{
-    Answer, Buffer, Place, Said, put_byte, put_number, put_said, then_bytes, then_number,
-    then_numbers,
-};
-use crate::parts::{byte_at, front, front_numbers, part};
+use crate::case_words::{Text, hex, place, size, two_hex, word};
+use crate::output::{Buffer, Said};
+use crate::parts::front;
 use allele::allele::Allele;
-use allele::step::{Step, step_at};
-use genotype::read::{Read, read_checked, read_genotype};
+use allele::step::{NoAllele, step_at};
+use genotype::read::{ReadError, read_checked, read_genotype};
 
 // The most alleles of a row.
-pub const ROW: u64 = 64;
+pub const ROW: usize = 64;
 
-pub fn answer(
-    case: &[u8],
-    arguments: usize,
-    text: &mut Text,
-    out: &mut Buffer,
-    at: Place,
-) -> Answer {
-    let verb = index_in(b"read readalt unequal gtstep", 4, word(case, 0));
-    if arguments != takes(verb) {
-        return Answer::NoCase;
+pub fn answer(case: &[u8], arguments: usize, text: &mut Text, out: &mut Buffer) -> Option<()> {
+    match (word(case, 0), arguments) {
+        (b"read", 2) => {
+            let n = size(case, 1, ROW)?;
+            read(hex(case, 2, text)?, None, n, out);
+        }
+        (b"readalt", 3) => {
+            let n = size(case, 1, ROW)?;
+            let (s, alt) = two_hex(case, 2, text)?;
+            read(s, Some(alt), n, out);
+        }
+        (b"unequal", 4) => answer_unequal(case, text, out)?,
+        (b"gtstep", 2) => {
+            let from = place(case, 2)?;
+            put_step(step_at(hex(case, 1, text)?, from), out);
+        }
+        _ => return None,
     }
-    match verb {
-        0 => answer_read(case, text, out, at),
-        1 => answer_readalt(case, text, out, at),
-        2 => answer_unequal(case, text, out, at),
-        3 => answer_gtstep(case, text, out, at),
-        _ => Answer::NoCase,
-    }
+    Some(())
 }
 
-// How many arguments a verb has.
-fn takes(verb: usize) -> usize {
-    match verb {
-        0 | 3 => 2,
-        1 => 3,
-        _ => 4,
-    }
-}
-
-fn answer_read(case: &[u8], text: &mut Text, out: &mut Buffer, at: Place) -> Answer {
-    let Numeral::Of(n) = number(case, 1, ROW) else {
-        return Answer::NoCase;
+// A genotype read into n alleles, and checked against an ALT column where one is given.
+fn read(s: &[u8], alt: Option<&[u8]>, n: usize, out: &mut Buffer) {
+    let mut numbers = [7u64; ROW];
+    let mut missing = [7u8; ROW];
+    let mut phased = [7u8; ROW];
+    let numbers = front(&mut numbers, n);
+    let missing = front(&mut missing, n);
+    let phased = front(&mut phased, n);
+    let read = match alt {
+        Some(alt) => read_checked(s, alt, numbers, missing, phased),
+        None => read_genotype(s, numbers, missing, phased),
     };
-    let Decoded::Upto(end) = decode(case, 2, text, 0) else {
-        return Answer::NoCase;
-    };
-    Answer::Given(read(part(text, 0, end), n as usize, out, at))
+    out.put_said(said(read));
+    then_row(numbers, missing, phased, out);
 }
 
-fn read(s: &[u8], n: usize, out: &mut Buffer, at: Place) -> Place {
-    let mut numbers = [7u64; 64];
-    let mut missing = [7u8; 64];
-    let mut phased = [7u8; 64];
-    put_read(
-        s,
-        front_numbers(&mut numbers, n),
-        front(&mut missing, n),
-        front(&mut phased, n),
-        out,
-        at,
-    )
-}
-
-fn put_read(
-    s: &[u8],
-    numbers: &mut [u64],
-    missing: &mut [u8],
-    phased: &mut [u8],
-    out: &mut Buffer,
-    at: Place,
-) -> Place {
-    let read = read_genotype(s, numbers, missing, phased);
-    let next = put_said(out, at, said(read));
-    then_row(numbers, missing, phased, out, next)
-}
-
-fn answer_readalt(case: &[u8], text: &mut Text, out: &mut Buffer, at: Place) -> Answer {
-    let Numeral::Of(n) = number(case, 1, ROW) else {
-        return Answer::NoCase;
-    };
-    let Pairs::Upto(middle, end) = decode_two(case, 2, text) else {
-        return Answer::NoCase;
-    };
-    Answer::Given(checked(text, middle, end, n as usize, out, at))
-}
-
-// The genotype stands before `middle`, the ALT column from there to `end`.
-fn checked(s: &[u8], middle: usize, end: usize, n: usize, out: &mut Buffer, at: Place) -> Place {
-    let mut numbers = [7u64; 64];
-    let mut missing = [7u8; 64];
-    let mut phased = [7u8; 64];
-    put_checked(
-        part(s, 0, middle),
-        part(s, middle, end),
-        front_numbers(&mut numbers, n),
-        front(&mut missing, n),
-        front(&mut phased, n),
-        out,
-        at,
-    )
-}
-
-fn put_checked(
-    s: &[u8],
-    alt: &[u8],
-    numbers: &mut [u64],
-    missing: &mut [u8],
-    phased: &mut [u8],
-    out: &mut Buffer,
-    at: Place,
-) -> Place {
-    let read = read_checked(s, alt, numbers, missing, phased);
-    let next = put_said(out, at, said(read));
-    then_row(numbers, missing, phased, out, next)
-}
-
-pub fn said(read: Read) -> Said {
+pub fn said(read: Result<usize, ReadError>) -> Said {
     match read {
-        Read::Done(n) => Said::With(0, n as u64),
-        Read::Empty => Said::Alone(11),
-        Read::Bad(k, fault) => Said::WithTwo(12, k as u64, fault as u64),
-        Read::Lengths => Said::Alone(16),
-        Read::Short => Said::Alone(17),
-        Read::Above(k) => Said::With(20, k as u64),
+        Ok(n) => Said::With(0, n as u64),
+        Err(ReadError::Empty) => Said::Alone(11),
+        Err(ReadError::Bad(k, at)) => Said::WithTwo(12, k as u64, at as u64),
+        Err(ReadError::Lengths) => Said::Alone(16),
+        Err(ReadError::Short) => Said::Alone(17),
+        Err(ReadError::Above(k)) => Said::With(20, k as u64),
     }
 }
 
 // A space and `number:missing:phased` for each record, or a space and `-` for none.
-pub fn then_row(
-    numbers: &[u64],
-    missing: &[u8],
-    phased: &[u8],
-    out: &mut Buffer,
-    at: Place,
-) -> Place {
-    if numbers.len() == 0 {
-        return then_bytes(out, at, b"-");
+pub fn then_row(numbers: &[u64], missing: &[u8], phased: &[u8], out: &mut Buffer) {
+    if numbers.is_empty() {
+        out.then_bytes(b"-");
     }
-    let mut next = at;
-    let mut k = 0;
-    while k < numbers.len() {
-        next = then_allele(
-            numbers[k],
-            byte_at(missing, k),
-            byte_at(phased, k),
-            out,
-            next,
-        );
-        k += 1;
+    for ((number, missing), phased) in numbers.iter().zip(missing).zip(phased) {
+        then_allele(*number, *missing, *phased, out);
     }
-    next
 }
 
-fn then_allele(number: u64, missing: u8, phased: u8, out: &mut Buffer, at: Place) -> Place {
-    let next = then_number(out, at, number);
-    let next = put_byte(out, next, b':');
-    let next = put_number(out, next, wide(missing));
-    let next = put_byte(out, next, b':');
-    put_number(out, next, wide(phased))
+fn then_allele(number: u64, missing: u8, phased: u8, out: &mut Buffer) {
+    out.then_number(number);
+    out.put(b':');
+    out.put_number(u64::from(missing));
+    out.put(b':');
+    out.put_number(u64::from(phased));
 }
 
-pub fn then_record(a: Allele, out: &mut Buffer, at: Place) -> Place {
-    then_allele(a.number, as_mark(a.missing), as_mark(a.phased), out, at)
+pub fn then_record(a: Allele, out: &mut Buffer) {
+    then_allele(a.number, u8::from(a.missing), u8::from(a.phased), out);
 }
 
-fn as_mark(b: bool) -> u8 {
-    if b { 1 } else { 0 }
+// Three slices whose lengths may differ.
+fn answer_unequal(case: &[u8], text: &mut Text, out: &mut Buffer) -> Option<()> {
+    let mut numbers = [7u64; ROW];
+    let mut missing = [7u8; ROW];
+    let mut phased = [7u8; ROW];
+    let numbers = front(&mut numbers, size(case, 1, ROW)?);
+    let missing = front(&mut missing, size(case, 2, ROW)?);
+    let phased = front(&mut phased, size(case, 3, ROW)?);
+    let read = read_genotype(hex(case, 4, text)?, numbers, missing, phased);
+    out.put_said(said(read));
+    out.then_numbers(numbers);
+    out.then_numbers(missing);
+    out.then_numbers(phased);
+    Some(())
 }
 
-fn answer_unequal(case: &[u8], text: &mut Text, out: &mut Buffer, at: Place) -> Answer {
-    let Numeral::Of(n) = number(case, 1, ROW) else {
-        return Answer::NoCase;
-    };
-    let Numeral::Of(m) = number(case, 2, ROW) else {
-        return Answer::NoCase;
-    };
-    let Numeral::Of(p) = number(case, 3, ROW) else {
-        return Answer::NoCase;
-    };
-    let Decoded::Upto(end) = decode(case, 4, text, 0) else {
-        return Answer::NoCase;
-    };
-    let mut numbers = [7u64; 64];
-    let mut missing = [7u8; 64];
-    let mut phased = [7u8; 64];
-    Answer::Given(put_apart(
-        part(text, 0, end),
-        front_numbers(&mut numbers, n as usize),
-        front(&mut missing, m as usize),
-        front(&mut phased, p as usize),
-        out,
-        at,
-    ))
-}
-
-fn put_apart(
-    s: &[u8],
-    numbers: &mut [u64],
-    missing: &mut [u8],
-    phased: &mut [u8],
-    out: &mut Buffer,
-    at: Place,
-) -> Place {
-    let read = read_genotype(s, numbers, missing, phased);
-    let next = put_said(out, at, said(read));
-    let next = then_numbers(out, next, numbers);
-    let next = then_marks(missing, out, next);
-    then_marks(phased, out, next)
-}
-
-fn wide(b: u8) -> u64 {
-    b as u64
-}
-
-// A space and marks joined by commas, or a space and `-` for none.
-fn then_marks(marks: &[u8], out: &mut Buffer, at: Place) -> Place {
-    if marks.len() == 0 {
-        return then_bytes(out, at, b"-");
-    }
-    let mut next = then_number(out, at, wide(marks[0]));
-    let mut k = 1;
-    while k < marks.len() {
-        next = put_byte(out, next, b',');
-        next = put_number(out, next, wide(marks[k]));
-        k += 1;
-    }
-    next
-}
-
-fn answer_gtstep(case: &[u8], text: &mut Text, out: &mut Buffer, at: Place) -> Answer {
-    let Placed::At(end, from) = decode_and_number(case, 1, text) else {
-        return Answer::NoCase;
-    };
-    Answer::Given(put_step(step_at(part(text, 0, end), from), out, at))
-}
-
-fn put_step(step: Step, out: &mut Buffer, at: Place) -> Place {
+fn put_step(step: Result<(Allele, usize), NoAllele>, out: &mut Buffer) {
     match step {
-        Step::Found(allele, past) => {
-            let next = put_said(out, at, Said::With(0, past as u64));
-            then_record(allele, out, next)
+        Ok((allele, past)) => {
+            out.put_said(Said::With(0, past as u64));
+            then_record(allele, out);
         }
-        Step::Beyond => put_number(out, at, 6),
-        Step::Nothing => put_number(out, at, 10),
-        Step::Empty => put_number(out, at, 11),
-        Step::Bad(fault) => put_said(out, at, Said::With(12, fault as u64)),
+        Err(NoAllele::Beyond) => out.put_number(6),
+        Err(NoAllele::Nothing) => out.put_number(10),
+        Err(NoAllele::Empty) => out.put_number(11),
+        Err(NoAllele::Bad(at)) => out.put_said(Said::With(12, at as u64)),
     }
 }

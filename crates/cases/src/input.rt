@@ -1,7 +1,7 @@
 // Standard input as lines, each answered once it has ended.
-use crate::case_words::{Text, mark_from};
-use crate::output::{Buffer, CLOSED, Place, failure, flush};
-use crate::parts::part;
+use crate::case_words::Text;
+use crate::output::Buffer;
+use crate::parts::first;
 use crate::verbs::{answer, refuse};
 use std::io;
 use std::io::Read;
@@ -13,69 +13,50 @@ type Line = [u8; LONGEST];
 // Room for what one read gives.
 type Chunk = [u8; 65536];
 
-// How many bytes the line has so far, LONGEST + 1 for any number above LONGEST; and where its
-// answer goes.
-#[derive(Clone, Copy)]
-struct State {
-    len: usize,
-    at: Place,
-}
-
-// Puts bytes into the line, and answers its length then.
-fn lengthen(line: &mut Line, len: usize, s: &[u8]) -> usize {
-    let mut next = len;
-    let mut i = 0;
-    while i < s.len() {
-        if next >= LONGEST {
-            return LONGEST + 1;
-        }
-        line[next] = s[i];
-        next += 1;
-        i += 1;
+// Puts bytes into the line behind those that it has: how many it has then. None is a line that is
+// longer than LONGEST.
+fn lengthen(line: &mut Line, len: Option<usize>, s: &[u8]) -> Option<usize> {
+    let from = len?;
+    let end = from.checked_add(s.len())?;
+    if end > LONGEST {
+        return None;
     }
-    next
+    line[from..end].copy_from_slice(s);
+    Some(end)
 }
 
-fn end_line(line: &[u8], len: usize, text: &mut Text, out: &mut Buffer, at: Place) -> Place {
-    if len > line.len() {
-        return refuse(out, at);
+fn end_line(line: &Line, len: Option<usize>, text: &mut Text, out: &mut Buffer) {
+    match len {
+        Some(n) => answer(first(line, n), text, out),
+        None => refuse(out),
     }
-    answer(&line[0..len], text, out, at)
 }
 
+// Answers each line that ends in these bytes: how many bytes the line after them has so far.
 fn take_bytes(
     bytes: &[u8],
     line: &mut Line,
+    begun: Option<usize>,
     text: &mut Text,
     out: &mut Buffer,
-    state: State,
-) -> State {
-    let mut len = state.len;
-    let mut at = state.at;
-    let mut i = 0;
-    while i < bytes.len() {
-        let end = mark_from(bytes, b'\n', i);
-        len = lengthen(line, len, part(bytes, i, end));
-        if end >= bytes.len() {
-            return State { len, at };
-        }
-        at = end_line(line, len, text, out, at);
-        len = 0;
-        i = end + 1;
+) -> Option<usize> {
+    let mut len = begun;
+    let mut rest = bytes;
+    while let Some(end) = rest.iter().position(|b| *b == b'\n') {
+        len = lengthen(line, len, &rest[..end]);
+        end_line(line, len, text, out);
+        len = Some(0);
+        rest = &rest[end + 1..];
     }
-    State { len, at }
+    lengthen(line, len, rest)
 }
 
 // A last line with no LF is a line all the same.
-fn finish(line: &[u8], text: &mut Text, out: &mut Buffer, state: State) {
-    let len = state.len;
-    let at = state.at;
-    if len == 0 {
-        flush(out, at);
-        return;
+fn finish(line: &Line, len: Option<usize>, text: &mut Text, out: &mut Buffer) -> io::Result<()> {
+    if len != Some(0) {
+        end_line(line, len, text, out);
     }
-    let next = end_line(line, len, text, out, at);
-    flush(out, next);
+    out.flush()
 }
 
 // Where a read fails, the line that it cut is left unanswered. A proved loop has to end, and nothing says that the input does: so the
@@ -87,23 +68,16 @@ pub fn answer_all<R: Read>(
     text: &mut Text,
     out: &mut Buffer,
 ) -> io::Result<()> {
-    let mut state = State { len: 0, at: 0 };
+    let mut len = Some(0);
     for _ in 0..u64::MAX {
         match input.read(bytes) {
-            Ok(0) => {
-                finish(line, text, out, state);
-                return failure(out);
-            }
+            Ok(0) => return finish(line, len, text, out),
             Ok(n) => {
-                state = take_bytes(part(bytes, 0, n), line, text, out, state);
-                if state.at == CLOSED {
-                    return failure(out);
-                }
+                len = take_bytes(first(bytes, n), line, len, text, out);
+                out.written()?;
             }
             Err(e) => {
-                let at = state.at;
-                flush(out, at);
-                failure(out)?;
+                out.flush()?;
                 return Err(e);
             }
         }

@@ -19,12 +19,13 @@ mod turning;
 mod vectors;
 mod verbs;
 
+use output::Buffer;
 use std::io;
 
 fn main(rt: HostRuntime) -> io::Result<()> {
     let mut bytes = [0u8; 65536];
     let mut line = [0u8; 65536];
     let mut text = [0u8; 32768];
-    let mut out = output::empty_buffer(rt.stdout());
+    let mut out = Buffer::new(rt.stdout());
     input::answer_all(&mut rt.stdin(), &mut bytes, &mut line, &mut text, &mut out)
 }

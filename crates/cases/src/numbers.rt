@@ -1,11 +1,11 @@
 // The verbs of the crate numbering.
 ghost use Rattle.std.specs.Prelude.{◌<◌};
 
-use crate::case_words::{Counted, Numeral, Row, index_in, number, numbers, word};
-use crate::output::{Answer, Buffer, Place, Said, put_said, then_numbers};
-use crate::parts::{first_numbers, front_numbers};
-use numbering::counts::{Numbered, count_of};
-use numbering::genotype::{Filled, genotype_of};
+use crate::case_words::{MOST, number, numbers, size, word};
+use crate::output::{Buffer, Said};
+use crate::parts::{first, front};
+use numbering::counts::{NoGenotype, count_of};
+use numbering::genotype::{FillError, genotype_of};
 use numbering::list::list_all;
 use numbering::number::number_of;
 
@@ -13,129 +13,61 @@ use numbering::number::number_of;
 const GENOTYPE: usize = 64;
 
 // The most numbers of a row that is lent.
-const ROW: u64 = 4096;
+const ROW: usize = 4096;
 
-pub fn answer(case: &[u8], arguments: usize, out: &mut Buffer, at: Place) -> Answer {
-    let verb = index_in(b"number genotype genotypes genotypecount", 4, word(case, 0));
-    if arguments != takes(verb) {
-        return Answer::NoCase;
+pub fn answer(case: &[u8], arguments: usize, out: &mut Buffer) -> Option<()> {
+    match (word(case, 0), arguments) {
+        (b"number", 2) => {
+            let mut row = [0usize; MOST];
+            let genotype = numbers(case, 2, &mut row)?;
+            if genotype.len() > GENOTYPE {
+                return None;
+            }
+            out.put_said(said(number_first(genotype, number(case, 1)?)));
+        }
+        (b"genotype", 4) => answer_row(case, Some(number(case, 1)?), 2, out)?,
+        (b"genotypes", 3) => answer_row(case, None, 1, out)?,
+        (b"genotypecount", 2) => out.put_said(said(count_of(number(case, 1)?, number(case, 2)?))),
+        _ => return None,
     }
-    match verb {
-        0 => answer_number(case, out, at),
-        1 => answer_genotype(case, out, at),
-        2 => answer_row(case, Asked::All, 1, out, at),
-        3 => answer_count(case, out, at),
-        _ => Answer::NoCase,
+    Some(())
+}
+
+// The number of a genotype of 64 alleles at most.
+fn number_first(genotype: &[usize], alleles: u64) -> Result<u64, NoGenotype> {
+    let mut wide = [0u64; GENOTYPE];
+    for (to, n) in wide.iter_mut().zip(genotype) {
+        *to = *n as u64;
     }
+    number_of(first(&wide, genotype.len()), alleles)
 }
 
-// How many arguments a verb has.
-fn takes(verb: usize) -> usize {
-    match verb {
-        0 | 3 => 2,
-        1 => 4,
-        _ => 3,
-    }
+fn said(numbered: Result<u64, NoGenotype>) -> Said {
+    filled_said(numbered.map_err(FillError::from))
 }
 
-fn answer_number(case: &[u8], out: &mut Buffer, at: Place) -> Answer {
-    let Numeral::Of(alleles) = number(case, 1, u64::MAX) else {
-        return Answer::NoCase;
-    };
-    let mut row = [0usize; 1024];
-    let Counted::Of(n) = numbers(case, 2, &mut row) else {
-        return Answer::NoCase;
-    };
-    if n > GENOTYPE {
-        return Answer::NoCase;
-    }
-    Answer::Given(put_said(out, at, said(number_first(&row, n, alleles))))
-}
-
-// The number of the genotype that the first n of a row are, 64 at most.
-fn number_first(row: &Row, n: usize, alleles: u64) -> Numbered {
-    let mut genotype = [0u64; GENOTYPE];
-    let mut k = 0;
-    while k < GENOTYPE {
-        genotype[k] = row[k] as u64;
-        k += 1;
-    }
-    number_of(first_numbers(&genotype, n), alleles)
-}
-
-fn answer_count(case: &[u8], out: &mut Buffer, at: Place) -> Answer {
-    let Numeral::Of(ploidy) = number(case, 1, u64::MAX) else {
-        return Answer::NoCase;
-    };
-    let Numeral::Of(alleles) = number(case, 2, u64::MAX) else {
-        return Answer::NoCase;
-    };
-    Answer::Given(put_said(out, at, said(count_of(ploidy, alleles))))
-}
-
-fn said(numbered: Numbered) -> Said {
-    match numbered {
-        Numbered::Is(n) => Said::With(0, n),
-        Numbered::Wrong => Said::Alone(23),
-    }
-}
-
-// What fills a row: the genotype of a number, or all of them.
-#[derive(Clone, Copy)]
-enum Asked {
-    One(u64),
-    All,
-}
-
-fn answer_genotype(case: &[u8], out: &mut Buffer, at: Place) -> Answer {
-    let Numeral::Of(index) = number(case, 1, u64::MAX) else {
-        return Answer::NoCase;
-    };
-    answer_row(case, Asked::One(index), 2, out, at)
-}
-
-// A verb that fills a row. From word k on it has the ploidy, the allele count and the row's length.
-fn answer_row(case: &[u8], asked: Asked, k: usize, out: &mut Buffer, at: Place) -> Answer
+// A verb that fills a row, with the genotype of a number or with all of them. From word k on it has
+// the ploidy, the allele count and the row's length.
+fn answer_row(case: &[u8], index: Option<u64>, k: usize, out: &mut Buffer) -> Option<()>
     requires { k < 65536 }
 {
-    let Numeral::Of(ploidy) = number(case, k, u64::MAX) else {
-        return Answer::NoCase;
+    let ploidy = number(case, k)?;
+    let alleles = number(case, k + 1)?;
+    let mut row = [7u64; ROW];
+    let lent = front(&mut row, size(case, k + 2, ROW)?);
+    let filled = match index {
+        Some(index) => genotype_of(index, ploidy, alleles, lent),
+        None => list_all(ploidy, alleles, lent),
     };
-    let Numeral::Of(alleles) = number(case, k + 1, u64::MAX) else {
-        return Answer::NoCase;
-    };
-    let Numeral::Of(n) = number(case, k + 2, ROW) else {
-        return Answer::NoCase;
-    };
-    let mut row = [7u64; 4096];
-    let lent = front_numbers(&mut row, n as usize);
-    Answer::Given(put_row(asked, ploidy, alleles, lent, out, at))
+    out.put_said(filled_said(filled));
+    out.then_numbers(lent);
+    Some(())
 }
 
-fn put_row(
-    asked: Asked,
-    ploidy: u64,
-    alleles: u64,
-    lent: &mut [u64],
-    out: &mut Buffer,
-    at: Place,
-) -> Place {
-    let filled = fill(asked, ploidy, alleles, lent);
-    let next = put_said(out, at, filled_said(filled));
-    then_numbers(out, next, lent)
-}
-
-fn fill(asked: Asked, ploidy: u64, alleles: u64, lent: &mut [u64]) -> Filled {
-    match asked {
-        Asked::One(index) => genotype_of(index, ploidy, alleles, lent),
-        Asked::All => list_all(ploidy, alleles, lent),
-    }
-}
-
-fn filled_said(filled: Filled) -> Said {
+fn filled_said(filled: Result<u64, FillError>) -> Said {
     match filled {
-        Filled::Done(n) => Said::With(0, n),
-        Filled::Short => Said::Alone(17),
-        Filled::Wrong => Said::Alone(23),
+        Ok(n) => Said::With(0, n),
+        Err(FillError::Short) => Said::Alone(17),
+        Err(FillError::NoGenotype) => Said::Alone(23),
     }
 }

@@ -1,173 +1,23 @@
 // Answers, gathered in a buffer that is written out when it is full.
-ghost use Rattle.std.specs.Prelude.{◌<◌};
+ghost use Rattle.std.specs.Prelude.{◌≡◌, ◌<◌, ◌≤◌};
 
-use crate::parts::part;
-use decimal::print::{decimal_len, print_decimal};
+use crate::parts::first;
+use decimal::print::print_decimal;
 use std::io;
 use std::io::{Stdout, Write};
 use text::range::Range;
 
 const FULL: usize = 65536;
 
-// What was gathered, where it is written out, and the error of the write that failed.
+// What was gathered, where it is written out, and how the writes went. Once one has failed, what is
+// put is thrown away.
 #[derive(Drop)]
 pub struct Buffer {
     bytes: [u8; FULL],
+    len: usize,
     output: Stdout,
-    failed: Option<io::Error>,
-}
-
-// Where the next byte goes, or CLOSED once a write has failed: from then on nothing is kept.
-pub type Place = usize;
-
-pub const CLOSED: Place = FULL + 1;
-
-// Where the answer to a case ended, or that it is no case and nothing was put.
-#[derive(Clone, Copy)]
-pub enum Answer {
-    Given(Place),
-    NoCase,
-}
-
-pub fn empty_buffer(output: Stdout) -> Buffer {
-    Buffer {
-        bytes: [0; FULL],
-        output,
-        failed: None,
-    }
-}
-
-// Writes out what was gathered.
-pub fn flush(out: &mut Buffer, at: Place) -> Place {
-    if at > FULL {
-        return CLOSED;
-    }
-    match out.output.write_all(&out.bytes[..at]) {
-        Ok(()) => 0,
-        Err(e) => {
-            out.failed = Some(e);
-            CLOSED
-        }
-    }
-}
-
-// The error of the write that failed, if one did.
-pub fn failure(out: &Buffer) -> io::Result<()> {
-    match out.failed {
-        Some(e) => Err(e),
-        None => Ok(()),
-    }
-}
-
-pub fn put_byte(out: &mut Buffer, at: Place, b: u8) -> Place {
-    if at < FULL {
-        out.bytes[at] = b;
-        return at + 1;
-    }
-    if flush(out, at) == 0 {
-        out.bytes[0] = b;
-        return 1;
-    }
-    CLOSED
-}
-
-fn put_bytes(out: &mut Buffer, at: Place, s: &[u8]) -> Place {
-    let mut next = at;
-    let mut i = 0;
-    while i < s.len() {
-        next = put_byte(out, next, s[i]);
-        i += 1;
-    }
-    next
-}
-
-pub fn put_number(out: &mut Buffer, at: Place, n: u64) -> Place {
-    let mut digits = [0u8; 20];
-    print_decimal(n, &mut digits);
-    put_bytes(out, at, part(&digits, 0, decimal_len(n)))
-}
-
-fn digit(d: u8) -> u8
-    requires { d < 16 }
-{
-    if d < 10 { b'0' + d } else { b'a' - 10 + d }
-}
-
-fn put_pair(out: &mut Buffer, at: Place, b: u8) -> Place {
-    let next = put_byte(out, at, digit(b / 16));
-    put_byte(out, next, digit(b % 16))
-}
-
-// Two hex digits for each byte, `-` for none.
-pub fn put_hex(out: &mut Buffer, at: Place, s: &[u8]) -> Place {
-    if s.len() == 0 {
-        return put_byte(out, at, b'-');
-    }
-    let mut next = at;
-    let mut i = 0;
-    while i < s.len() {
-        next = put_pair(out, next, s[i]);
-        i += 1;
-    }
-    next
-}
-
-// A space, and then the number.
-pub fn then_number(out: &mut Buffer, at: Place, n: u64) -> Place {
-    let next = put_byte(out, at, b' ');
-    put_number(out, next, n)
-}
-
-// A space, and then a range's start and its length.
-pub fn then_range(out: &mut Buffer, at: Place, range: Range) -> Place {
-    let start = range.start;
-    let len = range.len;
-    let next = then_number(out, at, start as u64);
-    then_number(out, next, len as u64)
-}
-
-// The numbers, with a space before each.
-pub fn then_each(out: &mut Buffer, at: Place, numbers: &[usize]) -> Place {
-    let mut next = at;
-    let mut k = 0;
-    while k < numbers.len() {
-        next = then_number(out, next, numbers[k] as u64);
-        k += 1;
-    }
-    next
-}
-
-// A space and numbers joined by commas, or a space and `-` for none.
-pub fn then_numbers(out: &mut Buffer, at: Place, numbers: &[u64]) -> Place {
-    if numbers.len() == 0 {
-        return then_bytes(out, at, b"-");
-    }
-    let mut next = then_number(out, at, numbers[0]);
-    let mut k = 1;
-    while k < numbers.len() {
-        next = put_byte(out, next, b',');
-        next = put_number(out, next, numbers[k]);
-        k += 1;
-    }
-    next
-}
-
-// What stands between two answers of one case.
-pub fn put_comma(out: &mut Buffer, at: Place) -> Place {
-    let next = put_byte(out, at, b',');
-    put_byte(out, next, b' ')
-}
-
-// A space, and then the bytes as they are.
-pub fn then_bytes(out: &mut Buffer, at: Place, s: &[u8]) -> Place {
-    let next = put_byte(out, at, b' ');
-    put_bytes(out, next, s)
-}
-
-// A space, and then the bytes as HEX.
-pub fn then_hex(out: &mut Buffer, at: Place, s: &[u8]) -> Place {
-    let next = put_byte(out, at, b' ');
-    put_hex(out, next, s)
+    written: io::Result<()>,
+    ghost in_room: { len ≤ 65536 },
 }
 
 // An answer's number, alone or with the value or the two values that come with it.
@@ -178,17 +28,132 @@ pub enum Said {
     WithTwo(u64, u64, u64),
 }
 
-pub fn put_said(out: &mut Buffer, at: Place, said: Said) -> Place {
-    match said {
-        Said::Alone(n) => put_number(out, at, n),
-        Said::With(n, value) => {
-            let next = put_number(out, at, n);
-            then_number(out, next, value)
+fn digit(d: u8) -> u8
+    requires { d < 16 }
+{
+    if d < 10 { b'0' + d } else { b'a' - 10 + d }
+}
+
+impl Buffer {
+    pub fn new(output: Stdout) -> Buffer {
+        Buffer {
+            bytes: [0; FULL],
+            len: 0,
+            output,
+            written: Ok(()),
         }
-        Said::WithTwo(n, first, second) => {
-            let next = put_number(out, at, n);
-            let next = then_number(out, next, first);
-            then_number(out, next, second)
+    }
+
+    // The error of the write that failed, if one did.
+    pub fn written(&self) -> io::Result<()> {
+        self.written
+    }
+
+    // Writes out what was gathered.
+    pub fn flush(&mut self) -> io::Result<()>
+        ensures { self.new.len ≡ 0 }
+    {
+        if self.written.is_ok() {
+            self.written = self.output.write_all(&self.bytes[..self.len]);
         }
+        self.len = 0;
+        self.written
+    }
+
+    pub fn put(&mut self, b: u8) {
+        if self.len == FULL {
+            let _ = self.flush();
+        }
+        let at = self.len;
+        self.bytes[at] = b;
+        self.len = at + 1;
+    }
+
+    pub fn put_bytes(&mut self, s: &[u8]) {
+        for b in s {
+            self.put(*b);
+        }
+    }
+
+    pub fn put_number(&mut self, n: u64) {
+        let mut digits = [0u8; 20];
+        if let Ok(len) = print_decimal(n, &mut digits) {
+            self.put_bytes(first(&digits, len));
+        }
+    }
+
+    // Two hex digits for each byte, `-` for none.
+    pub fn put_hex(&mut self, s: &[u8]) {
+        if s.is_empty() {
+            self.put(b'-');
+        }
+        for b in s {
+            self.put(digit(*b / 16));
+            self.put(digit(*b % 16));
+        }
+    }
+
+    // What stands between two answers of one case.
+    pub fn put_comma(&mut self) {
+        self.put_bytes(b", ");
+    }
+
+    pub fn put_said(&mut self, said: Said) {
+        match said {
+            Said::Alone(n) => self.put_number(n),
+            Said::With(n, value) => {
+                self.put_number(n);
+                self.then_number(value);
+            }
+            Said::WithTwo(n, first, second) => {
+                self.put_number(n);
+                self.then_number(first);
+                self.then_number(second);
+            }
+        }
+    }
+
+    // A space, and then the number.
+    pub fn then_number(&mut self, n: u64) {
+        self.put(b' ');
+        self.put_number(n);
+    }
+
+    // A space, and then a range's start and its length.
+    pub fn then_range(&mut self, range: Range) {
+        self.then_number(range.start as u64);
+        self.then_number(range.len as u64);
+    }
+
+    // The numbers, with a space before each.
+    pub fn then_each(&mut self, numbers: &[usize]) {
+        for n in numbers {
+            self.then_number(*n as u64);
+        }
+    }
+
+    // A space and numbers joined by commas, or a space and `-` for none.
+    pub fn then_numbers<T: Copy + Into<u64>>(&mut self, numbers: &[T]) {
+        let Some((first, rest)) = numbers.split_first() else {
+            self.then_bytes(b"-");
+            return;
+        };
+        self.then_number((*first).into());
+        for n in rest {
+            self.put(b',');
+            self.put_number((*n).into());
+        }
+    }
+
+    // A space, and then the bytes as they are.
+    pub fn then_bytes(&mut self, s: &[u8]) {
+        self.put(b' ');
+        self.put_bytes(s);
+    }
+
+    // A space, and then the bytes as HEX.
+    pub fn then_hex(&mut self, s: &[u8]) {
+        self.put(b' ');
+        self.put_hex(s);
     }
 }

@@ -1,119 +1,65 @@
 // The verbs of the crate samples.
-use crate::case_words::{
-    Decoded, Pairs, Placed, Text, decode, decode_and_number, decode_two, index_in, word,
-};
-use crate::output::{Answer, Buffer, Place, Said, put_comma, put_number, put_said, then_range};
-use crate::parts::part;
-use pieces::nth::Nth;
-use pieces::step::Step;
+use crate::case_words::{Text, hex, place, two_hex, word};
+use crate::output::{Buffer, Said};
+use pieces::step::Piece;
 use samples::columns::{count, sample, sample_at, subfield};
-use samples::keys::{Key, key_index};
+use samples::keys::key_index;
 use text::range::Range;
 
-pub fn answer(
-    case: &[u8],
-    arguments: usize,
-    text: &mut Text,
-    out: &mut Buffer,
-    at: Place,
-) -> Answer {
-    let verb = index_in(b"samples walk key sample subfield", 5, word(case, 0));
-    if arguments != takes(verb) {
-        return Answer::NoCase;
+pub fn answer(case: &[u8], arguments: usize, text: &mut Text, out: &mut Buffer) -> Option<()> {
+    match (word(case, 0), arguments) {
+        (b"samples", 1) => out.put_number(count(hex(case, 1, text)?) as u64),
+        (b"walk", 1) => walk(hex(case, 1, text)?, out),
+        (b"key", 2) => {
+            let (format, key) = two_hex(case, 1, text)?;
+            put_index(key_index(format, key), out);
+        }
+        (b"sample", 2) => {
+            let n = place(case, 2)?;
+            put_nth(sample(hex(case, 1, text)?, n), out);
+        }
+        (b"subfield", 2) => {
+            let n = place(case, 2)?;
+            put_nth(subfield(hex(case, 1, text)?, n), out);
+        }
+        _ => return None,
     }
-    match verb {
-        0 => answer_samples(case, verb, text, out, at),
-        1 => answer_samples(case, verb, text, out, at),
-        2 => answer_key(case, text, out, at),
-        3 => answer_nth(case, verb, text, out, at),
-        4 => answer_nth(case, verb, text, out, at),
-        _ => Answer::NoCase,
-    }
-}
-
-// How many arguments a verb has.
-fn takes(verb: usize) -> usize {
-    if verb < 2 { 1 } else { 2 }
-}
-
-// `samples` and `walk`, which are given the samples alone.
-fn answer_samples(
-    case: &[u8],
-    verb: usize,
-    text: &mut Text,
-    out: &mut Buffer,
-    at: Place,
-) -> Answer {
-    let Decoded::Upto(end) = decode(case, 1, text, 0) else {
-        return Answer::NoCase;
-    };
-    let samples = part(text, 0, end);
-    if verb == 0 {
-        return Answer::Given(put_number(out, at, count(samples) as u64));
-    }
-    Answer::Given(walk(samples, out, at))
+    Some(())
 }
 
 // Every sample by steps from place 0 on.
-fn walk(samples: &[u8], out: &mut Buffer, at: Place) -> Place {
-    let mut next = at;
+fn walk(samples: &[u8], out: &mut Buffer) {
     let mut from = 0;
     loop {
         match sample_at(samples, from) {
-            Step::More(range, then) => {
-                next = put_range(range, out, next);
-                next = put_comma(out, next);
-                from = then;
+            Ok(Piece::More(range, next)) => {
+                put_range(range, out);
+                out.put_comma();
+                from = next;
             }
-            Step::Last(range) => return put_range(range, out, next),
-            _ => return put_number(out, next, 10),
+            Ok(Piece::Last(range)) => return put_range(range, out),
+            Err(_) => return out.put_number(10),
         }
     }
 }
 
-fn put_range(range: Range, out: &mut Buffer, at: Place) -> Place {
-    let start = range.start;
-    let len = range.len;
-    put_said(out, at, Said::With(start as u64, len as u64))
+fn put_range(range: Range, out: &mut Buffer) {
+    out.put_said(Said::With(range.start as u64, range.len as u64));
 }
 
-fn answer_key(case: &[u8], text: &mut Text, out: &mut Buffer, at: Place) -> Answer {
-    let Pairs::Upto(middle, end) = decode_two(case, 1, text) else {
-        return Answer::NoCase;
-    };
-    Answer::Given(put_said(out, at, said(index_of(text, middle, end))))
-}
-
-// FORMAT stands before `middle`, the key from there to `end`.
-fn index_of(s: &[u8], middle: usize, end: usize) -> Key {
-    key_index(part(s, 0, middle), part(s, middle, end))
-}
-
-fn said(key: Key) -> Said {
-    match key {
-        Key::Index(i) => Said::With(0, i as u64),
-        Key::Nothing => Said::Alone(10),
+fn put_index(index: Option<usize>, out: &mut Buffer) {
+    match index {
+        Some(i) => out.put_said(Said::With(0, i as u64)),
+        None => out.put_number(10),
     }
 }
 
-// `sample` and `subfield`, which are given a text and a number.
-fn answer_nth(case: &[u8], verb: usize, text: &mut Text, out: &mut Buffer, at: Place) -> Answer {
-    let Placed::At(end, n) = decode_and_number(case, 1, text) else {
-        return Answer::NoCase;
-    };
-    let s = part(text, 0, end);
-    if verb == 3 {
-        return Answer::Given(put_nth(sample(s, n), out, at));
-    }
-    Answer::Given(put_nth(subfield(s, n), out, at))
-}
-
-fn put_nth(nth: Nth, out: &mut Buffer, at: Place) -> Place {
+fn put_nth(nth: Option<Range>, out: &mut Buffer) {
     match nth {
-        Nth::At(range) => {
-            let next = put_number(out, at, 0);
-            then_range(out, next, range)
+        Some(range) => {
+            out.put_number(0);
+            out.then_range(range);
         }
-        Nth::Nothing => put_number(out, at, 10),
+        None => out.put_number(10),
     }
 }

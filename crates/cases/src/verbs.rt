@@ -1,79 +1,37 @@
 // The answer line of a case. Each area is a module that answers the verbs it knows; they are asked
 // in turn.
 use crate::case_words::Text;
-use crate::output::{Answer, Buffer, Place, put_byte};
+use crate::output::Buffer;
 use crate::{
     genotypes, infos, joining, leaves, lines, numbers, rows, sampling, spellings, turning, vectors,
 };
 use pieces::count::count_byte;
 
-pub fn answer(case: &[u8], text: &mut Text, out: &mut Buffer, at: Place) -> Place {
-    let given = ask(case, text, out, at);
-    match given {
-        Answer::Given(next) => put_byte(out, next, b'\n'),
-        Answer::NoCase => refuse(out, at),
+pub fn answer(case: &[u8], text: &mut Text, out: &mut Buffer) {
+    match ask(case, text, out) {
+        Some(()) => out.put(b'\n'),
+        None => refuse(out),
     }
 }
 
-fn ask(case: &[u8], text: &mut Text, out: &mut Buffer, at: Place) -> Answer {
+// What is no case gives None, and nothing is put.
+fn ask(case: &[u8], text: &mut Text, out: &mut Buffer) -> Option<()> {
     // a case has a space for each argument
     let arguments = count_byte(case, b' ');
-    let given = leaves::answer(case, arguments, text, out, at);
-    if let Answer::Given(_) = given {
-        return given;
-    }
-    let given = lines::answer(case, arguments, text, out, at);
-    if let Answer::Given(_) = given {
-        return given;
-    }
-    let given = turning::answer(case, arguments, out, at);
-    if let Answer::Given(_) = given {
-        return given;
-    }
-    let given = joining::answer(case, arguments, text, out, at);
-    if let Answer::Given(_) = given {
-        return given;
-    }
-    let given = infos::answer(case, arguments, text, out, at);
-    if let Answer::Given(_) = given {
-        return given;
-    }
-    let given = sampling::answer(case, arguments, text, out, at);
-    if let Answer::Given(_) = given {
-        return given;
-    }
-    ask_genotypes(case, arguments, text, out, at)
-}
-
-// The areas of genotypes.
-fn ask_genotypes(
-    case: &[u8],
-    arguments: usize,
-    text: &mut Text,
-    out: &mut Buffer,
-    at: Place,
-) -> Answer {
-    let given = genotypes::answer(case, arguments, text, out, at);
-    if let Answer::Given(_) = given {
-        return given;
-    }
-    let given = numbers::answer(case, arguments, out, at);
-    if let Answer::Given(_) = given {
-        return given;
-    }
-    let given = spellings::answer(case, arguments, out, at);
-    if let Answer::Given(_) = given {
-        return given;
-    }
-    let given = vectors::answer(case, arguments, text, out, at);
-    if let Answer::Given(_) = given {
-        return given;
-    }
-    rows::answer(case, arguments, text, out, at)
+    leaves::answer(case, arguments, text, out)
+        .or_else(|| lines::answer(case, arguments, text, out))
+        .or_else(|| turning::answer(case, arguments, out))
+        .or_else(|| joining::answer(case, arguments, text, out))
+        .or_else(|| infos::answer(case, arguments, text, out))
+        .or_else(|| sampling::answer(case, arguments, text, out))
+        .or_else(|| genotypes::answer(case, arguments, text, out))
+        .or_else(|| numbers::answer(case, arguments, out))
+        .or_else(|| spellings::answer(case, arguments, out))
+        .or_else(|| vectors::answer(case, arguments, text, out))
+        .or_else(|| rows::answer(case, arguments, text, out))
 }
 
 // The answer line of what is no case.
-pub fn refuse(out: &mut Buffer, at: Place) -> Place {
-    let next = put_byte(out, at, b'?');
-    put_byte(out, next, b'\n')
+pub fn refuse(out: &mut Buffer) {
+    out.put_bytes(b"?\n");
 }

@@ -1,14 +1,14 @@
 -- Laws of digits and of what they are worth, from the first digit on and from the last. Assumes nothing.
-use Prim.Native.Nat.{ℕ, ◌+◌, ◌-◌, ◌*◌, ◌≤◌, ◌<◌}
+use Prim.Native.Nat.{ℕ, ◌+◌, ◌-◌, ◌*◌, ◌≤◌}
 use mathlib.Core.Path.{◌≡◌, sym}
-use mathlib.Core.Bool.{true, false, ◌&&◌, and_assoc, and-true, and-false, and-eq-true_iff}
+use mathlib.Core.Bool.{true, ◌&&◌, and_assoc, and-true, and-eq-true_iff}
 use mathlib.Core.List.{List, [], ◌∷◌, ◌++◌}
 use native.Mathlib.Omega.{arith}
 use native.Mathlib.Nat.{pow-suc}
 use native.Mathlib.Numerals.{add-one}
 use lib.ListN.{length-append}
 use lib.Dec.{leb}
-use borrow.Author.Tests.{le-leb, lt-leb, leb-true}
+use borrow.Author.Tests.{le-leb, leb-true}
 use Rattle.decimal.specs.Decimal.{is_digit, all_digits, worth}
 
 -- ---- the test
@@ -16,14 +16,6 @@ use Rattle.decimal.specs.Decimal.{is_digit, all_digits, worth}
 pub digit_yes : (b : ℕ) → 48 ≤ b → b ≤ 57 → is_digit b ≡ true
 unfolding is_digit
 digit_yes b p q = simp (le-leb _ _ p, le-leb _ _ q)
-
-pub digit_low : (b : ℕ) → b < 48 → is_digit b ≡ false
-unfolding is_digit
-digit_low b p = simp (lt-leb _ _ p)
-
-pub digit_high : (b : ℕ) → 57 < b → is_digit b ≡ false
-unfolding is_digit
-digit_high b p = simp (lt-leb _ _ p, and-false)
 
 pub digit_range : (b : ℕ) → is_digit b ≡ true → (48 ≤ b) × (b ≤ 57)
 unfolding is_digit

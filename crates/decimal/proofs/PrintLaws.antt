@@ -1,5 +1,5 @@
 -- Printing the shortest decimal: one walk finds how many digits there are and the power of the first, and they are written from the first to the last. Assumes nothing.
-use Prim.Native.Nat.{ℕ, zero, suc, ◌+◌, ◌-◌, ◌*◌, ◌/◌, ◌%◌, ◌^◌, ◌≤◌, ◌<◌, zero-le}
+use Prim.Native.Nat.{ℕ, suc, ◌+◌, ◌-◌, ◌*◌, ◌/◌, ◌%◌, ◌^◌, ◌≤◌, ◌<◌, zero-le}
 use mathlib.Core.Path.{◌≡◌, refl, sym, ap, ◌∙◌}
 use mathlib.Core.List.{List, ◌∷◌}
 use native.Mathlib.Omega.{arith}
@@ -10,11 +10,11 @@ use mir.Val.{Fits}
 use lib.ListN.{length, set, length-set}
 use lib.Seq.{sets}
 use lib.Dec.{lit<}
+use Rattle.std.specs.Prelude.{Ok, Err}
 use Rattle.text.specs.Over.{over, Writes}
-use Rattle.text.specs.Paper.{written_paper}
-use Rattle.text.specs.declared.copy.Written.TheVariants.{Done, Short}
+use Rattle.text.specs.declared.copy.NoRoom.{NoRoom}
 use Rattle.text.proofs.Lists.{sets_over}
-use Rattle.text.proofs.CopyLaws.{copy_short, room_fits}
+use Rattle.text.proofs.CopyLaws.{copy_short, copy_done}
 use Rattle.decimal.specs.Shortest.{shortest}
 use Rattle.decimal.specs.Inner.{Sizes}
 use Rattle.decimal.specs.declared.print.Size.{Size}
@@ -65,12 +65,15 @@ pub record Putting (n power rest i : ℕ) (l₀ l : List ℕ) : Type 0 where
   pub is : power ≡ 10 ^ more
   pub below : rest < 10 ^ suc more
   pub len : length l ≡ length l₀
-  pub within : i + suc more ≤ length l₀
+  pub whole : i + suc more ≡ length (shortest n)
   pub fits : length (shortest n) ≤ length l₀
   pub same : sets l i (last_digits (suc more) rest) ≡ sets l₀ 0 (shortest n)
 
 power_some : (k : ℕ) → 1 ≤ 10 ^ k
 power_some k = pow-le-pow_right (lit< tt) {i = 0} zero-le
+
+pub put_some : {n : ℕ} {s : Size} → Sizes n s → 1 ≤ s.len
+put_some {n} z = let o = length_some n in let c = z.count in omega arith
 
 pub put_first : {n : ℕ} {s : Size} {l : List ℕ} → Sizes n s → s.len ≤ length l → Putting n s.power n 0 l l
 put_first {n} {s} {l} z h =
@@ -81,68 +84,68 @@ put_first {n} {s} {l} z h =
       is = omega arith;
       below = rw (← e) (below_power n);
       len = refl;
-      within = let c = z.count in omega arith;
+      whole = omega arith;
       fits = let c = z.count in omega arith;
       same = ap (sets l 0) (sym (shortest_last n ∙ ap (λ (k : ℕ). last_digits k n) e));
     }
 
 module _ {n power rest i : ℕ} {l₀ l : List ℕ} (g : Putting n power rest i l₀ l) where
-  pub put_within : i < length l
-  put_within = let w = g.within in let e = g.len in omega arith
+  pub put_within : {s : Size} → Sizes n s → i < s.len → i < length l
+  put_within z h = let c = z.count in let w = g.fits in let e = g.len in omega arith
+
+  pub put_power : 0 < power
+  put_power = let e = g.is in let o = power_some g.more in omega arith
 
   pub put_digit : rest / power ≤ 9
   put_digit =
-      let p : 0 < power = let e = g.is in let o = power_some g.more in omega arith in
+      let p = put_power in
       let b = rw (pow-suc, ← g.is) at g.below in
       let d = (div-lt_iff_lt-mul {k = power} {x = rest} {y = 10} p).1 (omega arith) in
       omega arith
 
-  pub put_turn : {d : ℕ} → 1 < power → d ≡ 48 + rest / power → Putting n (power / 10) (rest % power) (i + 1) l₀ (set l i d)
-  put_turn {d} h e = by g.more refl
-    where
-      by : (k : ℕ) → g.more ≡ k → Putting n (power / 10) (rest % power) (i + 1) l₀ (set l i d)
-      by zero q = let x = rw q at g.is in absurd (omega arith)
-      by (suc j) q =
-          let x : power ≡ 10 ^ suc j = g.is ∙ ap (λ (k : ℕ). 10 ^ k) q in
-          let y = rw pow-suc at x in
-          let f = first_digit (suc j) (rest / power) (rest % power) (let b = put_digit in omega arith) (rw (← x) (mod-lt rest (omega arith))) in
-          let v : last_digits (suc (suc j)) rest ≡ (48 + rest / power) ∷ last_digits (suc j) (rest % power) = rw (← x, div-add-mod' rest power) at f in
-          record {
-            more = j;
-            is = omega arith;
-            below = rw (← x) (mod-lt rest (omega arith));
-            len = simp length-set g.len;
-            within = let w = g.within in omega arith;
-            fits = g.fits;
-            same = rw (e, add-one) (rw (q, v) at g.same);
-          }
+  module _ {s : Size} (z : Sizes n s) where
+    pub put_turn : {d : ℕ} → i < s.len - 1 → d ≡ 48 + rest / power → Putting n (power / 10) (rest % power) (i + 1) l₀ (set l i d)
+    put_turn {d} h e =
+        let c = z.count in
+        let w = g.whole in
+        let q : g.more ≡ suc (g.more - 1) = omega arith in
+        let j = g.more - 1 in
+        let x : power ≡ 10 ^ suc j = g.is ∙ ap (λ (k : ℕ). 10 ^ k) q in
+        let y = rw pow-suc at x in
+        let p = put_power in
+        let f = first_digit (suc j) (rest / power) (rest % power) (let b = put_digit in omega arith) (rw (← x) (mod-lt rest p)) in
+        let v : last_digits (suc (suc j)) rest ≡ (48 + rest / power) ∷ last_digits (suc j) (rest % power) = rw (← x, div-add-mod' rest power) at f in
+        record {
+          more = j;
+          is = omega arith;
+          below = rw (← x) (mod-lt rest p);
+          len = simp length-set g.len;
+          whole = omega arith;
+          fits = g.fits;
+          same = rw (e, add-one) (rw (q, v) at g.same);
+        }
 
-  lasts : power ≤ 1 → g.more ≡ 0
-  lasts h = by g.more refl
-    where
-      by : (k : ℕ) → g.more ≡ k → g.more ≡ 0
-      by zero q = q
-      by (suc j) q = let x = rw (q, pow-suc) at g.is in let o = power_some j in absurd (omega arith)
+    module _ (h : s.len - 1 ≤ i) (k : i ≤ s.len - 1) where
+      lasts : g.more ≡ 0
+      lasts = let c = z.count in let w = g.whole in omega arith
 
-  pub put_small : power ≤ 1 → rest ≤ 9
-  put_small h = let b = rw (lasts h) at g.below in omega arith
+      pub put_small : rest ≤ 9
+      put_small = let b = rw lasts at g.below in omega arith
 
-  pub put_last : {d : ℕ} → power ≤ 1 → d ≡ 48 + rest → set l i d ≡ over (shortest n) l₀
-  unfolding last_digits
-  put_last h e =
-      let m : rest % 10 ≡ rest = let b = put_small h in omega arith in
-      rw e ((rw (lasts h, m) at g.same) ∙ sets_over (shortest n) l₀ g.fits)
+      pub put_last : {d : ℕ} → d ≡ 48 + rest → set l (s.len - 1) d ≡ over (shortest n) l₀
+      unfolding last_digits
+      put_last e =
+          let m : rest % 10 ≡ rest = let b = put_small in omega arith in
+          let j : s.len - 1 ≡ i = omega arith in
+          rw (e, j) ((rw (lasts, m) at g.same) ∙ sets_over (shortest n) l₀ g.fits)
 
 -- ---- where there is room, and where not
 
 module _ {n : ℕ} {s : Size} (z : Sizes n s) {l : List ℕ} where
-  pub print_short : length l < s.len → Writes (shortest n) l Short l
+  pub print_short : {no : NoRoom} → length l < s.len → Writes (shortest n) l (Err no) l
   print_short h = copy_short (let c = z.count in omega arith)
 
-  pub print_done : {l' : List ℕ} → s.len ≤ length l → l' ≡ over (shortest n) l → Writes (shortest n) l (Done s.len) l'
-  unfolding written_paper
-  print_done h e =
-      let f = room_fits (shortest n) l (let c = z.count in omega arith) in
-      record { answer = rw z.count (sym f); bytes = rw f e }
+  pub print_done : {l' : List ℕ} → s.len ≤ length l → l' ≡ over (shortest n) l → Writes (shortest n) l (Ok s.len) l'
+  print_done h e = copy_done (let c = z.count in omega arith) z.count e
 
-pub ruleset laws = (size_first, size_fits, size_turn, size_past, put_first, put_within, put_digit, put_turn, put_small, put_last, print_short, print_done)
+pub ruleset laws = (size_first, size_fits, size_turn, size_past, put_some, put_first, put_within, put_power, put_digit, put_turn, put_small, put_last, print_short, print_done)

@@ -11,13 +11,14 @@ use mir.Val.{Fits}
 use lib.ListN.{length, get_or, take, drop, drop_of_length-le, length-drop}
 use lib.Dec.{leb, lit<}
 use borrow.Author.Tests.{le-leb, lt-leb, eq-eqb, ne_eqb}
+use Rattle.std.specs.Prelude.{Result, Ok, Err}
+use Rattle.std.specs.Char.{is_ascii_digit}
 use Rattle.text.specs.Pick.{pick}
 use Rattle.text.proofs.Lists.{here, rest_all}
-use Rattle.decimal.specs.Decimal.{is_digit, all_digits, worth, digits_value, value_of, digits_fault, fault_of, value_answer, digits_answer, decimal_answer}
+use Rattle.decimal.specs.Decimal.{is_digit, all_digits, worth, digits_value, value_of, first_place, digits_fault, fault_of, value_answer, digits_answer, decimal_answer}
 use Rattle.decimal.specs.Paper.{number_paper}
-use Rattle.decimal.specs.declared.read.Number.{Number}
-use Rattle.decimal.specs.declared.read.Number.TheVariants.{Value, Bad}
-use Rattle.decimal.proofs.Digits.{digit_yes, digit_low, digit_high}
+use Rattle.decimal.specs.declared.read.BadDecimal.{BadDecimal}
+use Rattle.decimal.proofs.Digits.{digit_range}
 use Rattle.decimal.proofs.Value.{answer_value, answer_bad}
 use Rattle.decimal.proofs.FaultLaws.{fault_within, worth_take, stops_digit, stops_over, stops_not, Unstopped, unstopped_first, unstopped_turn, stopped}
 
@@ -82,11 +83,14 @@ after_none a h = simp (mul-one, add-zero, bounded_good a h)
 
 -- ---- the answer, from the value
 
-bad : (s : List ℕ) {k : ℕ} → digits_value s ≡ none → k ≡ digits_fault s → number_paper (Bad k) ≡ digits_answer s
+abbrev pub fault_at : ℕ → BadDecimal
+fault_at k = record { at = k }
+
+bad : (s : List ℕ) {k : ℕ} → digits_value s ≡ none → k ≡ digits_fault s → number_paper (Err (fault_at k)) ≡ digits_answer s
 unfolding number_paper digits_answer value_answer
 bad s e f = rw (e, f)
 
-good : (s : List ℕ) (n : ℕ) → digits_value s ≡ some n → number_paper (Value n) ≡ digits_answer s
+good : (s : List ℕ) (n : ℕ) → digits_value s ≡ some n → number_paper (Ok n) ≡ digits_answer s
 unfolding number_paper digits_answer value_answer
 good s n e = rw e
 
@@ -100,7 +104,7 @@ pub record Going (s : List ℕ) (a i : ℕ) : Type 0 where
   pub sofar : worth (take i s) ≡ a
   pub faultless : Unstopped s i
 
-pub nothing : (s : List ℕ) → length s ≡ 0 → number_paper (Bad 0) ≡ digits_answer s
+pub nothing : (s : List ℕ) → length s ≡ 0 → number_paper (Err (fault_at 0)) ≡ digits_answer s
 unfolding digits_value digits_fault
 nothing [] h = bad [] refl refl
 nothing (b ∷ s) h = absurd (omega arith)
@@ -112,90 +116,91 @@ first (b ∷ s) n = record { within = omega arith; fits = omega arith; same = sy
 
 -- premises in the code's own words: the byte is a digit or not, the number so far is at most a tenth of the greatest, a digit d fits
 module _ {s : List ℕ} {a i : ℕ} (g : Going s a i) (h : i < length s) where
-  step : is_digit (get_or s i 0) ≡ true → after (a * 10 + (get_or s i 0 - 48)) (drop (i + 1) s) ≡ digits_value s
-  step d = sym (after_digit a (get_or s i 0) (drop (i + 1) s) d) ∙ (rw (here s i h) at g.same)
+  pub stop : {r : Bool} → r ≡ is_ascii_digit (get_or s i 0) → r ≡ false → number_paper (Err (fault_at i)) ≡ digits_answer s
+  unfolding is_digit
+  stop e f = bad s (sym (rw (here s i h) at g.same) ∙ after_stop a _ _ (sym e ∙ f)) (stopped g.faultless h (stops_digit s i (sym e ∙ f)))
 
-  more : worth (take (i + 1) s) ≡ a * 10 + (get_or s i 0 - 48)
-  more = rw g.sofar at (worth_take s i h)
+  module _ {r : Bool} (e : r ≡ is_ascii_digit (get_or s i 0)) (f : r ≡ true) where
+    digit : is_digit (get_or s i 0) ≡ true
+    unfolding is_digit
+    digit = sym e ∙ f
 
-  pub turn : {d : ℕ} → 48 ≤ get_or s i 0 → get_or s i 0 ≤ 57 → a ≤ 1844674407370955161 → d ≡ get_or s i 0 - 48
-      → d ≤ 18446744073709551615 - a * 10 → Going s (a * 10 + d) (i + 1)
-  turn p q t e f =
-      let w = more in
-      rw e
-      (record {
-        within = omega arith;
-        fits = omega arith;
-        same = step (digit_yes _ p q);
-        sofar = w;
-        faultless = unstopped_turn g.faultless h (stops_not s i (digit_yes _ p q) (omega arith));
-      })
+    step : after (a * 10 + (get_or s i 0 - 48)) (drop (i + 1) s) ≡ digits_value s
+    step = sym (after_digit a (get_or s i 0) (drop (i + 1) s) digit) ∙ (rw (here s i h) at g.same)
 
-  stop : is_digit (get_or s i 0) ≡ false → number_paper (Bad i) ≡ digits_answer s
-  stop d = bad s (sym (rw (here s i h) at g.same) ∙ after_stop a _ _ d) (stopped g.faultless h (stops_digit s i d))
+    more : worth (take (i + 1) s) ≡ a * 10 + (get_or s i 0 - 48)
+    more = rw g.sofar at (worth_take s i h)
 
-  pub stop_low : get_or s i 0 < 48 → number_paper (Bad i) ≡ digits_answer s
-  stop_low p = stop (digit_low _ p)
+    pub digit_low : 48 ≤ get_or s i 0
+    digit_low = (digit_range _ digit).0
 
-  pub stop_high : 57 < get_or s i 0 → number_paper (Bad i) ≡ digits_answer s
-  stop_high p = stop (digit_high _ p)
+    pub turn : {d : ℕ} → d ≡ get_or s i 0 - 48 → a ≤ 1844674407370955161 → d ≤ 18446744073709551615 - a * 10 → Going s (a * 10 + d) (i + 1)
+    turn q t k =
+        let w = more in
+        rw q
+        (record {
+          within = omega arith;
+          fits = omega arith;
+          same = step;
+          sofar = w;
+          faultless = unstopped_turn g.faultless h (stops_not s i digit (omega arith));
+        })
 
-  over : 48 ≤ get_or s i 0 → get_or s i 0 ≤ 57 → 18446744073709551615 < a * 10 + (get_or s i 0 - 48) → number_paper (Bad i) ≡ digits_answer s
-  over p q o =
-      let w = more in
-      bad s (sym (step (digit_yes _ p q)) ∙ after_over _ _ o) (stopped g.faultless h (stops_over s i (omega arith)))
+    over : 18446744073709551615 < a * 10 + (get_or s i 0 - 48) → number_paper (Err (fault_at i)) ≡ digits_answer s
+    over o =
+        let w = more in
+        bad s (sym step ∙ after_over _ _ o) (stopped g.faultless h (stops_over s i (omega arith)))
 
-  pub stop_tenth : 48 ≤ get_or s i 0 → get_or s i 0 ≤ 57 → 1844674407370955161 < a → number_paper (Bad i) ≡ digits_answer s
-  stop_tenth p q o = over p q (omega arith)
+    pub over_tenth : 1844674407370955161 < a → number_paper (Err (fault_at i)) ≡ digits_answer s
+    over_tenth o = over (omega arith)
 
-  pub stop_digit : {d : ℕ} → 48 ≤ get_or s i 0 → get_or s i 0 ≤ 57 → d ≡ get_or s i 0 - 48 → 18446744073709551615 - a * 10 < d
-      → number_paper (Bad i) ≡ digits_answer s
-  stop_digit p q e o = over p q (omega arith)
+    pub over_digit : {d : ℕ} → d ≡ get_or s i 0 - 48 → 18446744073709551615 - a * 10 < d → number_paper (Err (fault_at i)) ≡ digits_answer s
+    over_digit q o = over (omega arith)
 
-pub past : {s : List ℕ} {a i : ℕ} → Going s a i → length s ≤ i → number_paper (Value a) ≡ digits_answer s
+pub past : {s : List ℕ} {a i : ℕ} → Going s a i → length s ≤ i → number_paper (Ok a) ≡ digits_answer s
 past {s} {a} {i} g h = good s a (sym (rw (drop_of_length-le s h) at g.same) ∙ after_none a g.fits)
 
 -- ---- the sign
 
-pub sign_none : (s : List ℕ) → length s ≡ 0 → number_paper (Bad 0) ≡ decimal_answer s
-unfolding number_paper decimal_answer value_of fault_of value_answer
-sign_none [] h = refl
-sign_none (b ∷ s) h = absurd (omega arith)
-
 -- what stands behind it, as it is lent
-module _ (r : Number) (s : List ℕ) (d : number_paper r ≡ digits_answer (take (length s - 1) (drop 1 s))) where
+module _ (r : Result ℕ BadDecimal) (s : List ℕ) (d : number_paper r ≡ digits_answer (take (length s - 1) (drop 1 s))) where
   behind : number_paper r ≡ digits_answer (drop 1 s)
   behind = rw (rest_all s 1) at d
 
-  module _ {k : ℕ} (q : r ≡ Bad k) where
-    fault : (digits_value (drop 1 s) ≡ none) × (k ≡ digits_fault (drop 1 s))
+  module _ {b : BadDecimal} (q : r ≡ Err b) where
+    fault : (digits_value (drop 1 s) ≡ none) × (b.at ≡ digits_fault (drop 1 s))
     unfolding digits_answer
     fault = answer_bad (digits_value (drop 1 s)) (digits_fault (drop 1 s)) (rw q at behind)
 
-    pub sign_fits : (length s ≡ 0 → ⊥) → length s < 2 ^ 64 → Fits w64 (k + 1)
-    sign_fits h b = let e = fault.1 in let l = fault_within (drop 1 s) in let n = length-drop 1 s in omega arith
+    pub sign_fits : 1 ≤ length s → length s < 2 ^ 64 → Fits w64 (b.at + 1)
+    sign_fits h w = let e = fault.1 in let l = fault_within (drop 1 s) in let n = length-drop 1 s in omega arith
 
-    pub sign_fault : (length s ≡ 0 → ⊥) → get_or s 0 0 ≡ 43 → number_paper (Bad (k + 1)) ≡ decimal_answer s
+    pub sign_fault : (length s ≡ 0 → ⊥) → get_or s 0 0 ≡ 43 → number_paper (Err (fault_at (b.at + 1))) ≡ decimal_answer s
     unfolding number_paper decimal_answer value_of fault_of value_answer
     sign_fault h e = by s h e fault.0 fault.1
       where
-        by : (s : List ℕ) → (length s ≡ 0 → ⊥) → get_or s 0 0 ≡ 43 → digits_value (drop 1 s) ≡ none → k ≡ digits_fault (drop 1 s)
-            → number_paper (Bad (k + 1)) ≡ decimal_answer s
+        by : (s : List ℕ) → (length s ≡ 0 → ⊥) → get_or s 0 0 ≡ 43 → digits_value (drop 1 s) ≡ none → b.at ≡ digits_fault (drop 1 s)
+            → number_paper (Err (fault_at (b.at + 1))) ≡ decimal_answer s
         by [] h e v f = absurd (h refl)
-        by (b ∷ t) h e v f = let z : k + 1 ≡ 1 + digits_fault t = omega arith in rw (eq-eqb b 43 e, v, z)
+        by (a ∷ t) h e v f = let z : b.at + 1 ≡ 1 + digits_fault t = omega arith in rw (eq-eqb a 43 e, v, z)
 
-  pub sign_value : {n : ℕ} → r ≡ Value n → (length s ≡ 0 → ⊥) → get_or s 0 0 ≡ 43 → number_paper (Value n) ≡ decimal_answer s
+  pub sign_value : {n : ℕ} → r ≡ Ok n → (length s ≡ 0 → ⊥) → get_or s 0 0 ≡ 43 → number_paper (Ok n) ≡ decimal_answer s
   unfolding number_paper digits_answer decimal_answer value_of value_answer
   sign_value {n} q h e = by s h e (answer_value (digits_value (drop 1 s)) (digits_fault (drop 1 s)) (rw q at behind))
     where
-      by : (s : List ℕ) → (length s ≡ 0 → ⊥) → get_or s 0 0 ≡ 43 → digits_value (drop 1 s) ≡ some n → number_paper (Value n) ≡ decimal_answer s
+      by : (s : List ℕ) → (length s ≡ 0 → ⊥) → get_or s 0 0 ≡ 43 → digits_value (drop 1 s) ≡ some n → number_paper (Ok n) ≡ decimal_answer s
       by [] h e v = absurd (h refl)
       by (b ∷ t) h e v = rw (eq-eqb b 43 e, v)
 
-pub sign_not : (r : Number) (s : List ℕ) → number_paper r ≡ digits_answer s → (length s ≡ 0 → ⊥) → (get_or s 0 0 ≡ 43 → ⊥)
+pub sign_none : (r : Result ℕ BadDecimal) (s : List ℕ) → number_paper r ≡ digits_answer s → length s < 1 → number_paper r ≡ decimal_answer s
+unfolding digits_answer decimal_answer value_of fault_of digits_value digits_fault first_place
+sign_none r [] d h = d
+sign_none r (b ∷ s) d h = absurd (omega arith)
+
+pub sign_not : (r : Result ℕ BadDecimal) (s : List ℕ) → number_paper r ≡ digits_answer s → (length s ≡ 0 → ⊥) → (get_or s 0 0 ≡ 43 → ⊥)
     → number_paper r ≡ decimal_answer s
 unfolding digits_answer decimal_answer value_of fault_of
 sign_not r [] d h e = absurd (h refl)
 sign_not r (b ∷ s) d h e = simp (ne_eqb _ _ e) d
 
-pub ruleset laws = (nothing, first, turn, stop_low, stop_high, stop_tenth, stop_digit, past, sign_none, sign_value, sign_fits, sign_fault, sign_not)
+pub ruleset laws = (nothing, first, stop, digit_low, turn, over_tenth, over_digit, past, sign_none, sign_value, sign_fits, sign_fault, sign_not)

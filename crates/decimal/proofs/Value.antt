@@ -6,12 +6,13 @@ use mathlib.Core.List.{List, [], ◌∷◌}
 use mathlib.Core.Option.{Option, some, none}
 use native.Mathlib.Omega.{arith}
 use lib.Dec.{leb, eqb}
+use Rattle.std.specs.Prelude.{Ok, Err}
 use borrow.Author.Tests.{le-leb, leb-true, eqb-true, ne_eqb}
 use Rattle.text.specs.Pick.{pick}
 use Rattle.decimal.specs.Demands.{Digits, Decimal, bare, signed}
 use Rattle.decimal.specs.Decimal.{all_digits, worth, digits_value, value_of, fault_of, value_answer, decimal_answer}
 use Rattle.decimal.specs.Paper.{number_paper}
-use Rattle.decimal.specs.declared.read.Number.TheVariants.{Value, Bad}
+use Rattle.decimal.specs.declared.read.BadDecimal.{BadDecimal}
 use Rattle.decimal.proofs.Digits.{digit_range, digits_cons}
 
 -- ---- a text with a value is digits, or '+' and digits
@@ -57,36 +58,29 @@ unfolding value_of
 decimal_value t (bare g h) = digits_value_lem t g h
 decimal_value t (signed {s} g h) = digits_told s g h
 
-pub value_bound : (t : List ℕ) (n : ℕ) → value_of t ≡ some n → n ≤ 18446744073709551615
-value_bound t n e = by (value_decimal t n e)
-  where
-    by : {t : List ℕ} → Decimal t n → n ≤ 18446744073709551615
-    by (bare g h) = h
-    by (signed g h) = h
-
 -- ---- the answer, read back
 
 module _ (o : Option ℕ) (f : ℕ) where
-  pub answer_value : {n : ℕ} → number_paper (Value n) ≡ value_answer o f → o ≡ some n
+  pub answer_value : {n : ℕ} → number_paper (Ok n) ≡ value_answer o f → o ≡ some n
   unfolding number_paper value_answer
   answer_value {n} e = by o e
     where
-      by : (o : Option ℕ) → number_paper (Value n) ≡ value_answer o f → o ≡ some n
+      by : (o : Option ℕ) → number_paper (Ok n) ≡ value_answer o f → o ≡ some n
       by (some m) e = cc
       by none e = cc
 
-  pub answer_bad : {k : ℕ} → number_paper (Bad k) ≡ value_answer o f → (o ≡ none) × (k ≡ f)
+  pub answer_bad : {b : BadDecimal} → number_paper (Err b) ≡ value_answer o f → (o ≡ none) × (b.at ≡ f)
   unfolding number_paper value_answer
-  answer_bad {k} e = by o e
+  answer_bad {b} e = by o e
     where
-      by : (o : Option ℕ) → number_paper (Bad k) ≡ value_answer o f → (o ≡ none) × (k ≡ f)
+      by : (o : Option ℕ) → number_paper (Err b) ≡ value_answer o f → (o ≡ none) × (b.at ≡ f)
       by (some m) e = (cc, cc)
       by none e = (refl, cc)
 
-pub told_value : (n : ℕ) (t : List ℕ) → number_paper (Value n) ≡ decimal_answer t → value_of t ≡ some n
+pub told_value : (n : ℕ) (t : List ℕ) → number_paper (Ok n) ≡ decimal_answer t → value_of t ≡ some n
 unfolding decimal_answer
 told_value n t e = answer_value (value_of t) (fault_of t) e
 
-pub told_bad : (k : ℕ) (t : List ℕ) → number_paper (Bad k) ≡ decimal_answer t → (value_of t ≡ none) × (k ≡ fault_of t)
+pub told_bad : (b : BadDecimal) (t : List ℕ) → number_paper (Err b) ≡ decimal_answer t → (value_of t ≡ none) × (b.at ≡ fault_of t)
 unfolding decimal_answer
-told_bad k t e = answer_bad (value_of t) (fault_of t) e
+told_bad b t e = answer_bad (value_of t) (fault_of t) e

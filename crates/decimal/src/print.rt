@@ -5,7 +5,7 @@ ghost use Rattle.decimal.specs.Shortest.{shortest};
 ghost use Rattle.decimal.specs.Promises.{CountsDigits};
 ghost use Rattle.decimal.specs.Inner.{Sizes};
 
-use text::copy::Written;
+use text::copy::NoRoom;
 
 // How many digits a number has, and the power of ten that the first of them counts: 1 for numbers below ten.
 #[derive(Clone, Copy)]
@@ -18,12 +18,13 @@ struct Size {
 fn size_of(n: u64) -> Size
     ensures { Sizes n result }
 {
+    // Kept: `len` counts digits while the number falls, which no range tells before.
     let mut len = 1;
     let mut power = 1;
     let mut m = n;
     while m >= 10 {
-        m = m / 10;
-        power = power * 10;
+        m /= 10;
+        power *= 10;
         len += 1;
     }
     Size { len, power }
@@ -41,7 +42,7 @@ fn digit(d: u64) -> u8
     requires { d ≤ 9 }
     ensures { result ≡ 48 + d }
 {
-    48 + d as u8
+    b'0' + d as u8
 }
 
 // Writes the digits of a number of this size, from the first to the last, which needs no division.
@@ -50,26 +51,25 @@ fn put_digits(n: u64, size: Size, out: &mut [u8])
     requires len_in_bounds { size.len ≤ length out.old }
     ensures { out.new ≡ over (shortest n) out.old }
 {
+    let last = size.len - 1;
     let mut rest = n;
     let mut power = size.power;
-    let mut i = 0;
-    while power > 1 {
+    for i in 0..last {
         out[i] = digit(rest / power);
-        rest = rest % power;
-        power = power / 10;
-        i += 1;
+        rest %= power;
+        power /= 10;
     }
-    out[i] = digit(rest);
+    out[last] = digit(rest);
 }
 
-// Writes a number's shortest decimal at the start of the output.
-pub fn print_decimal(n: u64, out: &mut [u8]) -> Written
+// Writes a number's shortest decimal at the start of the output. Answers how many bytes were written.
+pub fn print_decimal(n: u64, out: &mut [u8]) -> Result<usize, NoRoom>
     ensures { Writes (shortest n) out.old result out.new }
 {
     let size = size_of(n);
     if size.len > out.len() {
-        return Written::Short;
+        return Err(NoRoom);
     }
     put_digits(n, size, out);
-    Written::Done(size.len)
+    Ok(size.len)
 }

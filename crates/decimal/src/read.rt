@@ -2,71 +2,45 @@
 ghost use Rattle.std.specs.Prelude.{◌≡◌};
 ghost use Rattle.decimal.specs.Promises.{ReadsDigits, ReadsNumber};
 
-// What a decimal text is worth, or which of its bytes is at fault.
-#[derive(Clone, Copy)]
-pub enum Number {
-    // 0: the value.
-    Value(u64),
-    // 12: no decimal, or one that is worth too much. The place of the first byte that is not allowed, or of the digit at which
-    // the value passes the limit; or the text's length, where a digit is missing.
-    Bad(usize),
+// 12: no decimal, or one that is worth too much. The place of the first byte that is not allowed, or of the digit at which the value
+// passes the limit; or the text's length, where a digit is missing.
+#[derive(Clone, Copy, Debug, PartialEq, Eq)]
+pub struct BadDecimal {
+    pub at: usize,
 }
 
 // The greatest number, and a tenth of it.
-const MOST: u64 = 18446744073709551615;
+const MOST: u64 = u64::MAX;
 
-const TENTH: u64 = 1844674407370955161;
-
-fn wide(b: u8) -> u64
-    ensures { result ≡ b }
-{
-    b as u64
-}
+const TENTH: u64 = MOST / 10;
 
 // One or more digits and no sign, worth at most MOST.
-pub fn read_digits(s: &[u8]) -> Number
+pub fn read_digits(s: &[u8]) -> Result<u64, BadDecimal>
     ensures { ReadsDigits s.now result }
 {
-    if s.len() == 0 {
-        return Number::Bad(0);
+    if s.is_empty() {
+        return Err(BadDecimal { at: 0 });
     }
-    let mut acc: u64 = 0;
-    let mut i = 0;
-    while i < s.len() {
-        let b = s[i];
-        if b < 48 {
-            return Number::Bad(i);
+    let mut acc = 0;
+    for (i, b) in s.iter().enumerate() {
+        if !b.is_ascii_digit() {
+            return Err(BadDecimal { at: i });
         }
-        if b > 57 {
-            return Number::Bad(i);
+        let d = u64::from(*b - b'0');
+        if acc > TENTH || d > MOST - acc * 10 {
+            return Err(BadDecimal { at: i });
         }
-        if acc > TENTH {
-            return Number::Bad(i);
-        }
-        let ten = acc * 10;
-        let d = wide(b - 48);
-        if d > MOST - ten {
-            return Number::Bad(i);
-        }
-        acc = ten + d;
-        i += 1;
+        acc = acc * 10 + d;
     }
-    Number::Value(acc)
+    Ok(acc)
 }
 
 // An optional plus sign, and such digits.
-pub fn read_decimal(s: &[u8]) -> Number
+pub fn read_decimal(s: &[u8]) -> Result<u64, BadDecimal>
     ensures { ReadsNumber s.now result }
 {
-    if s.len() == 0 {
-        return Number::Bad(0);
-    }
-    if s[0] == 43 {
-        match read_digits(&s[1..]) {
-            Number::Value(n) => Number::Value(n),
-            Number::Bad(i) => Number::Bad(i + 1),
-        }
-    } else {
-        read_digits(s)
-    }
+    let [b'+', digits @ ..] = s else {
+        return read_digits(s);
+    };
+    read_digits(digits).map_err(|e| BadDecimal { at: e.at + 1 })
 }

@@ -1,6 +1,7 @@
 -- Entry lists: each way through the code is a law of `rising` and of `place_answer`; the list and what it holds, end by end. Assumes nothing.
 use Prim.Native.Nat.{ℕ, zero, suc, ◌+◌, ◌-◌, ◌<◌, ◌≤◌, zero-le}
 use mathlib.Core.Path.{◌≡◌, refl, sym, ap, ◌∙◌}
+use mathlib.Core.Logic.{◌⊎◌, inl, inr}
 use mathlib.Core.List.{List, [], ◌∷◌, flatten}
 use mathlib.Core.Bool.{Bool, true, false, ◌&&◌, and-false, and-eq-true_iff}
 use native.Mathlib.Omega.{arith}
@@ -10,6 +11,7 @@ use lib.ListN.{length, get_or, take, drop, drop_of_length-le}
 use lib.Seq.{drop-cons, drop-drop, take-add}
 use lib.Dec.{leb, ltb}
 use borrow.Author.Tests.{le-leb, lt-leb, leb-true, lt-ltb, le-ltb}
+use Rattle.std.specs.Prelude.{Result, Ok, Err}
 use Rattle.text.specs.Pick.{pick}
 use Rattle.text.specs.Answer.{says}
 use Rattle.text.specs.declared.range.Range.{Range}
@@ -17,9 +19,8 @@ use Rattle.text.proofs.Lists.{here}
 use Rattle.entries.specs.Entries.{rising, entries_from, entry_list}
 use Rattle.entries.specs.Inner.{ends_answer, start_of, place_answer, entry_answer}
 use Rattle.entries.specs.Paper.{ends_paper, entry_paper}
-use Rattle.entries.specs.declared.entries.Ends.{Ends}
-use Rattle.entries.specs.declared.entries.Ends.TheVariants as N
-use Rattle.entries.specs.declared.entries.Entry.TheVariants as E
+use Rattle.entries.specs.declared.entries.WrongEnds.{WrongEnds}
+use Rattle.entries.specs.declared.entries.NoEntry.TheVariants as N
 use Rattle.entries.proofs.PaperLaws.{ends_paper_injective}
 
 -- ---- the judge
@@ -37,19 +38,16 @@ module _ {t ends : List ℕ} {start i : ℕ} (g : Judging t ends start i) where
     judge_here : rising start (get_or ends i 0 ∷ drop (i + 1) ends) (length t) ≡ rising 0 ends (length t)
     judge_here = rw (here ends i h) at g.same
 
-    pub judge_falls : get_or ends i 0 < start → ends_paper N.Wrong ≡ ends_answer t ends
+    pub judge_wrong : {no : WrongEnds} → (get_or ends i 0 < start) ⊎ ((start ≤ get_or ends i 0) × (length t < get_or ends i 0)) → ends_paper (Err no) ≡ ends_answer t ends
     unfolding rising ends_paper ends_answer
-    judge_falls l = rw (← judge_here, lt-leb _ _ l)
-
-    pub judge_long : length t < get_or ends i 0 → ends_paper N.Wrong ≡ ends_answer t ends
-    unfolding rising ends_paper ends_answer
-    judge_long l = rw (← judge_here, lt-leb _ _ l, and-false)
+    judge_wrong (inl l) = rw (← judge_here, lt-leb _ _ l)
+    judge_wrong (inr l) = rw (← judge_here, lt-leb _ _ l.1, and-false)
 
     pub judge_turn : start ≤ get_or ends i 0 → get_or ends i 0 ≤ length t → Judging t ends (get_or ends i 0) (i + 1)
     unfolding rising
     judge_turn l w = record { within = omega arith; same = rw (le-leb _ _ l, le-leb _ _ w) at judge_here }
 
-  pub judge_past : length ends ≤ i → ends_paper N.Good ≡ ends_answer t ends
+  pub judge_past : {u : Unit} → length ends ≤ i → ends_paper (Ok u) ≡ ends_answer t ends
   unfolding rising ends_paper ends_answer
   judge_past h = let e : true ≡ rising 0 ends (length t) = rw (drop_of_length-le ends h) at g.same in rw (← e)
 
@@ -79,20 +77,17 @@ module _ (t ends : List ℕ) (i : ℕ) (h : i < length ends) where
   unfolding place_answer
   entry_fits f = entry_place ∙ rw (le-leb _ _ f.up, le-leb _ _ f.within)
 
-  pub gives_long : length t < get_or ends i 0 → entry_paper E.Wrong ≡ entry_answer t ends i
-  unfolding entry_paper place_answer
-  gives_long l = rw (entry_place, lt-leb _ _ l, and-false)
-
   module _ {start : ℕ} (e : start ≡ start_of ends i) where
-    pub gives_falls : get_or ends i 0 < start → entry_paper E.Wrong ≡ entry_answer t ends i
+    pub gives_wrong : (get_or ends i 0 < start) ⊎ ((start ≤ get_or ends i 0) × (length t < get_or ends i 0)) → entry_paper (Err N.Wrong) ≡ entry_answer t ends i
     unfolding entry_paper place_answer
-    gives_falls l = rw (entry_place, ← e, lt-leb _ _ l)
+    gives_wrong (inl l) = rw (entry_place, ← e, lt-leb _ _ l)
+    gives_wrong (inr l) = rw (entry_place, lt-leb _ _ l.1, and-false)
 
-    pub gives_place : start ≤ get_or ends i 0 → get_or ends i 0 ≤ length t → entry_paper (E.At (record { start = start; len = get_or ends i 0 - start })) ≡ entry_answer t ends i
+    pub gives_place : start ≤ get_or ends i 0 → get_or ends i 0 ≤ length t → entry_paper (Ok (record { start = start; len = get_or ends i 0 - start })) ≡ entry_answer t ends i
     unfolding entry_paper
     gives_place l w = rw e (sym (entry_fits (record { up = rw e at l; within = w })))
 
-pub gives_nothing : (t ends : List ℕ) (i : ℕ) → length ends ≤ i → entry_paper E.Nothing ≡ entry_answer t ends i
+pub gives_nothing : (t ends : List ℕ) (i : ℕ) → length ends ≤ i → entry_paper (Err N.Nothing) ≡ entry_answer t ends i
 unfolding entry_paper entry_answer
 gives_nothing t ends i h = rw (le-ltb _ _ h)
 
@@ -206,21 +201,21 @@ entries_text t ends r = rw start_at (rw sub-zero at (by 0 ends r))
 -- ---- what an answer tells
 
 -- what each verdict on ends tells
-abbrev pub EndsTell : List ℕ → List ℕ → Ends → Type 0
-EndsTell t ends N.Good = rising 0 ends (length t) ≡ true
-EndsTell t ends N.Wrong = rising 0 ends (length t) ≡ false
+abbrev pub EndsTell : List ℕ → List ℕ → Result Unit WrongEnds → Type 0
+EndsTell t ends (Ok u) = rising 0 ends (length t) ≡ true
+EndsTell t ends (Err e) = rising 0 ends (length t) ≡ false
 
 -- a verdict tells what the definition, whose paper it has, says
-pub ends_tell : (t ends : List ℕ) (x : Ends) → ends_paper x ≡ ends_answer t ends → EndsTell t ends x
+pub ends_tell : (t ends : List ℕ) (x : Result Unit WrongEnds) → ends_paper x ≡ ends_answer t ends → EndsTell t ends x
 unfolding ends_paper ends_answer
 ends_tell t ends x e = by (rising 0 ends (length t)) refl
   where
     by : (c : Bool) → rising 0 ends (length t) ≡ c → EndsTell t ends x
-    by true r = rw (ends_paper_injective x N.Good (e ∙ rw r)) r
-    by false r = rw (ends_paper_injective x N.Wrong (e ∙ rw r)) r
+    by true r = rw (ends_paper_injective x (Ok tt) (e ∙ rw r)) r
+    by false r = rw (ends_paper_injective x (Err (record {})) (e ∙ rw r)) r
 
 -- a place that is answered for an entry lies in the text
-pub entry_within : (t ends : List ℕ) (i : ℕ) (r : Range) → entry_paper (E.At r) ≡ entry_answer t ends i → r.start + r.len ≤ length t
+pub entry_within : (t ends : List ℕ) (i : ℕ) (r : Range) → entry_paper (Ok r) ≡ entry_answer t ends i → r.start + r.len ≤ length t
 unfolding entry_paper entry_answer place_answer
 entry_within t ends i r e = by (ltb i (length ends)) (leb start end && leb end (length t)) refl e
   where
@@ -231,7 +226,7 @@ entry_within t ends i r e = by (ltb i (length ends)) (leb start end && leb end (
     end = get_or ends i 0
 
     by : (c d : Bool) → (leb start end && leb end (length t)) ≡ d
-        → entry_paper (E.At r) ≡ pick c (pick d (says 0 (start ∷ (end - start) ∷ [])) (says 16 [])) (says 10 []) → r.start + r.len ≤ length t
+        → entry_paper (Ok r) ≡ pick c (pick d (says 0 (start ∷ (end - start) ∷ [])) (says 16 [])) (says 10 []) → r.start + r.len ≤ length t
     by true true q e =
         let u : r.start ≡ start = cc in
         let v : r.len ≡ end - start = cc in
@@ -242,4 +237,4 @@ entry_within t ends i r e = by (ltb i (length ends)) (leb start end && leb end (
     by true false q e = absurd (let z : ◌≡◌ {A = ℕ} 0 1 = cc in omega arith)
     by false d q e = absurd (let z : ◌≡◌ {A = ℕ} 0 1 = cc in omega arith)
 
-pub ruleset laws = (judge_first, judge_falls, judge_long, judge_turn, judge_past, start_first, start_later, gives_nothing, gives_falls, gives_long, gives_place)
+pub ruleset laws = (judge_first, judge_wrong, judge_turn, judge_past, start_first, start_later, gives_nothing, gives_wrong, gives_place)

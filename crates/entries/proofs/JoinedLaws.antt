@@ -6,27 +6,30 @@ use mathlib.Core.List.{List, [], ◌∷◌, ◌++◌, flatten, append_assoc, app
 use native.Mathlib.Omega.{arith}
 use native.Mathlib.Nat.{zero-add}
 use native.Mathlib.Decide.{dec_le}
-use lib.ListN.{length, get_or, take, drop, set, length-append}
+use lib.ListN.{length, get_or, drop, set, length-append}
 use lib.Dec.{leb}
+use denote.Ref.{Bor}
 use lib.Seq.{length-take-le}
 use borrow.Author.Tests.{le-leb, lt-leb, leb-true, leb-false}
 use borrow.Rule.Slice.PartMut.{put_mid}
-use Rattle.text.specs.Over.{over, over_at, room_answer, Writes, laid}
-use Rattle.text.specs.declared.copy.Written.{Written}
-use Rattle.text.proofs.CopyLaws.{room_fits, room_lacks, writes_fits}
-use Rattle.text.proofs.WrittenLaws.{Wrote, Lacked}
-use Rattle.text.proofs.Lists.{length_rest, rest_put, over_nil, over_append, over_at_append, over_at_one, length_over, length_over_at}
+use Rattle.std.specs.Prelude.{Result, Ok, Err}
+use Rattle.text.specs.Over.{over, over_at, room_answer, laid}
+use Rattle.text.specs.declared.copy.NoRoom.{NoRoom}
+use Rattle.text.proofs.CopyLaws.{room_fits, room_lacks, copy_short, copy_done}
+use Rattle.text.proofs.WrittenLaws.{Wrote, Lacked, writes_done, writes_short}
+use Rattle.text.proofs.Lists.{part_put, over_nil, over_append, over_at_append, over_at_one, length_over_at}
 use Rattle.pieces.specs.Pieces.{joined}
 use Rattle.pieces.proofs.PieceLaws.{joined_one, joined_more}
 use Rattle.entries.specs.Entries.{rising, entry_list}
-use Rattle.entries.specs.Inner.{ends_answer, start_of, joined_answer, JoinsList}
-use Rattle.entries.specs.Paper.{ends_paper, joined_paper}
-use Rattle.entries.specs.declared.entries.Ends.{Ends}
-use Rattle.entries.specs.declared.entries.Ends.TheVariants as N
-use Rattle.entries.specs.declared.joined.Joined.{Joined}
-use Rattle.entries.specs.declared.joined.Joined.TheVariants as J
+use Rattle.entries.specs.Inner.{start_of, joined_answer, JoinsList}
+use Rattle.entries.specs.Paper.{joined_paper}
+use Rattle.entries.specs.Promises.{MakesList, PutsList, entries_of}
+use Rattle.entries.specs.declared.list.Entries.{Entries}
+use Rattle.entries.specs.declared.entries.WrongEnds.{WrongEnds}
+use Rattle.entries.specs.declared.joined.JoinError.{JoinError}
+use Rattle.entries.specs.declared.joined.JoinError.TheVariants as J
 use Rattle.entries.proofs.PaperLaws.{joined_paper_injective}
-use Rattle.entries.proofs.EntryLaws.{start_later, rising_fits, entries_length, entries_text, entry_here, entry_past, ends_tell}
+use Rattle.entries.proofs.EntryLaws.{start_later, rising_fits, entries_length, entries_text, entry_here, entry_past}
 
 -- ---- what is joined
 
@@ -50,20 +53,20 @@ module _ (b : ℕ) (t ends : List ℕ) (r : rising 0 ends (length t) ≡ true) (
       omega arith
 
   module _ (room : ℕ) where
-    pub fits_no_end : room < get_or ends (length ends - 1) 0 → false ≡ leb (length (joined b (entry_list t ends))) room
-    fits_no_end l = let n = list_length in sym (lt-leb (length (joined b (entry_list t ends))) room (omega arith))
+    pub fits_no_end : room < get_or ends (length ends - 1) 0 → leb (get_or ends (length ends - 1) 0) room ≡ leb (length (joined b (entry_list t ends))) room
+    fits_no_end l = let n = list_length in lt-leb _ _ l ∙ sym (lt-leb (length (joined b (entry_list t ends))) room (omega arith))
 
-    pub fits_rest : {end : ℕ} → end ≡ get_or ends (length ends - 1) 0 → end ≤ room → leb (length ends - 1) (room - end) ≡ leb (length (joined b (entry_list t ends))) room
-    fits_rest {end} f l = by (leb (length ends - 1) (room - end)) refl
+    pub fits_rest : get_or ends (length ends - 1) 0 ≤ room → leb (length ends - 1) (room - get_or ends (length ends - 1) 0) ≡ leb (length (joined b (entry_list t ends))) room
+    fits_rest l = by (leb (length ends - 1) (room - get_or ends (length ends - 1) 0)) refl
       where
-        by : (c : Bool) → leb (length ends - 1) (room - end) ≡ c → c ≡ leb (length (joined b (entry_list t ends))) room
+        by : (c : Bool) → leb (length ends - 1) (room - get_or ends (length ends - 1) 0) ≡ c → c ≡ leb (length (joined b (entry_list t ends))) room
         by true e =
             let n = list_length in
-            let z : length ends - 1 ≤ room - end = leb-true _ _ e in
+            let z : length ends - 1 ≤ room - get_or ends (length ends - 1) 0 = leb-true _ _ e in
             sym (le-leb (length (joined b (entry_list t ends))) room (omega arith))
         by false e =
             let n = list_length in
-            let z : room - end < length ends - 1 = leb-false _ _ e in
+            let z : room - get_or ends (length ends - 1) 0 < length ends - 1 = leb-false _ _ e in
             sym (lt-leb (length (joined b (entry_list t ends))) room (omega arith))
 
 module _ (b : ℕ) (t ends : List ℕ) (h : length ends ≡ 0) where
@@ -86,18 +89,11 @@ module _ (b : ℕ) (t ends : List ℕ) (h : length ends ≡ 0) where
 
 -- ---- an entry, and a separator behind it
 
-module _ (b : ℕ) (p l : List ℕ) (at : ℕ) {ys : List ℕ} {r : Written} (h : at + length p < length l)
-    (w : Writes p (take (length l - at) (drop at l)) r ys) where
-  put_copied : put_mid at (length l - at) l ys ≡ over_at at p l
-  put_copied = let n = length_rest l at in rest_put at p l ys (writes_fits w (omega arith))
-
-  pub put_length : length (put_mid at (length l - at) l ys) ≡ length l
-  put_length = rw put_copied (length_over_at at p l (omega arith))
-
-  pub put_bytes : set (put_mid at (length l - at) l ys) (at + length p) b ≡ over_at at (p ++ b ∷ []) l
+module _ (b : ℕ) (p l : List ℕ) (at : ℕ) {ys : List ℕ} (h : at + length p < length l) (w : ys ≡ p) where
+  pub put_bytes : set (put_mid at (at + length p - at) l ys) (at + length p) b ≡ over_at at (p ++ b ∷ []) l
   put_bytes =
       let n = length_over_at at p l (omega arith) in
-      rw (put_copied, over_at_append at p (b ∷ []) l (omega arith), over_at_one (over_at at p l) (at + length p) b (omega arith))
+      rw (part_put at p l ys w, over_at_append at p (b ∷ []) l (omega arith), over_at_one (over_at at p l) (at + length p) b (omega arith))
 
 -- ---- writing
 
@@ -143,63 +139,71 @@ module _ {b : ℕ} {t ends l₀ l : List ℕ} {i at : ℕ} (g : Laying b t ends 
         lay_on y (ap length u ∙ length_over_at at (p ++ b ∷ []) l k)
         (rw (u, ← v, ← over_at_append at (p ++ b ∷ []) (joined b (drop (i + 1) (entry_list t ends))) l k, append_assoc))
 
-  -- the last
-  module _ (h : length ends - 1 ≤ i) where
-    last_here : joined b (drop i (entry_list t ends)) ≡ p
-    last_here = rw (entry_here t ends i g.within, ← e, entry_past t ends (i + 1) (omega arith)) (joined_one b p)
+-- the last
+module _ {b : ℕ} {t ends l₀ l : List ℕ} {i at : ℕ} (g : Laying b t ends l₀ l i at) {p : List ℕ} (e : p ≡ get_or (entry_list t ends) (length ends - 1) []) (h : length ends - 1 ≤ i) where
+  last_here : joined b (drop i (entry_list t ends)) ≡ p
+  last_here =
+      let w = g.within in
+      let f : length ends - 1 ≡ i = omega arith in
+      rw (entry_here t ends i g.within, ← rw f at e, entry_past t ends (i + 1) (omega arith)) (joined_one b p)
 
-    pub last_count : at + length p ≡ length (joined b (entry_list t ends))
-    last_count = omega (arith, g.count, ap length last_here)
+  pub last_count : at + length p ≡ length (joined b (entry_list t ends))
+  last_count = omega (arith, g.count, ap length last_here)
 
-    module _ {r : Written} {ys : List ℕ} (w : Writes p (take (length l - at) (drop at l)) r ys) where
-      pub last_bytes : put_mid at (length l - at) l ys ≡ over (joined b (entry_list t ends)) l₀
-      last_bytes =
-          let n = length_rest l at in
-          let m = last_count in
-          let k = g.room in
-          let c = g.len in
-          rest_put at p l ys (writes_fits w (omega arith)) ∙ (rw last_here at g.same)
+  pub last_room : at + length p ≤ length l
+  last_room = let m = last_count in let k = g.room in let c = g.len in omega arith
 
-      pub last_length : length (put_mid at (length l - at) l ys) ≡ length l₀
-      last_length = rw last_bytes (length_over (joined b (entry_list t ends)) l₀ g.room)
+  pub last_bytes : {ys : List ℕ} → ys ≡ p → put_mid at (at + length p - at) l ys ≡ over (joined b (entry_list t ends)) l₀
+  last_bytes {ys} w = part_put at p l ys w ∙ (rw last_here at g.same)
 
 -- ---- the answer
 
-module _ (b : ℕ) (t ends l : List ℕ) {x : Ends} (e : ends_paper x ≡ ends_answer t ends) where
-  pub joins_wrong : x ≡ N.Wrong → JoinsList b t ends l J.Wrong l
+module _ (b : ℕ) (list : Entries) (l : List ℕ) {u : Bool} (f : u ≡ leb (length (joined b (entries_of list))) (length l)) where
+  pub put_room : u ≡ true → length (joined b (entries_of list)) ≤ length l
+  put_room y = leb-true _ _ (sym f ∙ y)
+
+  pub put_short : {no : NoRoom} → u ≡ false → PutsList b list l (Err no) l
+  put_short y = copy_short (leb-false _ _ (sym f ∙ y))
+
+  pub put_done : {n : ℕ} {l' : List ℕ} → u ≡ true → n ≡ length (joined b (entries_of list)) → l' ≡ over (joined b (entries_of list)) l
+      → PutsList b list l (Ok n) l'
+  put_done y c d = copy_done (put_room y) c d
+
+-- made of ends that rise
+pub rising_here : {text ends : Bor (List ℕ)} (list : Entries) → MakesList text ends (Ok list) → rising 0 ends.now (length text.now) ≡ true
+rising_here {text} {ends} list m = rw (m.0, m.1) at list.rise
+
+module _ (b : ℕ) (text ends : Bor (List ℕ)) (l : List ℕ) where
+  pub joins_wrong : {no : WrongEnds} → MakesList text ends (Err no) → JoinsList b text.now ends.now l (Err J.Wrong) l
   unfolding joined_paper joined_answer
-  joins_wrong q = let r = rw q at (ends_tell t ends x e) in record { answer = rw r; bytes = rw r }
+  joins_wrong r = record { answer = rw r; bytes = rw r }
 
-  module _ (q : x ≡ N.Good) where
-    pub joins_rising : rising 0 ends (length t) ≡ true
-    joins_rising = rw q at (ends_tell t ends x e)
+  module _ (list : Entries) (m : MakesList text ends (Ok list)) where
+    pub joins_short : {no : NoRoom} {l' : List ℕ} → PutsList b list l (Err no) l' → JoinsList b text.now ends.now l (Err J.Short) l'
+    unfolding joined_paper joined_answer
+    joins_short {no} w =
+        let d = writes_short w refl in
+        let r = rising_here list m in
+        let k = room_lacks (joined b (entry_list text.now ends.now)) l (rw (m.0, m.1) at d.room) in
+        record { answer = rw (r, k); bytes = rw (r, k) d.bytes }
 
-    module _ {u : Bool} (f : u ≡ leb (length (joined b (entry_list t ends))) (length l)) where
-      pub joins_room : u ≡ true → length (joined b (entry_list t ends)) ≤ length l
-      joins_room y = leb-true _ _ (sym f ∙ y)
-
-      pub joins_done : {n : ℕ} {l' : List ℕ} → u ≡ true → n ≡ length (joined b (entry_list t ends)) → l' ≡ over (joined b (entry_list t ends)) l
-          → JoinsList b t ends l (J.Done n) l'
-      unfolding joined_paper joined_answer
-      joins_done y c d =
-          let m = room_fits (joined b (entry_list t ends)) l (joins_room y) in
-          record { answer = rw (joins_rising, m, c); bytes = rw (joins_rising, m) d }
-
-      pub joins_short : u ≡ false → JoinsList b t ends l J.Short l
-      unfolding joined_paper joined_answer
-      joins_short y =
-          let m = room_lacks (joined b (entry_list t ends)) l (leb-false _ _ (sym f ∙ y)) in
-          record { answer = rw (joins_rising, m); bytes = rw (joins_rising, m) }
+    pub joins_done : {n : ℕ} {l' : List ℕ} → PutsList b list l (Ok n) l' → JoinsList b text.now ends.now l (Ok n) l'
+    unfolding joined_paper joined_answer
+    joins_done w =
+        let d = writes_done w refl in
+        let r = rising_here list m in
+        let k = room_fits (joined b (entry_list text.now ends.now)) l (rw (m.0, m.1) at d.room) in
+        record { answer = rw (r, k, rw (m.0, m.1) at d.count); bytes = rw (r, k) (rw (m.0, m.1) at d.bytes) }
 
 -- ---- what an answer tells
 
 -- what each answer of the writer tells, where the ends rise
-abbrev pub JoinedTells : ℕ → List ℕ → List ℕ → List ℕ → List ℕ → Joined → Type 0
-JoinedTells b t ends l l' (J.Done n) = Wrote (joined b (entry_list t ends)) l n l'
-JoinedTells b t ends l l' J.Wrong = ⊥
-JoinedTells b t ends l l' J.Short = Lacked (joined b (entry_list t ends)) l l'
+abbrev pub JoinedTells : ℕ → List ℕ → List ℕ → List ℕ → List ℕ → Result ℕ JoinError → Type 0
+JoinedTells b t ends l l' (Ok n) = Wrote (joined b (entry_list t ends)) l n l'
+JoinedTells b t ends l l' (Err J.Wrong) = ⊥
+JoinedTells b t ends l l' (Err J.Short) = Lacked (joined b (entry_list t ends)) l l'
 
-pub joined_tells : {b : ℕ} {t ends l l' : List ℕ} (x : Joined) → JoinsList b t ends l x l' → rising 0 ends (length t) ≡ true → JoinedTells b t ends l l' x
+pub joined_tells : {b : ℕ} {t ends l l' : List ℕ} (x : Result ℕ JoinError) → JoinsList b t ends l x l' → rising 0 ends (length t) ≡ true → JoinedTells b t ends l l' x
 unfolding joined_paper joined_answer
 joined_tells {b} {t} {ends} {l} {l'} x g r = by (dec_le (length vs) (length l))
   where
@@ -214,12 +218,12 @@ joined_tells {b} {t} {ends} {l} {l'} x g r = by (dec_le (length vs) (length l))
 
     by : Dec (length vs ≤ length l) → JoinedTells b t ends l l' x
     by (yes h) =
-        rw (joined_paper_injective x (J.Done (length vs)) (answer ∙ room_fits vs l h))
+        rw (joined_paper_injective x (Ok (length vs)) (answer ∙ room_fits vs l h))
         (record { room = h; count = refl; bytes = bytes ∙ rw (room_fits vs l h) })
     by (no h) =
         let m : length l < length vs = omega arith in
-        rw (joined_paper_injective x J.Short (answer ∙ room_lacks vs l m)) (record { room = m; bytes = bytes ∙ rw (room_lacks vs l m) })
+        rw (joined_paper_injective x (Err J.Short) (answer ∙ room_lacks vs l m)) (record { room = m; bytes = bytes ∙ rw (room_lacks vs l m) })
 
-pub ruleset lay_laws = (none_count, none_bytes, lay_first, lay_room, lay_turn, last_count, last_bytes, last_length)
+pub ruleset lay_laws = (none_count, none_bytes, lay_first, lay_room, lay_turn, last_count, last_room, last_bytes)
 
-pub ruleset laws = (fits_none, fits_no_end, fits_rest, put_length, put_bytes, joins_wrong, joins_rising, joins_room, joins_done, joins_short)
+pub ruleset laws = (fits_none, fits_no_end, fits_rest, put_bytes, put_room, put_short, put_done)

@@ -2,13 +2,19 @@
 use Prim.Native.Nat.{ℕ, ◌+◌, ◌^◌, ◌<◌, ◌≤◌}
 use mathlib.Core.Path.{◌≡◌, refl, ◌∙◌}
 use mathlib.Core.Bool.{true}
+use mathlib.Core.Logic.{◌⊎◌, inl, inr}
 use mathlib.Core.List.{List, []}
 use native.Mathlib.Omega.{arith}
 use denote.Ref.{Bor}
 use mir.Syntax.{w64}
 use mir.Val.{Fits}
 use lib.ListN.{length, get_or}
+use borrow.Author.Tests.{le-ltb}
 use borrow.Rule.Slice.PartAt.{sl_partˢ}
+use Rattle.std.specs.Prelude.{Result, Ok, Err}
+use Rattle.std.specs.Result.{result_unwrap_or}
+use Rattle.std.proofs.lemmas.Bool.{cases_lt}
+use Rattle.std.proofs.lemmas.List.{get_or_past}
 use Rattle.text.specs.Range.{range_at, cut}
 use Rattle.text.specs.declared.range.Range.{Range}
 use Rattle.text.proofs.Lists.{cut_is}
@@ -17,25 +23,18 @@ use Rattle.entries.specs.Entries.{rising, entry_list}
 use Rattle.entries.specs.Inner.{entry_answer, entry_range, PlacesEntry}
 use Rattle.entries.specs.Paper.{entry_paper}
 use Rattle.entries.specs.Promises.{ShowsEntry}
-use Rattle.entries.specs.declared.entries.Entry.{Entry}
-use Rattle.entries.specs.declared.entries.Entry.TheVariants as E
-use Rattle.entries.proofs.EntryLaws.{entry_rising, entry_cut, entry_within}
+use Rattle.entries.specs.declared.entries.NoEntry.{NoEntry}
+use Rattle.entries.specs.declared.entries.NoEntry.TheVariants as N
+use Rattle.entries.proofs.EntryLaws.{entry_rising, entry_cut, entry_within, entries_length}
 
 -- ---- the place
 
-module _ (t ends : List ℕ) (i : ℕ) (x : Entry) (e : entry_paper x ≡ entry_answer t ends i) where
-  pub place_at : {r : Range} → x ≡ E.At r → PlacesEntry t ends i r
-  unfolding entry_range entry_paper
-  place_at {r} q = let f = rw q at e in record { is = rw (← f); within = entry_within t ends i r f }
-
-  pub place_none : ((r : Range) → x ≡ E.At r → ⊥) → PlacesEntry t ends i (range_at (length t) 0)
-  unfolding entry_range entry_paper
-  place_none o = by x e o
-    where
-      by : (y : Entry) → entry_paper y ≡ entry_answer t ends i → ((r : Range) → y ≡ E.At r → ⊥) → PlacesEntry t ends i (range_at (length t) 0)
-      by (E.At r) e o = absurd (o r refl)
-      by E.Nothing e o = record { is = rw (← e); within = omega arith }
-      by E.Wrong e o = record { is = rw (← e); within = omega arith }
+pub place_told : (t ends : List ℕ) (i : ℕ) (x : Result Range NoEntry) {r : Range} → entry_paper x ≡ entry_answer t ends i → r ≡ result_unwrap_or x (range_at (length t) 0)
+    → PlacesEntry t ends i r
+unfolding entry_range entry_paper
+place_told t ends i (Ok r) e q = rw q (record { is = rw (← e); within = entry_within t ends i r e })
+place_told t ends i (Err N.Nothing) e q = rw q (record { is = rw (← e); within = omega arith })
+place_told t ends i (Err N.Wrong) e q = rw q (record { is = rw (← e); within = omega arith })
 
 -- ---- the part that is lent there
 
@@ -61,4 +60,20 @@ pub entry_shown : (text : Bor (List ℕ)) (ends : List ℕ) (i : ℕ) {r : Bor (
     → r.now ≡ get_or (entry_list text.now ends) i []
 entry_shown text ends i s r h = s.bytes ∙ range_entry text.now ends i r h
 
-pub ruleset laws = (place_at, place_none, part_within, part_fits, part_shows)
+-- behind the last entry it cuts out nothing
+range_past : (t ends : List ℕ) (i : ℕ) → length ends ≤ i → cut (entry_range t ends i) t ≡ get_or (entry_list t ends) i []
+unfolding entry_range entry_answer
+range_past t ends i h =
+    let n = entries_length t ends in
+    rw (le-ltb _ _ h, get_or_past (entry_list t ends) i [] (omega arith), cut_is) refl
+
+-- so for every number it is what the list has there, or the empty text
+pub entry_or_none : (text : Bor (List ℕ)) (ends : List ℕ) (i : ℕ) {r : Bor (List ℕ)} → ShowsEntry text ends i r → rising 0 ends (length text.now) ≡ true
+    → r.now ≡ get_or (entry_list text.now ends) i []
+entry_or_none text ends i {r} s rise = by (cases_lt i (length ends))
+  where
+    by : (i < length ends) ⊎ (length ends ≤ i) → r.now ≡ get_or (entry_list text.now ends) i []
+    by (inl h) = entry_shown text ends i s rise h
+    by (inr h) = s.bytes ∙ range_past text.now ends i h
+
+pub ruleset laws = (place_told, part_within, part_fits, part_shows)

@@ -1,5 +1,5 @@
 -- What functions promise each other, here and in the crates above. Assumes nothing.
-use Rattle.std.specs.Prelude.{ℕ, zero, suc, ◌+◌, ◌-◌, ◌≤◌, ◌≡◌, List, [], ◌∷◌, length, get_or, ltb}
+use Rattle.std.specs.Prelude.{ℕ, zero, suc, ◌+◌, ◌-◌, ◌≤◌, ◌≡◌, List, [], ◌∷◌, length, get_or, ltb, Result}
 use Rattle.text.specs.Pick.{pick, within}
 use Rattle.text.specs.Answer.{Answer, says, values_of}
 use Rattle.text.specs.Range.{range_at}
@@ -8,7 +8,7 @@ use Rattle.text.specs.Over.{room_answer, laid}
 use Rattle.pieces.specs.Pieces.{joined}
 use Rattle.entries.specs.Entries.{entry_list, ordered}
 use Rattle.entries.specs.Paper.{joined_paper}
-use Rattle.entries.specs.declared.joined.Joined.{Joined}
+use Rattle.entries.specs.declared.joined.JoinError.{JoinError}
 
 -- ---- the ends of an entry list, and one entry
 
@@ -46,6 +46,6 @@ unfoldable pub joined_answer : ℕ → List ℕ → List ℕ → List ℕ → An
 joined_answer separator t ends l = ordered t ends (room_answer (joined separator (entry_list t ends)) l)
 
 -- only an answer that is done changes the output
-pub record JoinsList (separator : ℕ) (t ends l : List ℕ) (r : Joined) (l' : List ℕ) : Type 0 where
+pub record JoinsList (separator : ℕ) (t ends l : List ℕ) (r : Result ℕ JoinError) (l' : List ℕ) : Type 0 where
   pub answer : joined_paper r ≡ joined_answer separator t ends l
   pub bytes : l' ≡ laid (joined_answer separator t ends l) (joined separator (entry_list t ends)) l

@@ -5,6 +5,7 @@ use mathlib.Core.List.{List, []}
 use lib.ListN.{get_or-eq_default}
 use native.Mathlib.Omega.{arith}
 use borrow.Author.Tests.{le-leb, lt-leb}
+use Rattle.std.specs.Prelude.{Result}
 use Rattle.text.specs.Answer.{Answer, says}
 use Rattle.text.specs.declared.range.Range.{Range}
 use Rattle.record.specs.Ending.{Ending, ending_by}
@@ -13,7 +14,7 @@ use Rattle.record.specs.declared.place.Name.TheVariants as N
 use Rattle.fields.specs.Fields.{text_answer}
 use Rattle.join.specs.Join.{JoinsAt}
 use Rattle.join.specs.Paper.{joined_paper}
-use Rattle.join.specs.declared.columns.Joined.{Joined}
+use Rattle.join.specs.declared.columns.JoinError.{JoinError}
 use Rattle.exports.specs.Told.{Tells, TellsWriting}
 use Rattle.exports.specs.Places.{names, name_of, named_answer, ended_answer, ended_left}
 
@@ -48,7 +49,7 @@ module _ (t ends : List ℕ) (n at : ℕ) (out : List ℕ) {q : ℕ} {l l' : Lis
   unfolding ended_answer ended_left
   ended_none h k = record { told = rw (lt-leb _ _ h) k; output = rw (lt-leb _ _ h) }
 
-  pub ended_joined : {m : ℕ} {e : Ending} {r : Joined} {out' : List ℕ} → n ≤ 2 → m ≡ n → e ≡ ending_by m → JoinsAt t ends e at out r out' → Tells (joined_paper r) l q l'
+  pub ended_joined : {m : ℕ} {e : Ending} {r : Result ℕ JoinError} {out' : List ℕ} → n ≤ 2 → m ≡ n → e ≡ ending_by m → JoinsAt t ends e at out r out' → Tells (joined_paper r) l q l'
       → TellsWriting (ended_answer t ends n at out) (ended_left t ends n at out) l q out' l'
   unfolding ended_answer ended_left
   ended_joined h q e j k = record { told = rw (le-leb _ _ h, ← q, ← e, ← j.answer) k; output = rw (le-leb _ _ h, ← q, ← e) j.bytes }

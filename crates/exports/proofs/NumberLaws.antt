@@ -10,9 +10,5 @@ number_is a e = rw e
 pub number_by : (a : Answer) {r n : ℕ} {vs : List ℕ} → r ≡ n → a ≡ says n vs → r ≡ number_of a
 number_by a q e = rw (e, q)
 
--- the number of what it is equal to
-pub number_as : (a p : Answer) {r : ℕ} → p ≡ a → r ≡ number_of p → r ≡ number_of a
-number_as a p e q = rw (← e) q
-
 pub number_case : (a : Answer) {p : Answer} {n : ℕ} {vs : List ℕ} → p ≡ a → p ≡ says n vs → n ≡ number_of a
 number_case a e q = rw (← e, q)

@@ -7,13 +7,13 @@ ghost use Rattle.join.specs.Paper.{joined_paper};
 ghost use Rattle.exports.specs.Told.{Judges, Tells};
 ghost use Rattle.exports.specs.Promises.{JudgesFilter, JudgesAlt, CountsAlts, WritesFilters, WritesAlts, JoinsColumns};
 
-use crate::told::{VALUES, size, tell_none, tell_one, wide};
-use join::columns::{Joined, join};
+use crate::told::{VALUES, tell};
+use join::columns::{JoinError, join};
 use lists::alternate_bases;
 use lists::alternate_bases::{judge_alt, write_alts};
 use lists::filters::{judge_filter, write_filters};
-use lists::write::{Kind, Verdict, Write};
-use record::ending::ending_by;
+use lists::write::{Fault, Kind, WriteError};
+use record::ending::Ending;
 
 // The number of an invalid entry.
 fn invalid(kind: Kind) -> u64
@@ -25,13 +25,13 @@ fn invalid(kind: Kind) -> u64
     }
 }
 
-fn verdict_number(kind: Kind, verdict: Verdict) -> u64
+fn verdict_number(kind: Kind, verdict: Result<(), Fault>) -> u64
     ensures { Judges (verdict_paper kind verdict) result }
 {
     match verdict {
-        Verdict::Fine => 0,
-        Verdict::NotUtf8 => 5,
-        Verdict::Invalid => invalid(kind),
+        Ok(()) => 0,
+        Err(Fault::NotUtf8) => 5,
+        Err(Fault::Invalid) => invalid(kind),
     }
 }
 
@@ -56,19 +56,19 @@ pub extern "C" fn bruncadorza_judge_alt(alt: &[u8]) -> u64
 pub extern "C" fn bruncadorza_alt_count(column: &[u8]) -> u64
     ensures { CountsAlts column.now result }
 {
-    wide(alternate_bases::alt_count(column))
+    alternate_bases::alt_count(column) as u64
 }
 
-fn tell_write(kind: Kind, write: Write, values: &mut [u64; VALUES]) -> u64
+fn tell_write(kind: Kind, write: Result<usize, WriteError>, values: &mut [u64; VALUES]) -> u64
     ensures { Tells (write_paper kind write) values.old result values.new }
 {
     match write {
-        Write::Done(n) => tell_one(0, n, values),
-        Write::NotUtf8(i) => tell_one(5, i, values),
-        Write::Beyond => tell_none(6, values),
-        Write::Invalid(i) => tell_one(invalid(kind), i, values),
-        Write::Wrong => tell_none(16, values),
-        Write::Short => tell_none(17, values),
+        Ok(n) => tell(0, &[n], values),
+        Err(WriteError::NotUtf8(i)) => tell(5, &[i], values),
+        Err(WriteError::Beyond) => tell(6, &[], values),
+        Err(WriteError::Invalid(i)) => tell(invalid(kind), &[i], values),
+        Err(WriteError::Wrong) => tell(16, &[], values),
+        Err(WriteError::Short) => tell(17, &[], values),
     }
 }
 
@@ -102,17 +102,17 @@ pub extern "C" fn bruncadorza_write_alts(
     tell_write(Kind::Alts, write_alts(text, ends, out, at), values)
 }
 
-fn tell_joined(joined: Joined, values: &mut [u64; VALUES]) -> u64
+fn tell_joined(joined: Result<usize, JoinError>, values: &mut [u64; VALUES]) -> u64
     ensures { Tells (joined_paper joined) values.old result values.new }
 {
     match joined {
-        Joined::Done(n) => tell_one(0, n, values),
-        Joined::NotUtf8(i) => tell_one(5, i, values),
-        Joined::Beyond => tell_none(6, values),
-        Joined::Wrong => tell_none(16, values),
-        Joined::Short => tell_none(17, values),
-        Joined::Bad(i) => tell_one(18, i, values),
-        Joined::Few => tell_none(19, values),
+        Ok(n) => tell(0, &[n], values),
+        Err(JoinError::NotUtf8(i)) => tell(5, &[i], values),
+        Err(JoinError::Beyond) => tell(6, &[], values),
+        Err(JoinError::Wrong) => tell(16, &[], values),
+        Err(JoinError::Short) => tell(17, &[], values),
+        Err(JoinError::Bad(i)) => tell(18, &[i], values),
+        Err(JoinError::Few) => tell(19, &[], values),
     }
 }
 
@@ -131,7 +131,10 @@ pub extern "C" fn bruncadorza_join(
     ensures { JoinsColumns text.now ends.now ending out.old at values.old result out.new values.new }
 {
     if ending > 2 {
-        return tell_none(10, values);
+        return tell(10, &[], values);
     }
-    tell_joined(join(text, ends, ending_by(size(ending)), out, at), values)
+    tell_joined(
+        join(text, ends, Ending::by_size(ending as usize), out, at),
+        values,
+    )
 }

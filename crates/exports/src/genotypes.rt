@@ -1,46 +1,37 @@
 // Genotypes: read into three slices of one length, a number, a missing mark and a phasing for each allele, and written from them.
 // Readers write 0 or 1 for a mark or a phasing; the writer takes any number but 0 as 1.
-ghost use Rattle.std.specs.Prelude.{◌≡◌};
-ghost use Rattle.text.specs.Pick.{one_if};
+ghost use Rattle.std.specs.Prelude.{Ok};
 ghost use Rattle.allele.specs.Paper.{step_paper};
 ghost use Rattle.genotype.specs.Paper.{read_paper};
-ghost use Rattle.allele.specs.declared.step.Step.TheVariants as S;
 ghost use Rattle.spelling.specs.Paper.{write_paper};
 ghost use Rattle.exports.specs.Told.{Tells};
 ghost use Rattle.exports.specs.Promises.{TakesGenotypeStep, JudgesGenotype, JudgesChecked, ReadsGenotype, ReadsChecked, WritesGenotype};
 
-use crate::told::{VALUES, size, tell, tell_none, tell_one, tell_two};
+use crate::told::{VALUES, tell};
 use allele::allele::Allele;
-use allele::step::{Step, step_at};
-use genotype::read::{Read, judge, judge_checked, read_checked, read_genotype};
-use spelling::write::{Write, write_genotype};
-
-fn mark_of(b: bool) -> usize
-    ensures { result ≡ one_if b }
-{
-    if b { 1 } else { 0 }
-}
+use allele::step::{NoAllele, step_at};
+use genotype::read::{ReadError, judge, judge_checked, read_checked, read_genotype};
+use spelling::write::{WriteError, write_genotype};
 
 // The next place, and the allele's number, missing mark and phasing.
 fn tell_allele(allele: Allele, next: usize, values: &mut [u64; VALUES]) -> u64
-    ensures { Tells (step_paper (S.Found allele next)) values.old result values.new }
+    ensures { Tells (step_paper (Ok (allele, next))) values.old result values.new }
 {
-    let number = size(allele.number);
-    let missing = mark_of(allele.missing);
-    let phased = mark_of(allele.phased);
-    let vs = [next, number, missing, phased];
-    tell(0, &vs, values)
+    let number = allele.number as usize;
+    let missing = usize::from(allele.missing);
+    let phased = usize::from(allele.phased);
+    tell(0, &[next, number, missing, phased], values)
 }
 
-fn tell_step(step: Step, values: &mut [u64; VALUES]) -> u64
+fn tell_step(step: Result<(Allele, usize), NoAllele>, values: &mut [u64; VALUES]) -> u64
     ensures { Tells (step_paper step) values.old result values.new }
 {
     match step {
-        Step::Found(allele, next) => tell_allele(allele, next, values),
-        Step::Beyond => tell_none(6, values),
-        Step::Nothing => tell_none(10, values),
-        Step::Empty => tell_none(11, values),
-        Step::Bad(fault) => tell_one(12, fault, values),
+        Ok((allele, next)) => tell_allele(allele, next, values),
+        Err(NoAllele::Beyond) => tell(6, &[], values),
+        Err(NoAllele::Nothing) => tell(10, &[], values),
+        Err(NoAllele::Empty) => tell(11, &[], values),
+        Err(NoAllele::Bad(fault)) => tell(12, &[fault], values),
     }
 }
 
@@ -57,16 +48,16 @@ pub extern "C" fn bruncadorza_genotype_step(
     tell_step(step_at(text, at), values)
 }
 
-fn tell_read(read: Read, values: &mut [u64; VALUES]) -> u64
+fn tell_read(read: Result<usize, ReadError>, values: &mut [u64; VALUES]) -> u64
     ensures { Tells (read_paper read) values.old result values.new }
 {
     match read {
-        Read::Done(n) => tell_one(0, n, values),
-        Read::Empty => tell_none(11, values),
-        Read::Bad(k, fault) => tell_two(12, k, fault, values),
-        Read::Lengths => tell_none(16, values),
-        Read::Short => tell_none(17, values),
-        Read::Above(k) => tell_one(20, k, values),
+        Ok(n) => tell(0, &[n], values),
+        Err(ReadError::Empty) => tell(11, &[], values),
+        Err(ReadError::Bad(k, fault)) => tell(12, &[k, fault], values),
+        Err(ReadError::Lengths) => tell(16, &[], values),
+        Err(ReadError::Short) => tell(17, &[], values),
+        Err(ReadError::Above(k)) => tell(20, &[k], values),
     }
 }
 
@@ -127,17 +118,17 @@ pub extern "C" fn bruncadorza_read_genotype_checked(
     tell_read(read_checked(text, alt, numbers, missing, phased), values)
 }
 
-fn tell_write(write: Write, values: &mut [u64; VALUES]) -> u64
+fn tell_write(write: Result<usize, WriteError>, values: &mut [u64; VALUES]) -> u64
     ensures { Tells (write_paper write) values.old result values.new }
 {
     match write {
-        Write::Done(n) => tell_one(0, n, values),
-        Write::Beyond => tell_none(6, values),
-        Write::Empty => tell_none(11, values),
-        Write::Bad(k) => tell_one(12, k, values),
-        Write::Phasing => tell_none(13, values),
-        Write::Lengths => tell_none(16, values),
-        Write::Short => tell_none(17, values),
+        Ok(n) => tell(0, &[n], values),
+        Err(WriteError::Beyond) => tell(6, &[], values),
+        Err(WriteError::Empty) => tell(11, &[], values),
+        Err(WriteError::Bad(k)) => tell(12, &[k], values),
+        Err(WriteError::Phasing) => tell(13, &[], values),
+        Err(WriteError::Lengths) => tell(16, &[], values),
+        Err(WriteError::Short) => tell(17, &[], values),
     }
 }
 

@@ -1,42 +1,39 @@
 // The INFO column. The column lent is the field's text: a `.` comes as the empty text.
+ghost use Rattle.std.specs.Prelude.{Ok};
 ghost use Rattle.info.specs.Paper.{step_paper};
-ghost use Rattle.info.specs.declared.step.Step.TheVariants as S;
 ghost use Rattle.exports.specs.Told.{Tells};
 ghost use Rattle.exports.specs.Promises.{TakesInfoStep, FindsInfo, PlacesInfoValue, CountsInfo};
 
-use crate::told::{VALUES, tell, tell_one, tell_place, wide};
+use crate::told::{VALUES, tell, tell_place};
 use info::count::count;
 use info::find::{find, value_place};
-use info::step::{Entry, Step, Value, step_at};
+use info::step::{Entry, NoEntry, step_at};
 
 // The next place, the key's place, and the value's where it has one.
 fn tell_entry(entry: Entry, next: usize, values: &mut [u64; VALUES]) -> u64
-    ensures { Tells (step_paper (S.Found entry next)) values.old result values.new }
+    ensures { Tells (step_paper (Ok (entry, next))) values.old result values.new }
 {
     let key = entry.key;
-    let value = entry.value;
-    match value {
-        Value::Absent => {
-            let vs = [next, key.start, key.len];
-            tell(0, &vs, values)
-        }
-        Value::At(range) => {
-            let vs = [next, key.start, key.len, range.start, range.len];
-            tell(0, &vs, values)
-        }
+    match entry.value {
+        None => tell(0, &[next, key.start, key.len], values),
+        Some(value) => tell(
+            0,
+            &[next, key.start, key.len, value.start, value.len],
+            values,
+        ),
     }
 }
 
-fn tell_step(step: Step, values: &mut [u64; VALUES]) -> u64
+fn tell_step(step: Result<(Entry, usize), NoEntry>, values: &mut [u64; VALUES]) -> u64
     ensures { Tells (step_paper step) values.old result values.new }
 {
     match step {
-        Step::Found(entry, next) => tell_entry(entry, next, values),
-        Step::Beyond(next) => tell_one(6, next, values),
-        Step::AfterKey(next) => tell_one(7, next, values),
-        Step::NoKey(next) => tell_one(8, next, values),
-        Step::AfterValue(next) => tell_one(9, next, values),
-        Step::Nothing(next) => tell_one(10, next, values),
+        Ok((entry, next)) => tell_entry(entry, next, values),
+        Err(NoEntry::Beyond(next)) => tell(6, &[next], values),
+        Err(NoEntry::AfterKey(next)) => tell(7, &[next], values),
+        Err(NoEntry::NoKey(next)) => tell(8, &[next], values),
+        Err(NoEntry::AfterValue(next)) => tell(9, &[next], values),
+        Err(NoEntry::Nothing(next)) => tell(10, &[next], values),
     }
 }
 
@@ -81,5 +78,5 @@ pub extern "C" fn bruncadorza_info_value(
 pub extern "C" fn bruncadorza_info_count(column: &[u8]) -> u64
     ensures { CountsInfo column.now result }
 {
-    wide(count(column))
+    count(column) as u64
 }

@@ -4,12 +4,12 @@ ghost use Rattle.decimal.specs.Paper.{number_paper};
 ghost use Rattle.exports.specs.Told.{Tells};
 ghost use Rattle.exports.specs.Promises.{ChecksUtf8, FindsSpace, ReadsDecimal, PrintsDecimal};
 
-use crate::told::{VALUES, size, tell_none, tell_one};
+use crate::told::{VALUES, tell};
 use decimal::print::print_decimal;
-use decimal::read::{Number, read_decimal};
-use text::copy::Written;
-use text::space::{Space, find_space};
-use text::utf8::{Utf8, check_utf8};
+use decimal::read::{BadDecimal, read_decimal};
+use text::copy::NoRoom;
+use text::space::find_space;
+use text::utf8::{NotUtf8, check_utf8};
 
 // Whether the text is UTF-8: 0, or 5. It has no values.
 #[unsafe(no_mangle)]
@@ -17,18 +17,17 @@ pub extern "C" fn bruncadorza_check_utf8(text: &[u8]) -> u64
     ensures { ChecksUtf8 text.now result }
 {
     match check_utf8(text) {
-        Utf8::Text => 0,
-        Utf8::Broken => 5,
+        Ok(()) => 0,
+        Err(_) => 5,
     }
 }
 
-fn tell_space(space: Space, values: &mut [u64; VALUES]) -> u64
+fn tell_space(space: Result<bool, NotUtf8>, values: &mut [u64; VALUES]) -> u64
     ensures { Tells (space_paper space) values.old result values.new }
 {
     match space {
-        Space::Broken => tell_none(5, values),
-        Space::Held => tell_one(0, 1, values),
-        Space::Free => tell_one(0, 0, values),
+        Ok(held) => tell(0, &[usize::from(held)], values),
+        Err(_) => tell(5, &[], values),
     }
 }
 
@@ -40,12 +39,12 @@ pub extern "C" fn bruncadorza_find_space(text: &[u8], values: &mut [u64; VALUES]
     tell_space(find_space(text), values)
 }
 
-fn tell_number(number: Number, values: &mut [u64; VALUES]) -> u64
+fn tell_number(number: Result<u64, BadDecimal>, values: &mut [u64; VALUES]) -> u64
     ensures { Tells (number_paper number) values.old result values.new }
 {
     match number {
-        Number::Value(n) => tell_one(0, size(n), values),
-        Number::Bad(fault) => tell_one(12, fault, values),
+        Ok(n) => tell(0, &[n as usize], values),
+        Err(bad) => tell(12, &[bad.at], values),
     }
 }
 
@@ -57,12 +56,12 @@ pub extern "C" fn bruncadorza_read_decimal(text: &[u8], values: &mut [u64; VALUE
     tell_number(read_decimal(text), values)
 }
 
-fn tell_written(written: Written, values: &mut [u64; VALUES]) -> u64
+fn tell_written(written: Result<usize, NoRoom>, values: &mut [u64; VALUES]) -> u64
     ensures { Tells (written_paper written) values.old result values.new }
 {
     match written {
-        Written::Done(n) => tell_one(0, n, values),
-        Written::Short => tell_none(17, values),
+        Ok(n) => tell(0, &[n], values),
+        Err(_) => tell(17, &[], values),
     }
 }
 

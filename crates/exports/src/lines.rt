@@ -1,35 +1,34 @@
 // Lines, the texts of their fields, and POS.
-ghost use Rattle.std.specs.Prelude.{◌≡◌};
+ghost use Rattle.std.specs.Prelude.{◌≡◌, Ok};
 ghost use Rattle.line.specs.Paper.{read_paper};
-ghost use Rattle.line.specs.declared.read.Read.TheVariants as R;
-ghost use Rattle.fields.specs.Paper.{field_paper, position_paper};
+ghost use Rattle.fields.specs.Paper.{place_paper, field_paper, position_paper};
 ghost use Rattle.exports.specs.Told.{Tells};
 ghost use Rattle.exports.specs.Places.{name_of};
 ghost use Rattle.exports.specs.Promises.{ReadsLine, FindsText, FindsPlace, ReadsPos};
 
-use crate::told::{LINE_VALUES, VALUES, size, tell, tell_none, tell_one, tell_place};
-use fields::field::{Text, place_in, text_in};
-use fields::pos::{Position, read_pos};
-use line::read::{Read, read_line};
-use record::ending::ending_size;
-use record::place::{Name, Record, ending_of, place_of};
+use crate::told::{LINE_VALUES, VALUES, tell, tell_place};
+use fields::field::{Beyond, place_in, text_in};
+use fields::pos::{BadPosition, read_pos};
+use line::read::{Refusal, read_line};
+use record::place::{Name, Record};
 use text::range::Range;
 
 // The next place, and the ending and the ten places of a record.
+#[inline(always)]
 fn tell_line(line: Record, next: usize, values: &mut [u64; LINE_VALUES]) -> u64
-    ensures { Tells (read_paper (R.Line line next)) values.old result values.new }
+    ensures { Tells (read_paper (Ok (line, next))) values.old result values.new }
 {
-    let ending = ending_size(ending_of(line));
-    let chrom = place_of(line, Name::Chrom);
-    let pos = place_of(line, Name::Pos);
-    let id = place_of(line, Name::Id);
-    let reference = place_of(line, Name::Reference);
-    let alt = place_of(line, Name::Alt);
-    let qual = place_of(line, Name::Qual);
-    let filter = place_of(line, Name::Filter);
-    let info = place_of(line, Name::Info);
-    let format = place_of(line, Name::Format);
-    let samples = place_of(line, Name::Samples);
+    let ending = line.ending().size();
+    let chrom = line.place(Name::Chrom);
+    let pos = line.place(Name::Pos);
+    let id = line.place(Name::Id);
+    let reference = line.place(Name::Reference);
+    let alt = line.place(Name::Alt);
+    let qual = line.place(Name::Qual);
+    let filter = line.place(Name::Filter);
+    let info = line.place(Name::Info);
+    let format = line.place(Name::Format);
+    let samples = line.place(Name::Samples);
     let vs = [
         next,
         ending,
@@ -57,17 +56,23 @@ fn tell_line(line: Record, next: usize, values: &mut [u64; LINE_VALUES]) -> u64
     tell(0, &vs, values)
 }
 
-fn tell_read(read: Read, values: &mut [u64; LINE_VALUES]) -> u64
+// One copy for each line reader: each of its functions is then called at one place, where it is inlined, and the record that was
+// read stays in registers (docs/SPEED.md).
+#[inline(always)]
+pub(crate) fn tell_read(
+    read: Result<(Record, usize), Refusal>,
+    values: &mut [u64; LINE_VALUES],
+) -> u64
     ensures { Tells (read_paper read) values.old result values.new }
 {
     match read {
-        Read::Line(line, next) => tell_line(line, next, values),
-        Read::End(next) => tell_one(1, next, values),
-        Read::Empty(next) => tell_one(2, next, values),
-        Read::Fed(next) => tell_one(3, next, values),
-        Read::Cut(next) => tell_one(4, next, values),
-        Read::NotUtf8(next) => tell_one(5, next, values),
-        Read::Beyond(next) => tell_one(6, next, values),
+        Ok((line, next)) => tell_line(line, next, values),
+        Err(Refusal::End(next)) => tell(1, &[next], values),
+        Err(Refusal::Empty(next)) => tell(2, &[next], values),
+        Err(Refusal::Fed(next)) => tell(3, &[next], values),
+        Err(Refusal::Cut(next)) => tell(4, &[next], values),
+        Err(Refusal::NotUtf8(next)) => tell(5, &[next], values),
+        Err(Refusal::Beyond(next)) => tell(6, &[next], values),
     }
 }
 
@@ -81,13 +86,13 @@ pub extern "C" fn bruncadorza_read_line(s: &[u8], at: usize, values: &mut [u64; 
     tell_read(read_line(s, at), values)
 }
 
-fn tell_text(text: Text, values: &mut [u64; VALUES]) -> u64
+fn tell_text(text: Result<Option<Range>, Beyond>, values: &mut [u64; VALUES]) -> u64
     ensures { Tells (field_paper text) values.old result values.new }
 {
     match text {
-        Text::At(place) => tell_place(0, place, values),
-        Text::Absent => tell_none(0, values),
-        Text::Beyond => tell_none(6, values),
+        Ok(Some(place)) => tell_place(0, place, values),
+        Ok(None) => tell(0, &[], values),
+        Err(_) => tell(6, &[], values),
     }
 }
 
@@ -123,9 +128,18 @@ pub extern "C" fn bruncadorza_field_text(
     ensures { FindsText s.now name start len values.old result values.new }
 {
     if name > 9 {
-        return tell_none(10, values);
+        return tell(10, &[], values);
     }
     tell_text(text_in(s, name_of(name), Range { start, len }), values)
+}
+
+fn tell_place_in(place: Result<Range, Beyond>, values: &mut [u64; VALUES]) -> u64
+    ensures { Tells (place_paper place) values.old result values.new }
+{
+    match place {
+        Ok(place) => tell_place(0, place, values),
+        Err(_) => tell(6, &[], values),
+    }
 }
 
 // Whether a place fits the buffer: 0, or 6. Two values at most: its start and length.
@@ -138,16 +152,16 @@ pub extern "C" fn bruncadorza_place_in(
 ) -> u64
     ensures { FindsPlace s.now start len values.old result values.new }
 {
-    tell_text(place_in(s, Range { start, len }), values)
+    tell_place_in(place_in(s, Range { start, len }), values)
 }
 
-fn tell_position(position: Position, values: &mut [u64; VALUES]) -> u64
+fn tell_position(position: Result<Option<u64>, BadPosition>, values: &mut [u64; VALUES]) -> u64
     ensures { Tells (position_paper position) values.old result values.new }
 {
     match position {
-        Position::At(n) => tell_one(0, size(n), values),
-        Position::Nowhere => tell_none(0, values),
-        Position::Bad(fault) => tell_one(21, fault, values),
+        Ok(Some(n)) => tell(0, &[n as usize], values),
+        Ok(None) => tell(0, &[], values),
+        Err(bad) => tell(21, &[bad.at], values),
     }
 }
 

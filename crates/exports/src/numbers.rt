@@ -3,18 +3,18 @@ ghost use Rattle.numbering.specs.Paper.{number_paper, filled_paper};
 ghost use Rattle.exports.specs.Told.{Tells};
 ghost use Rattle.exports.specs.Promises.{CountsGenotypes, NumbersGenotype, PlacesGenotype, ListsGenotypes};
 
-use crate::told::{VALUES, size, tell_none, tell_one};
-use numbering::counts::{Numbered, count_of};
-use numbering::genotype::{Filled, genotype_of};
+use crate::told::{VALUES, tell};
+use numbering::counts::{NoGenotype, count_of};
+use numbering::genotype::{FillError, genotype_of};
 use numbering::list::list_all;
 use numbering::number::number_of;
 
-fn tell_numbered(numbered: Numbered, values: &mut [u64; VALUES]) -> u64
+fn tell_numbered(numbered: Result<u64, NoGenotype>, values: &mut [u64; VALUES]) -> u64
     ensures { Tells (number_paper numbered) values.old result values.new }
 {
     match numbered {
-        Numbered::Is(n) => tell_one(0, size(n), values),
-        Numbered::Wrong => tell_none(23, values),
+        Ok(n) => tell(0, &[n as usize], values),
+        Err(_) => tell(23, &[], values),
     }
 }
 
@@ -43,13 +43,13 @@ pub extern "C" fn bruncadorza_genotype_number(
     tell_numbered(number_of(genotype, alleles), values)
 }
 
-fn tell_filled(filled: Filled, values: &mut [u64; VALUES]) -> u64
+fn tell_filled(filled: Result<u64, FillError>, values: &mut [u64; VALUES]) -> u64
     ensures { Tells (filled_paper filled) values.old result values.new }
 {
     match filled {
-        Filled::Done(n) => tell_one(0, size(n), values),
-        Filled::Wrong => tell_none(23, values),
-        Filled::Short => tell_none(17, values),
+        Ok(n) => tell(0, &[n as usize], values),
+        Err(FillError::NoGenotype) => tell(23, &[], values),
+        Err(FillError::Short) => tell(17, &[], values),
     }
 }
 

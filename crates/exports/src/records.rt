@@ -1,22 +1,21 @@
 // The two forms of a line's record.
+ghost use Rattle.std.specs.Prelude.{Ok};
 ghost use Rattle.forms.specs.Paper.{widened_paper, narrowed_paper};
-ghost use Rattle.forms.specs.declared.turn.Widened.TheVariants as W;
-ghost use Rattle.forms.specs.declared.turn.Narrowed.TheVariants as R;
 ghost use Rattle.exports.specs.Told.{Tells};
 ghost use Rattle.exports.specs.Promises.{WidensRecord, NarrowsWide};
 
-use crate::told::{LINE_VALUES, size, tell, tell_none};
-use forms::turn::{Narrowed, Widened, narrow, widen};
-use forms::wide::{Wide, make_wide, wide_ending, wide_places};
-use record::ending::{ending_by, ending_size};
-use record::place::{Record, ending_of, make_record, numbers_of};
+use crate::told::{LINE_VALUES, tell};
+use forms::turn::{NotMade, narrow, widen};
+use forms::wide::Wide;
+use record::ending::Ending;
+use record::place::Record;
 
 // The ending and the ten places of an old form.
 fn tell_wide(wide: Wide, values: &mut [u64; LINE_VALUES]) -> u64
-    ensures { Tells (widened_paper (W.To wide)) values.old result values.new }
+    ensures { Tells (widened_paper (Ok wide)) values.old result values.new }
 {
-    let ending = ending_size(wide_ending(wide));
-    let p = wide_places(wide);
+    let ending = wide.ending().size();
+    let p = wide.places();
     let vs = [
         ending, p[0], p[1], p[2], p[3], p[4], p[5], p[6], p[7], p[8], p[9], p[10], p[11], p[12],
         p[13], p[14], p[15], p[16], p[17], p[18], p[19],
@@ -26,31 +25,31 @@ fn tell_wide(wide: Wide, values: &mut [u64; LINE_VALUES]) -> u64
 
 // The ending and the eleven numbers of a record.
 fn tell_record(line: Record, values: &mut [u64; LINE_VALUES]) -> u64
-    ensures { Tells (narrowed_paper (R.To line)) values.old result values.new }
+    ensures { Tells (narrowed_paper (Ok line)) values.old result values.new }
 {
-    let ending = ending_size(ending_of(line));
-    let n = numbers_of(line);
+    let ending = line.ending().size();
+    let n = line.numbers();
     let vs = [
         ending, n[0], n[1], n[2], n[3], n[4], n[5], n[6], n[7], n[8], n[9], n[10],
     ];
     tell(0, &vs, values)
 }
 
-fn tell_widened(widened: Widened, values: &mut [u64; LINE_VALUES]) -> u64
+fn tell_widened(widened: Result<Wide, NotMade>, values: &mut [u64; LINE_VALUES]) -> u64
     ensures { Tells (widened_paper widened) values.old result values.new }
 {
     match widened {
-        Widened::To(wide) => tell_wide(wide, values),
-        Widened::NotMade => tell_none(32, values),
+        Ok(wide) => tell_wide(wide, values),
+        Err(_) => tell(32, &[], values),
     }
 }
 
-fn tell_narrowed(narrowed: Narrowed, values: &mut [u64; LINE_VALUES]) -> u64
+fn tell_narrowed(narrowed: Result<Record, NotMade>, values: &mut [u64; LINE_VALUES]) -> u64
     ensures { Tells (narrowed_paper narrowed) values.old result values.new }
 {
     match narrowed {
-        Narrowed::To(line) => tell_record(line, values),
-        Narrowed::NotMade => tell_none(32, values),
+        Ok(line) => tell_record(line, values),
+        Err(_) => tell(32, &[], values),
     }
 }
 
@@ -66,10 +65,9 @@ pub extern "C" fn bruncadorza_widen(
     ensures { WidensRecord ending numbers.now values.old result values.new }
 {
     if ending > 2 {
-        return tell_none(32, values);
+        return tell(32, &[], values);
     }
-    let ns = *numbers;
-    let line = make_record(ending_by(size(ending)), ns);
+    let line = Record::new(Ending::by_size(ending as usize), *numbers);
     tell_widened(widen(line), values)
 }
 
@@ -84,9 +82,8 @@ pub extern "C" fn bruncadorza_narrow(
     ensures { NarrowsWide ending places.now values.old result values.new }
 {
     if ending > 2 {
-        return tell_none(32, values);
+        return tell(32, &[], values);
     }
-    let ps = *places;
-    let wide = make_wide(ending_by(size(ending)), ps);
+    let wide = Wide::new(Ending::by_size(ending as usize), *places);
     tell_narrowed(narrow(wide), values)
 }

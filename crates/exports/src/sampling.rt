@@ -4,31 +4,28 @@ ghost use Rattle.samples.specs.Paper.{key_paper};
 ghost use Rattle.exports.specs.Told.{Tells};
 ghost use Rattle.exports.specs.Promises.{CountsSamples, VisitsSample, GivesSample, GivesSubfield, FindsKey};
 
-use crate::told::{VALUES, tell, tell_none, tell_one, tell_place, wide};
-use pieces::nth::Nth;
-use pieces::step::Step;
+use crate::told::{VALUES, tell, tell_place};
+use pieces::step::{NoPiece, Piece};
 use samples::columns::{count, sample, sample_at, subfield};
-use samples::keys::{Key, key_index};
+use samples::keys::key_index;
+use text::range::Range;
 
 // How many samples there are: the count itself.
 #[unsafe(no_mangle)]
 pub extern "C" fn bruncadorza_samples_count(samples: &[u8]) -> u64
     ensures { CountsSamples samples.now result }
 {
-    wide(count(samples))
+    count(samples) as u64
 }
 
-fn tell_step(step: Step, values: &mut [u64; VALUES]) -> u64
+fn tell_step(step: Result<Piece, NoPiece>, values: &mut [u64; VALUES]) -> u64
     ensures { Tells (step_paper step) values.old result values.new }
 {
     match step {
-        Step::More(place, next) => {
-            let vs = [place.start, place.len, next];
-            tell(0, &vs, values)
-        }
-        Step::Last(place) => tell_place(0, place, values),
-        Step::Nothing => tell_none(10, values),
-        Step::Beyond => tell_none(6, values),
+        Ok(Piece::More(place, next)) => tell(0, &[place.start, place.len, next], values),
+        Ok(Piece::Last(place)) => tell_place(0, place, values),
+        Err(NoPiece::Nothing) => tell(10, &[], values),
+        Err(NoPiece::Beyond) => tell(6, &[], values),
     }
 }
 
@@ -45,12 +42,12 @@ pub extern "C" fn bruncadorza_sample_at(
     tell_step(sample_at(samples, at), values)
 }
 
-fn tell_nth(nth: Nth, values: &mut [u64; VALUES]) -> u64
+fn tell_nth(nth: Option<Range>, values: &mut [u64; VALUES]) -> u64
     ensures { Tells (nth_paper nth) values.old result values.new }
 {
     match nth {
-        Nth::At(place) => tell_place(0, place, values),
-        Nth::Nothing => tell_none(10, values),
+        Some(place) => tell_place(0, place, values),
+        None => tell(10, &[], values),
     }
 }
 
@@ -70,12 +67,12 @@ pub extern "C" fn bruncadorza_subfield(sample: &[u8], n: usize, values: &mut [u6
     tell_nth(subfield(sample, n), values)
 }
 
-fn tell_key(key: Key, values: &mut [u64; VALUES]) -> u64
+fn tell_key(key: Option<usize>, values: &mut [u64; VALUES]) -> u64
     ensures { Tells (key_paper key) values.old result values.new }
 {
     match key {
-        Key::Index(i) => tell_one(0, i, values),
-        Key::Nothing => tell_none(10, values),
+        Some(i) => tell(0, &[i], values),
+        None => tell(10, &[], values),
     }
 }
 

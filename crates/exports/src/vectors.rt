@@ -4,19 +4,19 @@ ghost use Rattle.bcf.specs.Paper.{read_paper, write_paper};
 ghost use Rattle.exports.specs.Told.{Tells};
 ghost use Rattle.exports.specs.Promises.{ReadsVector, WritesVector};
 
-use crate::told::{VALUES, tell_none, tell_one, tell_two};
-use bcf::read::{Read, read_vector};
-use bcf::write::{Write, write_vector};
+use crate::told::{VALUES, tell};
+use bcf::read::{ReadError, read_vector};
+use bcf::write::{Vector, WriteError, write_vector};
 
-fn tell_read(read: Read, values: &mut [u64; VALUES]) -> u64
+fn tell_read(read: Result<usize, ReadError>, values: &mut [u64; VALUES]) -> u64
     ensures { Tells (read_paper read) values.old result values.new }
 {
     match read {
-        Read::Done(n) => tell_one(0, n, values),
-        Read::Unknown => tell_none(27, values),
-        Read::Lengths => tell_none(16, values),
-        Read::Bad => tell_none(26, values),
-        Read::Short => tell_none(17, values),
+        Ok(n) => tell(0, &[n], values),
+        Err(ReadError::Unknown) => tell(27, &[], values),
+        Err(ReadError::Lengths) => tell(16, &[], values),
+        Err(ReadError::Bad) => tell(26, &[], values),
+        Err(ReadError::Short) => tell(17, &[], values),
     }
 }
 
@@ -37,18 +37,18 @@ pub extern "C" fn bruncadorza_read_vector(
     tell_read(read_vector(bytes, width, numbers, missing, phased), values)
 }
 
-fn tell_write(write: Write, values: &mut [u64; VALUES]) -> u64
+fn tell_write(write: Result<Vector, WriteError>, values: &mut [u64; VALUES]) -> u64
     ensures { Tells (write_paper write) values.old result values.new }
 {
     match write {
-        Write::Done(width, n) => tell_two(0, width, n, values),
-        Write::Beyond => tell_none(6, values),
-        Write::Lengths => tell_none(16, values),
-        Write::Empty => tell_none(11, values),
-        Write::Bad(k) => tell_one(12, k, values),
-        Write::Large => tell_none(24, values),
-        Write::Long => tell_none(25, values),
-        Write::Short => tell_none(17, values),
+        Ok(vector) => tell(0, &[vector.width, vector.len], values),
+        Err(WriteError::Beyond) => tell(6, &[], values),
+        Err(WriteError::Lengths) => tell(16, &[], values),
+        Err(WriteError::Empty) => tell(11, &[], values),
+        Err(WriteError::Bad(k)) => tell(12, &[k], values),
+        Err(WriteError::Large) => tell(24, &[], values),
+        Err(WriteError::Long) => tell(25, &[], values),
+        Err(WriteError::Short) => tell(17, &[], values),
     }
 }
 

@@ -5,6 +5,9 @@ use mathlib.Core.Bool.{Bool, true, false}
 use mathlib.Core.List.{List, [], ◌∷◌}
 use mathlib.Core.Option.{Option, some, none}
 use native.Mathlib.Omega.{arith}
+use Rattle.std.specs.Prelude.{Result}
+use Rattle.std.specs.Prelude as O
+use Rattle.text.specs.declared.range.Range.{Range}
 use Rattle.text.specs.Pick.{pick}
 use Rattle.text.specs.Same.{same}
 use Rattle.text.proofs.SameLaws.{same_is}
@@ -13,7 +16,7 @@ use Rattle.lists.specs.AlternateBases.{alt_count}
 use Rattle.lists.proofs.Counts.{counts}
 use Rattle.fields.specs.Fields.{read_text}
 use Rattle.fields.specs.Demands.{HasCount, AltCounted}
-use Rattle.fields.specs.declared.field.Text.{Text}
+use Rattle.fields.specs.declared.field.Beyond.{Beyond}
 use Rattle.fields.proofs.RecordLaws.{Tells, tells_at, tells_absent, field_tells}
 use Rattle.fields.proofs.Demands.{read_recorded}
 
@@ -25,7 +28,7 @@ counts_read c o e = by (same c (46 ∷ [])) refl e
     by true d q = ([], (sym q, counts.empty ∙ sym counts.dot ∙ rw (same_is c (46 ∷ []) d)))
     by false d q = (c, (sym q, refl))
 
-tells_count : {s c : List ℕ} (x : Text) → Tells s N.Alt c x → HasCount s x (alt_count c)
+tells_count : {s c : List ℕ} (x : Result (O.Option Range) Beyond) → Tells s N.Alt c x → HasCount s x (alt_count c)
 tells_count {s} {c} x (tells_at {x = range} {t = t} q l) =
     let r = counts_read c (some t) q in
     let e : t ≡ r.0 = cc in

@@ -10,15 +10,15 @@ use Rattle.text.specs.Same.{same}
 use Rattle.text.proofs.SameLaws.{same_self, same_not}
 use Rattle.record.specs.declared.place.Record.{Record}
 use Rattle.record.specs.declared.place.Name.{Name}
+use Rattle.std.specs.Prelude.{Ok}
 use Rattle.line.specs.Promises.{ReadsLine}
-use Rattle.line.specs.declared.read.Read.TheVariants as R
 use Rattle.line.proofs.CaseLaws.{read_record}
 use Rattle.line.proofs.RecordLaws.{Recorded, recorded}
 use Rattle.fields.specs.Fields.{dot_of, dot_places, field_answer}
 use Rattle.fields.specs.Demands.{ReadsAs, other, dot_itself, dot_empty, dot_absent, Made, Finds, FieldFinds, OneFinder}
 use Rattle.fields.proofs.RecordLaws.{field_reads}
 
-pub read_recorded : (s : List ℕ) (at next : ℕ) (r : Record) → ReadsLine s at (R.Line r next) → Recorded s at r
+pub read_recorded : (s : List ℕ) (at next : ℕ) (r : Record) → ReadsLine s at (Ok (r, next)) → Recorded s at r
 read_recorded s at next r m = recorded s at (sym m ∙ read_record refl)
 
 pub finds : Finds field_answer

@@ -5,10 +5,11 @@ use mathlib.Core.Bool.{Bool, true, false, ◌&&◌, and-false, and-eq-true_iff}
 use mathlib.Core.List.{List, [], ◌∷◌}
 use native.Mathlib.Omega.{arith}
 use lib.ListN.{length, get_or, drop, length-drop}
+use Rattle.std.specs.Prelude.{Option, Some, Result, Ok, Err}
 use lib.Seq.{length-take-le}
 use lib.Dec.{leb, eqb}
 use borrow.Author.Tests.{le-leb, lt-leb, leb-true}
-use Rattle.text.specs.Answer.{Answer, says}
+use Rattle.text.specs.Answer.{says}
 use Rattle.text.specs.Same.{same}
 use Rattle.text.specs.Range.{cut}
 use Rattle.text.specs.declared.range.Range.{Range}
@@ -18,9 +19,8 @@ use Rattle.record.specs.Place.{range_of}
 use Rattle.record.specs.declared.place.Record.{Record}
 use Rattle.record.specs.declared.place.Name.{Name}
 use Rattle.fields.specs.Fields.{fits_in, place_answer, dot_of, dot_places, dot_answer, text_answer, field_answer}
-use Rattle.fields.specs.Paper.{field_paper}
-use Rattle.fields.specs.declared.field.Text.{Text}
-use Rattle.fields.specs.declared.field.Text.TheVariants as F
+use Rattle.fields.specs.Paper.{place_paper, field_paper}
+use Rattle.fields.specs.declared.field.Beyond.{Beyond}
 
 -- ---- a place in a buffer
 
@@ -43,20 +43,20 @@ module _ (s : List ℕ) (r : Range) where
   pub fits_within : r.start + r.len ≤ length s → fits_in r s ≡ true
   fits_within h = inside_fits (record { starts = omega arith; left = omega arith })
 
-  pub place_far : length s < r.start → field_paper F.Beyond ≡ place_answer s r
-  unfolding field_paper place_answer fits_in
+  pub place_far : {e : Beyond} → length s < r.start → place_paper (Err e) ≡ place_answer s r
+  unfolding place_paper place_answer fits_in
   place_far h = rw (lt-leb _ _ h)
 
   fits_not : length s - r.start < r.len → fits_in r s ≡ false
   unfolding fits_in
   fits_not h = rw (lt-leb _ _ h, and-false)
 
-  pub place_long : length s - r.start < r.len → field_paper F.Beyond ≡ place_answer s r
-  unfolding field_paper place_answer
+  pub place_long : {e : Beyond} → length s - r.start < r.len → place_paper (Err e) ≡ place_answer s r
+  unfolding place_paper place_answer
   place_long h = rw (fits_not h)
 
-  pub place_fits : r.start ≤ length s → r.len ≤ length s - r.start → field_paper (F.At r) ≡ place_answer s r
-  unfolding field_paper place_answer
+  pub place_fits : r.start ≤ length s → r.len ≤ length s - r.start → place_paper (Ok r) ≡ place_answer s r
+  unfolding place_paper place_answer
   place_fits p q = rw (inside_fits (record { starts = p; left = q }))
 
 -- ---- a text that is a `.`
@@ -81,24 +81,23 @@ module _ (s : List ℕ) (r : Range) where
   pub dot_at : r.len ≡ 1 → r.start < length s → eqb (get_or s r.start 0) 46 ≡ (fits_in r s && same (cut r s) (46 ∷ []))
   dot_at e h = rw (inside_fits s r (record { starts = omega arith; left = omega arith }), cut_one e h) (sym (same_byte (get_or s r.start 0) 46))
 
--- ---- what a `.` reads as
-
--- the answer for the name that it is known to be
-pub dot_known : (r : Range) {name known : Name} {a : Answer} → name ≡ known → a ≡ dot_answer known r → a ≡ dot_answer name r
-dot_known r e q = rw e q
-
 -- ---- a field
 
-module _ (s : List ℕ) (name : Name) (x : Text) (r : Range) {b : Bool} (d : b ≡ (fits_in r s && same (cut r s) (46 ∷ []))) where
-  pub text_dot : b ≡ true → field_paper x ≡ dot_answer name r → field_paper x ≡ text_answer s name r
+module _ (s : List ℕ) (name : Name) (r : Range) {b : Bool} (d : b ≡ (fits_in r s && same (cut r s) (46 ∷ []))) where
+  pub text_dot : (x : Result (Option Range) Beyond) → b ≡ true → field_paper x ≡ dot_answer name r → field_paper x ≡ text_answer s name r
   unfolding text_answer
-  text_dot t h = rw (← d, t) h
+  text_dot x t h = rw (← d, t) h
 
-  pub text_place : b ≡ false → field_paper x ≡ place_answer s r → field_paper x ≡ text_answer s name r
-  unfolding text_answer
-  text_place t h = rw (← d, t) h
+  module _ (t : b ≡ false) {x : Result Range Beyond} (h : place_paper x ≡ place_answer s r) where
+    pub text_place : {p : Range} → x ≡ Ok p → field_paper (Ok (Some p)) ≡ text_answer s name r
+    unfolding text_answer place_paper field_paper
+    text_place q = rw (← d, t) (rw q at h)
 
-pub field_text : (s : List ℕ) (line : Record) (name : Name) (x : Text) {r : Range} → r ≡ range_of line name → field_paper x ≡ text_answer s name r
+    pub text_beyond : {e f : Beyond} → x ≡ Err e → field_paper (Err f) ≡ text_answer s name r
+    unfolding text_answer place_paper field_paper
+    text_beyond q = rw (← d, t) (rw q at h)
+
+pub field_text : (s : List ℕ) (line : Record) (name : Name) (x : Result (Option Range) Beyond) {r : Range} → r ≡ range_of line name → field_paper x ≡ text_answer s name r
     → field_paper x ≡ field_answer s line name
 unfolding field_answer
 field_text s line name x e h = rw (← e) h
@@ -123,4 +122,4 @@ module _ (s : List ℕ) (line : Record) (name : Name) (f : fits_in (range_of lin
   unfolding field_answer text_answer place_answer
   field_stands h = rw (f, same_not (cut (range_of line name) s) (46 ∷ []) h)
 
-pub ruleset laws = (place_far, place_long, place_fits, dot_not_one, dot_past, dot_at, text_dot, text_place, field_text)
+pub ruleset laws = (place_far, place_long, place_fits, dot_not_one, dot_past, dot_at, text_dot, text_place, text_beyond, field_text)

@@ -1,24 +1,24 @@
 -- POS goes by the value and the fault of the decimal; the one text of one byte that is worth 0 is `0`, since no other is as short. Assumes nothing.
-use Prim.Native.Nat.{ℕ, zero, suc, ◌+◌, ◌<◌, ◌≤◌}
+use Prim.Native.Nat.{ℕ, zero, suc, ◌+◌, ◌<◌}
 use mathlib.Core.Path.{◌≡◌, sym, ap, ◌∙◌}
 use mathlib.Core.List.{List, [], ◌∷◌}
 use mathlib.Core.Option.{some, none}
 use native.Mathlib.Omega.{arith}
 use native.Mathlib.Decide.{ℕ_discrete}
 use lib.ListN.{length}
+use Rattle.std.specs.Prelude.{Some, None, Result, Ok, Err}
 use Rattle.text.specs.Answer.{says}
 use Rattle.text.proofs.SameLaws.{same_self, same_not}
 use Rattle.decimal.specs.Decimal.{value_of, fault_of, decimal_answer}
 use Rattle.decimal.specs.Shortest.{shortest}
 use Rattle.decimal.specs.Paper.{number_paper}
-use Rattle.decimal.specs.declared.read.Number.{Number}
-use Rattle.decimal.specs.declared.read.Number.TheVariants as D
+use Rattle.decimal.specs.declared.read.BadDecimal.{BadDecimal}
 use Rattle.decimal.proofs.Demands.{reads_back, none_shorter}
 use Rattle.decimal.proofs.Shortest.{shortest_one}
 use Rattle.decimal.proofs.Value.{told_value, told_bad}
 use Rattle.fields.specs.Pos.{positive, pos_answer}
 use Rattle.fields.specs.Paper.{position_paper}
-use Rattle.fields.specs.declared.pos.Position.TheVariants as P
+use Rattle.fields.specs.declared.pos.BadPosition.{BadPosition}
 
 -- ---- one digit, and the texts worth 0
 
@@ -69,28 +69,28 @@ module _ (t : List ℕ) where
 
 -- ---- the ways of the reader
 
-module _ (t : List ℕ) {x : Number} (p : number_paper x ≡ decimal_answer t) where
-  pub read_bad : {k : ℕ} → x ≡ D.Bad k → position_paper (P.Bad k) ≡ pos_answer t
+module _ (t : List ℕ) {x : Result ℕ BadDecimal} (p : number_paper x ≡ decimal_answer t) where
+  pub read_bad : {d : BadDecimal} {e : BadPosition} → x ≡ Err d → e.at ≡ d.at → position_paper (Err e) ≡ pos_answer t
   unfolding position_paper
-  read_bad {k} e = let g = told_bad k t (rw e at p) in rw g.1 (sym (pos_bad t g.0))
+  read_bad {d} q f = let g = told_bad d t (rw q at p) in rw (f, g.1) (sym (pos_bad t g.0))
 
-  module _ {n : ℕ} (e : x ≡ D.Value n) where
+  module _ {n : ℕ} (e : x ≡ Ok n) where
     value : value_of t ≡ some n
     value = told_value n t (rw e at p)
 
-    pub read_some : 0 < n → position_paper (P.At n) ≡ pos_answer t
+    pub read_some : (n ≡ 0 → ⊥) → position_paper (Ok (Some n)) ≡ pos_answer t
     unfolding position_paper
-    read_some h = sym (pos_some t n value h)
+    read_some h = sym (pos_some t n value (omega arith))
 
-    value_none : n ≤ 0 → value_of t ≡ some 0
-    value_none h = let z : n ≡ 0 = omega arith in rw z at value
+    value_none : n ≡ 0 → value_of t ≡ some 0
+    value_none z = rw z at value
 
-    pub read_zero : n ≤ 0 → length t ≡ 1 → position_paper P.Nowhere ≡ pos_answer t
+    pub read_zero : n ≡ 0 → length t ≡ 1 → position_paper (Ok None) ≡ pos_answer t
     unfolding position_paper
     read_zero h l = let w = zero_text t (value_none h) l in rw w (sym pos_zero)
 
-    pub read_naught : n ≤ 0 → (length t ≡ 1 → ⊥) → position_paper (P.Bad (length t)) ≡ pos_answer t
+    pub read_naught : {f : BadPosition} → f.at ≡ length t → n ≡ 0 → (length t ≡ 1 → ⊥) → position_paper (Err f) ≡ pos_answer t
     unfolding position_paper
-    read_naught h l = sym (pos_naught t (value_none h) (λ w. l (ap length w)))
+    read_naught g h l = rw g (sym (pos_naught t (value_none h) (λ w. l (ap length w))))
 
 pub ruleset laws = (read_bad, read_some, read_zero, read_naught)

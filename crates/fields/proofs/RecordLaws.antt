@@ -6,6 +6,7 @@ use mathlib.Core.List.{List, [], ◌∷◌}
 use mathlib.Core.Option.{some, none}
 use native.Mathlib.Omega.{arith}
 use lib.ListN.{length}
+use Rattle.std.specs.Prelude.{Option, Some, None, Result, Ok}
 use Rattle.text.specs.Answer.{Answer, says}
 use Rattle.text.specs.Range.{range_at}
 use Rattle.text.specs.Same.{same}
@@ -20,8 +21,7 @@ use Rattle.fields.specs.Fields.{Dot, empty, absent, itself, dot_of, dot_places, 
 use Rattle.fields.specs.Paper.{field_paper}
 use Rattle.fields.specs.Promises.{FindsField}
 use Rattle.fields.specs.Demands.{ReadsAs, other, dot_itself, dot_empty, dot_absent}
-use Rattle.fields.specs.declared.field.Text.{Text}
-use Rattle.fields.specs.declared.field.Text.TheVariants as F
+use Rattle.fields.specs.declared.field.Beyond.{Beyond}
 use Rattle.fields.proofs.FieldLaws.{fits_within, field_dot, field_stands}
 use Rattle.fields.proofs.Determined.{field_paper_injective}
 
@@ -56,14 +56,14 @@ module _ {s : List ℕ} {at : ℕ} {r : Record} (g : Recorded s at r) (n : Name)
 -- ---- what is then told of a text
 
 -- what the answer for a field with a column c tells
-pub data Tells (s : List ℕ) (n : Name) (c : List ℕ) : Text → Type 0 where
-  tells_at : {x : Range} {t : List ℕ} → read_text n c ≡ some t → LiesIn s x t → Tells s n c (F.At x)
-  tells_absent : read_text n c ≡ none → Tells s n c F.Absent
+pub data Tells (s : List ℕ) (n : Name) (c : List ℕ) : Result (Option Range) Beyond → Type 0 where
+  tells_at : {x : Range} {t : List ℕ} → read_text n c ≡ some t → LiesIn s x t → Tells s n c (Ok (Some x))
+  tells_absent : read_text n c ≡ none → Tells s n c (Ok None)
 
-module _ {s : List ℕ} {n : Name} {start : ℕ} {c : List ℕ} (l : LiesIn s (range_at start (length c)) c) (x : Text) where
+module _ {s : List ℕ} {n : Name} {start : ℕ} {c : List ℕ} (l : LiesIn s (range_at start (length c)) c) (x : Result (Option Range) Beyond) where
   is_at : {a b : ℕ} {t : List ℕ} → field_paper x ≡ says 0 (a ∷ b ∷ []) → read_text n c ≡ some t → LiesIn s (range_at a b) t → Tells s n c x
   unfolding field_paper
-  is_at {a} {b} e q k = rw (field_paper_injective x (F.At (range_at a b)) e) (tells_at q k)
+  is_at {a} {b} e q k = rw (field_paper_injective x (Ok (Some (range_at a b))) e) (tells_at q k)
 
   reads_tells : {a : Answer} → field_paper x ≡ a → ReadsAs n start c a → Tells s n c x
   unfolding field_paper
@@ -73,9 +73,9 @@ module _ {s : List ℕ} {n : Name} {start : ℕ} {c : List ℕ} (l : LiesIn s (r
       let k = ap length d in
       let f = l.fits in
       is_at e (rw (d, same_self (46 ∷ []), q)) (record { fits = omega arith; text = cut_is (start + 1) 0 s })
-  reads_tells e (dot_absent d q) = rw (field_paper_injective x F.Absent e) (tells_absent (rw (d, same_self (46 ∷ []), q)))
+  reads_tells e (dot_absent d q) = rw (field_paper_injective x (Ok None) e) (tells_absent (rw (d, same_self (46 ∷ []), q)))
 
-pub field_tells : {s : List ℕ} {at : ℕ} {r : Record} (g : Recorded s at r) (n : Name) (x : Text) → FindsField s r n x
+pub field_tells : {s : List ℕ} {at : ℕ} {r : Record} (g : Recorded s at r) (n : Name) (x : Result (Option Range) Beyond) → FindsField s r n x
     → Tells s n (column_of n g.columns) x
 field_tells {s} {at} {r} g n x e =
     let p = placed g n in

@@ -1,6 +1,6 @@
 -- What is asked of any function that gives the fields of a line that was read, what ALT then counts, and what is asked of any reader
 -- of POS (docs/RULES.md, "A line", "Genotypes"; docs/STATEMENTS.md). Assumes nothing.
-use Rattle.std.specs.Prelude.{ℕ, ◌+◌, ◌<◌, ◌≡◌, ◌↔◌, List, [], ◌∷◌, length, drop}
+use Rattle.std.specs.Prelude.{ℕ, ◌+◌, ◌<◌, ◌≡◌, ◌↔◌, List, [], ◌∷◌, length, drop, Option, Some, Result, Ok}
 use Rattle.text.specs.Answer.{Answer, says}
 use Rattle.text.specs.Range.{cut}
 use Rattle.text.specs.declared.range.Range.{Range}
@@ -12,13 +12,11 @@ use Rattle.record.specs.declared.place.Name.{Name}
 use Rattle.record.specs.declared.place.Name.TheVariants as N
 use Rattle.line.specs.Promises.{ReadsLine}
 use Rattle.line.specs.Demands.{Begins}
-use Rattle.line.specs.declared.read.Read.TheVariants as R
 use Rattle.lists.specs.AlternateBases.{alt_count}
 use Rattle.fields.specs.Fields.{dot_of, empty, absent, itself}
 use Rattle.fields.specs.Paper.{field_paper}
 use Rattle.fields.specs.Promises.{FindsField}
-use Rattle.fields.specs.declared.field.Text.{Text}
-use Rattle.fields.specs.declared.field.Text.TheVariants as F
+use Rattle.fields.specs.declared.field.Beyond.{Beyond}
 
 -- it is given a buffer, a record and a name, and answers on paper
 abbrev pub Finder : Type 0
@@ -35,7 +33,7 @@ pub data ReadsAs (n : Name) (start : ℕ) (c : List ℕ) : Answer → Type 0 whe
 -- the line reader made this record of the line at a place, which begins with these columns
 pub record Made (s : List ℕ) (at : ℕ) (r : Record) (cs : List (List ℕ)) : Type 0 where
   pub next : ℕ
-  pub read : ReadsLine s at (R.Line r next)
+  pub read : ReadsLine s at (Ok (r, next))
   pub ending : Ending
   pub rest : List ℕ
   pub begin : Begins (drop at s) cs ending rest
@@ -47,25 +45,25 @@ Finds find = (s : List ℕ) (at : ℕ) (r : Record) (cs : List (List ℕ)) → M
 
 -- so it is of what `field` answers
 unfoldable pub FieldFinds : Type 0
-FieldFinds = (s : List ℕ) (at : ℕ) (r : Record) (cs : List (List ℕ)) → Made s at r cs → (n : Name) (x : Text) → FindsField s r n x
+FieldFinds = (s : List ℕ) (at : ℕ) (r : Record) (cs : List (List ℕ)) → Made s at r cs → (n : Name) (x : Result (Option Range) Beyond) → FindsField s r n x
     → ReadsAs n (at + column_start n cs) (column_of n cs) (field_paper x)
 
 -- two that do so give one answer for each field of a record that the line reader made
 unfoldable pub OneFinder : Type 0
-OneFinder = (find other : Finder) → Finds find → Finds other → (s : List ℕ) (at next : ℕ) (r : Record) → ReadsLine s at (R.Line r next)
+OneFinder = (find other : Finder) → Finds find → Finds other → (s : List ℕ) (at next : ℕ) (r : Record) → ReadsLine s at (Ok (r, next))
     → (n : Name) → find s r n ≡ other s r n
 
 -- ---- ALT
 
 -- it gives a text of the buffer, and this has so many alternate alleles
-pub record HasCount (s : List ℕ) (x : Text) (count : ℕ) : Type 0 where
+pub record HasCount (s : List ℕ) (x : Result (Option Range) Beyond) (count : ℕ) : Type 0 where
   pub range : Range
-  pub at : x ≡ F.At range
+  pub at : x ≡ Ok (Some range)
   pub same : alt_count (cut range s) ≡ count
 
 -- ALT as it stands in the line, be it `.`, and as `field` gives it, then empty, has one count
 unfoldable pub AltCounted : Type 0
-AltCounted = (s : List ℕ) (at : ℕ) (r : Record) (cs : List (List ℕ)) → Made s at r cs → (x : Text) → FindsField s r N.Alt x
+AltCounted = (s : List ℕ) (at : ℕ) (r : Record) (cs : List (List ℕ)) → Made s at r cs → (x : Result (Option Range) Beyond) → FindsField s r N.Alt x
     → HasCount s x (alt_count (column_of N.Alt cs))
 
 -- ---- POS

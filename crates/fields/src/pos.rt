@@ -1,33 +1,30 @@
 // POS: a position from 1 on, or none.
+ghost use Rattle.std.specs.Prelude.{◌≡◌};
 ghost use Rattle.fields.specs.Promises.{ReadsPos};
 
-use decimal::read::{Number, read_decimal};
+use decimal::read::{BadDecimal, read_decimal};
 
-// What a POS text says.
-#[derive(Clone, Copy)]
-pub enum Position {
-    // 0: a position.
-    At(u64),
-    // 0: none, `0`.
-    Nowhere,
-    // 21: it is bad. The place of the decimal's fault, or the text's length where it is worth 0.
-    Bad(usize),
+// 21: a POS text is bad. The place of the decimal's fault, or the text's length where it is worth 0.
+#[derive(Clone, Copy, Debug, PartialEq, Eq)]
+pub struct BadPosition {
+    pub at: usize,
 }
 
-// Reads a POS text.
-pub fn read_pos(s: &[u8]) -> Position
+impl From<BadDecimal> for BadPosition {
+    ghost from_gives = { λ e r. r.at ≡ e.at };
+
+    fn from(e: BadDecimal) -> BadPosition {
+        BadPosition { at: e.at }
+    }
+}
+
+// Reads a POS text: a position, or none for `0`.
+pub fn read_pos(s: &[u8]) -> Result<Option<u64>, BadPosition>
     ensures { ReadsPos s.now result }
 {
-    match read_decimal(s) {
-        Number::Value(n) => {
-            if n > 0 {
-                return Position::At(n);
-            }
-            if s.len() == 1 {
-                return Position::Nowhere;
-            }
-            Position::Bad(s.len())
-        }
-        Number::Bad(fault) => Position::Bad(fault),
+    match read_decimal(s)? {
+        0 if s.len() == 1 => Ok(None),
+        0 => Err(BadPosition { at: s.len() }),
+        n => Ok(Some(n)),
     }
 }

@@ -152,9 +152,9 @@ pub record Chaining (places : List ℕ) (n i : ℕ) : Type 0 where
   pub enough : 2 * n ≤ length places
   pub same : chained (take (2 * n) places) ≡ chained_from (get_or places (2 * i) 0) (rest places n i)
 
-pub chain_first : (places : List ℕ) (n : ℕ) → 1 ≤ n → 2 * n ≤ length places → Chaining places n 0
+pub chain_first : (places : List ℕ) (n : ℕ) → length places ≡ 20 → 1 ≤ n → n ≤ 10 → Chaining places n 0
 unfolding chained rest
-chain_first places n h l = record { below = h; enough = l; same = rw (number places n l 0 (omega arith)) }
+chain_first places n z h m = let l : 2 * n ≤ length places = omega arith in record { below = h; enough = l; same = rw (number places n l 0 (omega arith)) }
 
 module _ {places : List ℕ} {n i : ℕ} (g : Chaining places n i) where
   start : ℕ
@@ -167,12 +167,13 @@ module _ {places : List ℕ} {n i : ℕ} (g : Chaining places n i) where
   unfolding start len
   here = g.same ∙ ap (chained_from (get_or places (2 * i) 0)) (rest_is places n g.enough i g.below)
 
-  pub chain_last : n - 1 ≤ i → ltb 0 (get_or places (2 * i + 1) 0) ≡ chained (take (2 * n) places)
+  pub chain_last : n - 1 ≤ i → ltb 0 (get_or places (2 * n - 1) 0) ≡ chained (take (2 * n) places)
   unfolding start len chained_from
   chain_last h =
       let b = g.below in
       let e : i + 1 ≡ n = omega arith in
-      sym (here ∙ rw (eq-eqb start start refl, e, rest_none places n g.enough, and-true))
+      let f : 2 * n - 1 ≡ 2 * i + 1 = omega arith in
+      sym (here ∙ rw (eq-eqb start start refl, e, f, rest_none places n g.enough, and-true))
 
   module _ (m : i < n - 1) where
     next : ℕ

@@ -23,16 +23,14 @@ use Rattle.record.proofs.Determined.{same_ending}
 use Rattle.line.proofs.AnswerLaws.{keeps_line}
 use Rattle.line.proofs.CaseLaws.{read_record}
 use Rattle.line.proofs.RecordLaws.{range_place}
+use Rattle.std.specs.Prelude.{Ok}
 use Rattle.line.specs.Demands as Line
 use Rattle.line.specs.Demands.{Reader}
-use Rattle.line.specs.declared.read.Read.TheVariants as L
 use Rattle.forms.specs.Form.{made, widen_answer, narrow_answer}
 use Rattle.forms.specs.Paper.{wide_range, wide_places, widened_paper, narrowed_paper}
 use Rattle.forms.specs.Promises.{WidensRecord, NarrowsWide}
 use Rattle.forms.specs.Demands.{Makes, FormOf, Widens, OneWidener, Narrows, OneNarrower, BackAndForth, AlikeForms, Answerable, MadeRecords, ReadIsMade}
 use Rattle.forms.specs.declared.wide.Wide.{Wide}
-use Rattle.forms.specs.declared.turn.Widened.TheVariants as W
-use Rattle.forms.specs.declared.turn.Narrowed.TheVariants as R
 use Rattle.forms.proofs.FormLaws.{MadeForm, made_form, form_made}
 use Rattle.forms.proofs.BackLaws.{numbers_back, places_back}
 use Rattle.forms.proofs.Inputs.{makes_form, form_of_lem, form_makes, answered}
@@ -122,7 +120,7 @@ record Turned (r : Record) (w : Wide) : Type 0 where
   form : MadeForm (ending_of r.ending) (record_places r)
 
 module _ (r : Record) (w : Wide) where
-  widened_turned : WidensRecord r (W.To w) → Turned r w
+  widened_turned : WidensRecord r (Ok w) → Turned r w
   unfolding widened_paper widen_answer
   widened_turned h = by (made (ending_of r.ending) (record_places r)) refl h
     where
@@ -131,11 +129,11 @@ module _ (r : Record) (w : Wide) where
       by true e q = record { ending = same_ending w.ending r.ending cc; places = cc; form = made_form (ending_of r.ending) (record_places r) e }
       by false e q = absurd (let z = ap number_of q in omega arith)
 
-  turned_widened : Turned r w → WidensRecord r (W.To w)
+  turned_widened : Turned r w → WidensRecord r (Ok w)
   unfolding widened_paper widen_answer
   turned_widened t = rw (form_made t.form, ending_numbered t.ending, t.places)
 
-  narrowed_turned : NarrowsWide w (R.To r) → Turned r w
+  narrowed_turned : NarrowsWide w (Ok r) → Turned r w
   unfolding narrowed_paper narrow_answer
   narrowed_turned h = by (made (ending_of w.ending) (wide_places w)) refl h
     where
@@ -148,7 +146,7 @@ module _ (r : Record) (w : Wide) where
           record { ending = sym d; places = sym p; form = rw (p, d) m }
       by false e q = absurd (let z = ap number_of q in omega arith)
 
-  turned_narrowed : Turned r w → NarrowsWide w (R.To r)
+  turned_narrowed : Turned r w → NarrowsWide w (Ok r)
   unfolding narrowed_paper narrow_answer
   turned_narrowed t =
       let m : made (ending_of w.ending) (wide_places w) ≡ true = ap (λ (x : DeclaredEnding). made (ending_of x) (wide_places w)) t.ending ∙ ap (made (ending_of r.ending)) t.places ∙ form_made t.form in
@@ -188,7 +186,7 @@ alike_forms r w h =
 -- ---- records that were read
 
 -- what a record says on paper, value by value
-line_paper : (r : Record) (next : ℕ) → read_paper (L.Line r next) ≡ says 0 (next ∷ ending_number (ending_of r.ending) ∷ record_places r)
+line_paper : (r : Record) (next : ℕ) → read_paper (Ok (r, next)) ≡ says 0 (next ∷ ending_number (ending_of r.ending) ∷ record_places r)
 line_paper r next = read_record refl ∙ ap (λ (l : List ℕ). says 0 (next ∷ l)) (record_values_lem r)
 
 pub made_records : MadeRecords
@@ -209,7 +207,7 @@ made_records r = (λ h. made_read (made_form (ending_of r.ending) (record_places
 
 pub read_is_made : ReadIsMade
 unfolding ReadIsMade widened_paper widen_answer
-read_is_made s at next r room h q =
+read_is_made s at next r e room h q =
     let m = answered s at next (ending_of r.ending) (record_places r) room (sym h ∙ line_paper r next) in
     let y : says 32 [] ≡ says 0 (ending_number (ending_of r.ending) ∷ record_places r) = q ∙ rw (form_made m) in
     let n = ap number_of y in

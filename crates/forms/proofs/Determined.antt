@@ -5,6 +5,7 @@ use mathlib.Core.Path.{◌≡◌, refl, sym, ap, ◌∙◌}
 use mathlib.Core.List.{List}
 use native.Mathlib.Omega.{arith}
 use lib.ListN.{get_or}
+use Rattle.std.specs.Prelude.{Result, Ok, Err}
 use Rattle.text.specs.Answer.{number_of}
 use Rattle.text.specs.Range.{range_at}
 use Rattle.record.specs.declared.ending.Ending.{Ending}
@@ -13,10 +14,7 @@ use Rattle.record.proofs.Determined.{same_ending, form_injective}
 use Rattle.forms.specs.Paper.{wide_places, widened_paper, narrowed_paper}
 use Rattle.forms.specs.Promises.{Determined}
 use Rattle.forms.specs.declared.wide.Wide.{Wide}
-use Rattle.forms.specs.declared.turn.Widened.{Widened}
-use Rattle.forms.specs.declared.turn.Widened.TheVariants as W
-use Rattle.forms.specs.declared.turn.Narrowed.{Narrowed}
-use Rattle.forms.specs.declared.turn.Narrowed.TheVariants as R
+use Rattle.forms.specs.declared.turn.NotMade.{NotMade}
 
 -- ---- an old form
 
@@ -45,27 +43,27 @@ wide_injective w w' p q = sym (wide_back w) ∙ ap (λ (e : Ending). wide_of e (
 
 -- ---- the answers
 
-pub widened_injective : (x y : Widened) → widened_paper x ≡ widened_paper y → x ≡ y
+pub widened_injective : (x y : Result Wide NotMade) → widened_paper x ≡ widened_paper y → x ≡ y
 unfolding widened_paper
-widened_injective (W.To w) (W.To v) e = ap (λ (z : Wide). W.To z) (wide_injective w v (same_ending w.ending v.ending cc) cc)
-widened_injective (W.To w) W.NotMade e = absurd (let z = ap number_of e in omega arith)
-widened_injective W.NotMade (W.To w) e = absurd (let z = ap number_of e in omega arith)
-widened_injective W.NotMade W.NotMade e = refl
+widened_injective (Ok w) (Ok v) e = let q : w ≡ v = wide_injective w v (same_ending w.ending v.ending cc) cc in cc
+widened_injective (Ok w) (Err n) e = absurd (let z = ap number_of e in omega arith)
+widened_injective (Err n) (Ok w) e = absurd (let z = ap number_of e in omega arith)
+widened_injective (Err n) (Err m) e = refl
 
-pub narrowed_injective : (x y : Narrowed) → narrowed_paper x ≡ narrowed_paper y → x ≡ y
+pub narrowed_injective : (x y : Result Record NotMade) → narrowed_paper x ≡ narrowed_paper y → x ≡ y
 unfolding narrowed_paper
-narrowed_injective (R.To r) (R.To s) e = ap (λ (z : Record). R.To z) (form_injective r s (same_ending r.ending s.ending cc) cc)
-narrowed_injective (R.To r) R.NotMade e = absurd (let z = ap number_of e in omega arith)
-narrowed_injective R.NotMade (R.To r) e = absurd (let z = ap number_of e in omega arith)
-narrowed_injective R.NotMade R.NotMade e = refl
+narrowed_injective (Ok r) (Ok s) e = let q : r ≡ s = form_injective r s (same_ending r.ending s.ending cc) cc in cc
+narrowed_injective (Ok r) (Err n) e = absurd (let z = ap number_of e in omega arith)
+narrowed_injective (Err n) (Ok r) e = absurd (let z = ap number_of e in omega arith)
+narrowed_injective (Err n) (Err m) e = refl
 
 pub determined : Determined
 determined =
     record {
-      wide_place = λ wide name r r' p q. p ∙ sym q;
-      wide_ending = λ wide r r' p q. p ∙ sym q;
-      wide_places = λ wide r r' p q. p ∙ sym q;
-      make_wide = λ ending places r r' p q. wide_injective r r' (p.0 ∙ sym q.0) (p.1 ∙ sym q.1);
+      place = λ wide name r r' p q. p ∙ sym q;
+      ending = λ wide r r' p q. p ∙ sym q;
+      places = λ wide r r' p q. p ∙ sym q;
+      new = λ ending places r r' p q. wide_injective r r' (p.0 ∙ sym q.0) (p.1 ∙ sym q.1);
       widen = λ line r r' p q. widened_injective r r' (p ∙ sym q);
       narrow = λ wide r r' p q. narrowed_injective r r' (p ∙ sym q);
     }

@@ -6,6 +6,7 @@ use mathlib.Core.List.{List, [], ◌∷◌}
 use native.Mathlib.Omega.{arith}
 use lib.ListN.{length, get_or, drop, drop_of_length-le}
 use lib.Seq.{drop-cons}
+use Rattle.std.specs.Prelude.{Ok, Err}
 use Rattle.record.specs.Place.{ends_of, numbers_of}
 use Rattle.record.specs.Paper.{ending_of, record_places}
 use Rattle.record.specs.Promises.{GivesEnding, MakesRecord}
@@ -18,8 +19,7 @@ use Rattle.forms.specs.Paper.{wide_places, widened_paper, narrowed_paper}
 use Rattle.forms.specs.Promises.{MakesWide, WidensRecord, NarrowsWide}
 use Rattle.forms.specs.Inner.{Bounded}
 use Rattle.forms.specs.declared.wide.Wide.{Wide}
-use Rattle.forms.specs.declared.turn.Widened.TheVariants as W
-use Rattle.forms.specs.declared.turn.Narrowed.TheVariants as R
+use Rattle.forms.specs.declared.turn.NotMade.{NotMade}
 
 -- ---- the ends of places
 
@@ -51,11 +51,11 @@ module _ (line : Record) {ending : Ending} {places : List ℕ} {b : Bool} (e : G
   is_made : b ≡ made (ending_of line.ending) (record_places line)
   is_made = m ∙ ap (λ (x : Ending). made (ending_of x) places) e ∙ ap (made (ending_of line.ending)) p
 
-  pub widened_to : (w : Wide) → b ≡ true → MakesWide ending places w → WidensRecord line (W.To w)
+  pub widened_to : (w : Wide) → b ≡ true → MakesWide ending places w → WidensRecord line (Ok w)
   unfolding widened_paper widen_answer
   widened_to w t q = rw (← is_made, t, ending_numbered (q.0 ∙ e), q.1 ∙ p)
 
-  pub widened_not : b ≡ false → WidensRecord line W.NotMade
+  pub widened_not : {n : NotMade} → b ≡ false → WidensRecord line (Err n)
   unfolding widened_paper widen_answer
   widened_not t = rw (← is_made, t)
 
@@ -63,11 +63,11 @@ module _ (wide : Wide) {places : List ℕ} {b : Bool} (p : places ≡ wide_place
   form_made : b ≡ made (ending_of wide.ending) (wide_places wide)
   form_made = m ∙ ap (made (ending_of wide.ending)) p
 
-  pub narrowed_to : (r : Record) {numbers : List ℕ} → b ≡ true → numbers ≡ numbers_of places → MakesRecord wide.ending numbers r → NarrowsWide wide (R.To r)
+  pub narrowed_to : (r : Record) {numbers : List ℕ} → b ≡ true → numbers ≡ numbers_of places → MakesRecord wide.ending numbers r → NarrowsWide wide (Ok r)
   unfolding narrowed_paper narrow_answer
   narrowed_to r t n q = rw (← form_made, t, ending_numbered q.0, q.1 ∙ n ∙ ap numbers_of p)
 
-  pub narrowed_not : b ≡ false → NarrowsWide wide R.NotMade
+  pub narrowed_not : {n : NotMade} → b ≡ false → NarrowsWide wide (Err n)
   unfolding narrowed_paper narrow_answer
   narrowed_not t = rw (← form_made, t)
 

@@ -1,6 +1,6 @@
 -- What is asked of the two forms of a line's record and of the ways between them (docs/RULES.md, "Two forms of a record";
 -- docs/STATEMENTS.md). Assumes nothing.
-use Rattle.std.specs.Prelude.{ℕ, ◌<◌, ◌≡◌, true, ◌↔◌, List, [], ◌∷◌, length, get_or}
+use Rattle.std.specs.Prelude.{ℕ, ◌<◌, ◌≡◌, true, ◌↔◌, List, [], ◌∷◌, length, get_or, Ok, Err}
 use Rattle.std.specs.Borrow.{u8}
 use denote.Slice.{Room}
 use Rattle.text.specs.Answer.{Answer, says}
@@ -12,13 +12,11 @@ use Rattle.record.specs.declared.place.Name.{Name}
 use Rattle.line.specs.Promises.{ReadsLine, KeepsNumbers}
 use Rattle.line.specs.Demands as Line
 use Rattle.line.specs.Demands.{Reader}
-use Rattle.line.specs.declared.read.Read.TheVariants as L
 use Rattle.forms.specs.Form.{made}
 use Rattle.forms.specs.Paper.{wide_range, wide_places}
 use Rattle.forms.specs.Promises.{WidensRecord, NarrowsWide}
 use Rattle.forms.specs.declared.wide.Wide.{Wide}
-use Rattle.forms.specs.declared.turn.Widened.TheVariants as W
-use Rattle.forms.specs.declared.turn.Narrowed.TheVariants as R
+use Rattle.forms.specs.declared.turn.NotMade.{NotMade}
 
 -- ---- the forms that can be made
 
@@ -69,7 +67,7 @@ OneNarrower = (read : Reader) → Line.Meets read → (narrow other : Wide → A
 
 -- a record is widened to a form exactly where the form is narrowed to it
 unfoldable pub BackAndForth : Type 0
-BackAndForth = (r : Record) (w : Wide) → WidensRecord r (W.To w) ↔ NarrowsWide w (R.To r)
+BackAndForth = (r : Record) (w : Wide) → WidensRecord r (Ok w) ↔ NarrowsWide w (Ok r)
 
 -- and the two answer each question alike: how the line ended, and where each field stands
 pub record Alike (r : Record) (w : Wide) : Type 0 where
@@ -77,7 +75,7 @@ pub record Alike (r : Record) (w : Wide) : Type 0 where
   pub fields : (n : Name) → wide_range w n ≡ range_of r n
 
 unfoldable pub AlikeForms : Type 0
-AlikeForms = (r : Record) (w : Wide) → WidensRecord r (W.To w) → Alike r w
+AlikeForms = (r : Record) (w : Wide) → WidensRecord r (Ok w) → Alike r w
 
 -- ---- records that were read
 
@@ -87,8 +85,8 @@ pub record Answerable (r : Record) : Type 0 where
   pub at : ℕ
   pub next : ℕ
   pub is_input : Input input
-  pub reads : ReadsLine input at (L.Line r next)
-  pub keeps : KeepsNumbers (L.Line r next)
+  pub reads : ReadsLine input at (Ok (r, next))
+  pub keeps : KeepsNumbers (Ok (r, next))
 
 -- so it is of exactly the records that can be made
 unfoldable pub MadeRecords : Type 0
@@ -96,4 +94,4 @@ MadeRecords = (r : Record) → (made (ending_of r.ending) (record_places r) ≡ 
 
 -- what the line reader made of an input is widened
 unfoldable pub ReadIsMade : Type 0
-ReadIsMade = (s : List ℕ) (at next : ℕ) (r : Record) → Room u8 (length s) → ReadsLine s at (L.Line r next) → WidensRecord r W.NotMade → ⊥
+ReadIsMade = (s : List ℕ) (at next : ℕ) (r : Record) (e : NotMade) → Room u8 (length s) → ReadsLine s at (Ok (r, next)) → WidensRecord r (Err e) → ⊥

@@ -1,6 +1,6 @@
 -- The number on paper, and the values, of each answer of this crate, and the old form's places (docs/RULES.md, "Numbers answered").
 -- Assumes nothing.
-use Rattle.std.specs.Prelude.{ℕ, List, [], ◌∷◌, ◌++◌}
+use Rattle.std.specs.Prelude.{ℕ, List, [], ◌∷◌, ◌++◌, Result, Ok, Err}
 use Rattle.text.specs.Answer.{Answer, says}
 use Rattle.text.specs.Range.{range_places}
 use Rattle.text.specs.declared.range.Range.{Range}
@@ -9,10 +9,8 @@ use Rattle.record.specs.Paper.{ending_of, record_numbers}
 use Rattle.record.specs.declared.place.Name.{Name}
 use Rattle.record.specs.declared.place.Name.TheVariants as N
 use Rattle.forms.specs.declared.wide.Wide.{Wide}
-use Rattle.forms.specs.declared.turn.Widened.{Widened}
-use Rattle.forms.specs.declared.turn.Widened.TheVariants as W
-use Rattle.forms.specs.declared.turn.Narrowed.{Narrowed}
-use Rattle.forms.specs.declared.turn.Narrowed.TheVariants as R
+use Rattle.record.specs.declared.place.Record.{Record}
+use Rattle.forms.specs.declared.turn.NotMade.{NotMade}
 
 -- the place of a field of the old form
 unfoldable pub wide_range : Wide → Name → Range
@@ -41,10 +39,10 @@ wide_places w =
     ++ range_places w.format
     ++ range_places w.samples
 
-unfoldable pub widened_paper : Widened → Answer
-widened_paper (W.To w) = says 0 (ending_number (ending_of w.ending) ∷ wide_places w)
-widened_paper W.NotMade = says 32 []
+unfoldable pub widened_paper : Result Wide NotMade → Answer
+widened_paper (Ok w) = says 0 (ending_number (ending_of w.ending) ∷ wide_places w)
+widened_paper (Err e) = says 32 []
 
-unfoldable pub narrowed_paper : Narrowed → Answer
-narrowed_paper (R.To r) = says 0 (ending_number (ending_of r.ending) ∷ record_numbers r)
-narrowed_paper R.NotMade = says 32 []
+unfoldable pub narrowed_paper : Result Record NotMade → Answer
+narrowed_paper (Ok r) = says 0 (ending_number (ending_of r.ending) ∷ record_numbers r)
+narrowed_paper (Err e) = says 32 []

@@ -7,41 +7,27 @@ ghost use Rattle.forms.specs.Promises.{WidensRecord, NarrowsWide};
 ghost use Rattle.forms.specs.Inner.{Bounded};
 
 use crate::made::is_made;
-use crate::wide::{Wide, make_wide, wide_places};
-use record::place::{Name, Record, ending_of, make_record, place_of};
+use crate::wide::Wide;
+use record::place::{Name, Record};
 
-// A record in the old form.
-#[derive(Clone, Copy)]
-pub enum Widened {
-    // 0: the form.
-    To(Wide),
-    // 32: the line reader can make the record on no input.
-    NotMade,
-}
-
-// An old form as a record.
-#[derive(Clone, Copy)]
-pub enum Narrowed {
-    // 0: the record.
-    To(Record),
-    // 32: the line reader can make the form on no input.
-    NotMade,
-}
+// 32: the line reader can make the record, or the form, on no input.
+#[derive(Clone, Copy, Debug, PartialEq, Eq)]
+pub struct NotMade;
 
 // The start and the length of each field of a record, in order.
 fn places_of(line: Record) -> [usize; 20]
     ensures { result ≡ record_places line }
 {
-    let chrom = place_of(line, Name::Chrom);
-    let pos = place_of(line, Name::Pos);
-    let id = place_of(line, Name::Id);
-    let reference = place_of(line, Name::Reference);
-    let alt = place_of(line, Name::Alt);
-    let qual = place_of(line, Name::Qual);
-    let filter = place_of(line, Name::Filter);
-    let info = place_of(line, Name::Info);
-    let format = place_of(line, Name::Format);
-    let samples = place_of(line, Name::Samples);
+    let chrom = line.place(Name::Chrom);
+    let pos = line.place(Name::Pos);
+    let id = line.place(Name::Id);
+    let reference = line.place(Name::Reference);
+    let alt = line.place(Name::Alt);
+    let qual = line.place(Name::Qual);
+    let filter = line.place(Name::Filter);
+    let info = line.place(Name::Info);
+    let format = line.place(Name::Format);
+    let samples = line.place(Name::Samples);
     [
         chrom.start,
         chrom.len,
@@ -67,27 +53,27 @@ fn places_of(line: Record) -> [usize; 20]
 }
 
 // The old form of a record.
-pub fn widen(line: Record) -> Widened
+pub fn widen(line: Record) -> Result<Wide, NotMade>
     ensures { WidensRecord line result }
 {
-    let ending = ending_of(line);
+    let ending = line.ending();
     let places = places_of(line);
-    if is_made(ending, &places) {
-        return Widened::To(make_wide(ending, places));
+    if !is_made(ending, &places) {
+        return Err(NotMade);
     }
-    Widened::NotMade
+    Ok(Wide::new(ending, places))
 }
 
 // Where field i ends.
-fn end_at(places: &[usize], i: usize) -> usize
-    requires { (2 * i + 1 < length places.now) × (end_at places.now i < 2 ^ 64) }
+fn end_at(places: &[usize; 20], i: usize) -> usize
+    requires { (i < 10) × (end_at places.now i < 2 ^ 64) }
     ensures { result ≡ end_at places.now i }
 {
     places[2 * i] + places[2 * i + 1]
 }
 
 // The line's start, and where each field ends.
-fn numbers_by(places: &[usize]) -> [usize; 11]
+fn numbers_by(places: &[usize; 20]) -> [usize; 11]
     requires { Bounded places.now }
     ensures { result ≡ numbers_of places.now }
 {
@@ -107,13 +93,12 @@ fn numbers_by(places: &[usize]) -> [usize; 11]
 }
 
 // The record of an old form.
-pub fn narrow(wide: Wide) -> Narrowed
+pub fn narrow(wide: Wide) -> Result<Record, NotMade>
     ensures { NarrowsWide wide result }
 {
-    let ending = wide.ending;
-    let places = wide_places(wide);
-    if is_made(ending, &places) {
-        return Narrowed::To(make_record(ending, numbers_by(&places)));
+    let places = wide.places();
+    if !is_made(wide.ending, &places) {
+        return Err(NotMade);
     }
-    Narrowed::NotMade
+    Ok(Record::new(wide.ending, numbers_by(&places)))
 }

@@ -7,7 +7,7 @@ use record::ending::Ending;
 use record::place::Name;
 use text::range::Range;
 
-// Others ask for its ending by `wide_ending` and for a field's place by `wide_place`.
+// Others ask for its ending by `ending` and for a field's place by `place`.
 #[derive(Clone, Copy)]
 pub struct Wide {
     pub(crate) ending: Ending,
@@ -23,80 +23,82 @@ pub struct Wide {
     pub(crate) samples: Range,
 }
 
-// The place of a field of the form's line.
-pub fn wide_place(wide: Wide, name: Name) -> Range
-    ensures { GivesPlace wide name result }
-{
-    match name {
-        Name::Chrom => wide.chrom,
-        Name::Pos => wide.pos,
-        Name::Id => wide.id,
-        Name::Reference => wide.reference,
-        Name::Alt => wide.alt,
-        Name::Qual => wide.qual,
-        Name::Filter => wide.filter,
-        Name::Info => wide.info,
-        Name::Format => wide.format,
-        Name::Samples => wide.samples,
-    }
-}
-
-// How the form's line ended.
-pub fn wide_ending(wide: Wide) -> Ending
-    ensures { GivesEnding wide result }
-{
-    wide.ending
-}
-
-// The start and the length of each field of the form, in order.
-pub fn wide_places(wide: Wide) -> [usize; 20]
-    ensures { GivesPlaces wide result }
-{
-    [
-        wide.chrom.start,
-        wide.chrom.len,
-        wide.pos.start,
-        wide.pos.len,
-        wide.id.start,
-        wide.id.len,
-        wide.reference.start,
-        wide.reference.len,
-        wide.alt.start,
-        wide.alt.len,
-        wide.qual.start,
-        wide.qual.len,
-        wide.filter.start,
-        wide.filter.len,
-        wide.info.start,
-        wide.info.len,
-        wide.format.start,
-        wide.format.len,
-        wide.samples.start,
-        wide.samples.len,
-    ]
-}
-
 fn range_of(start: usize, len: usize) -> Range
     ensures { result ≡ range_at start len }
 {
     Range { start, len }
 }
 
-// The form with an ending and these starts and lengths, whatever they are.
-pub fn make_wide(ending: Ending, places: [usize; 20]) -> Wide
-    ensures { MakesWide ending places result }
-{
-    Wide {
-        ending,
-        chrom: range_of(places[0], places[1]),
-        pos: range_of(places[2], places[3]),
-        id: range_of(places[4], places[5]),
-        reference: range_of(places[6], places[7]),
-        alt: range_of(places[8], places[9]),
-        qual: range_of(places[10], places[11]),
-        filter: range_of(places[12], places[13]),
-        info: range_of(places[14], places[15]),
-        format: range_of(places[16], places[17]),
-        samples: range_of(places[18], places[19]),
+impl Wide {
+    // The form with an ending and these starts and lengths, whatever they are.
+    pub fn new(ending: Ending, places: [usize; 20]) -> Wide
+        ensures { MakesWide ending places result }
+    {
+        Wide {
+            ending,
+            chrom: range_of(places[0], places[1]),
+            pos: range_of(places[2], places[3]),
+            id: range_of(places[4], places[5]),
+            reference: range_of(places[6], places[7]),
+            alt: range_of(places[8], places[9]),
+            qual: range_of(places[10], places[11]),
+            filter: range_of(places[12], places[13]),
+            info: range_of(places[14], places[15]),
+            format: range_of(places[16], places[17]),
+            samples: range_of(places[18], places[19]),
+        }
+    }
+
+    // The place of a field of the form's line.
+    pub fn place(self, name: Name) -> Range
+        ensures { GivesPlace self name result }
+    {
+        match name {
+            Name::Chrom => self.chrom,
+            Name::Pos => self.pos,
+            Name::Id => self.id,
+            Name::Reference => self.reference,
+            Name::Alt => self.alt,
+            Name::Qual => self.qual,
+            Name::Filter => self.filter,
+            Name::Info => self.info,
+            Name::Format => self.format,
+            Name::Samples => self.samples,
+        }
+    }
+
+    // How the form's line ended.
+    pub fn ending(self) -> Ending
+        ensures { GivesEnding self result }
+    {
+        self.ending
+    }
+
+    // The start and the length of each field of the form, in order.
+    pub fn places(self) -> [usize; 20]
+        ensures { GivesPlaces self result }
+    {
+        [
+            self.chrom.start,
+            self.chrom.len,
+            self.pos.start,
+            self.pos.len,
+            self.id.start,
+            self.id.len,
+            self.reference.start,
+            self.reference.len,
+            self.alt.start,
+            self.alt.len,
+            self.qual.start,
+            self.qual.len,
+            self.filter.start,
+            self.filter.len,
+            self.info.start,
+            self.info.len,
+            self.format.start,
+            self.format.len,
+            self.samples.start,
+            self.samples.len,
+        ]
     }
 }

@@ -1,20 +1,17 @@
 -- The alleles from a place on of a text that reads as a list: the one that a step finds, and those behind it. Assumes nothing.
-use Prim.Native.Nat.{ℕ, ◌+◌, ◌≤◌, ◌<◌, zero-le}
-use mathlib.Core.Path.{◌≡◌, refl, sym, ◌∙◌}
-use mathlib.Core.Bool.{Bool, true, false}
+use Prim.Native.Nat.{ℕ, ◌+◌, ◌≤◌, zero-le}
+use mathlib.Core.Path.{◌≡◌, sym, ◌∙◌}
 use mathlib.Core.List.{List, [], ◌∷◌}
-use mathlib.Core.Option.{Option, some, none}
 use native.Mathlib.Omega.{arith}
 use lib.ListN.{length, drop}
-use lib.Dec.{ltb}
-use borrow.Author.Tests.{ltb-true, ltb-false}
+use Rattle.std.specs.Prelude.{Ok, Err}
 use Rattle.allele.specs.Reading.{list, empty, gathered, reading_of, parts_of, step_answer, list_of}
-use Rattle.allele.specs.Paper.{step_paper}
+use Rattle.allele.specs.Paper.{Step, step_paper}
 use Rattle.allele.specs.declared.allele.Allele.{Allele}
-use Rattle.allele.specs.declared.step.Step.{Step}
-use Rattle.allele.specs.declared.step.Step.TheVariants as S
+use Rattle.allele.specs.declared.step.NoAllele.{NoAllele}
+use Rattle.allele.specs.declared.step.NoAllele.TheVariants as S
 use Rattle.allele.proofs.PieceLaws.{parts_end}
-use Rattle.allele.proofs.StepLaws.{first_at, past_at, Further, further_at, wrong_at, step_means, found}
+use Rattle.allele.proofs.StepLaws.{Further, step_means, found}
 use Rattle.allele.proofs.ReadingLaws.{reading_some, reading_none, with_list, with_cons}
 use Rattle.genotype.specs.Inner.{ListMeant}
 
@@ -53,7 +50,7 @@ module _ {t : List ℕ} {at k : ℕ} (g : Ahead t at k) {a : Allele} {next : ℕ
   left_past = rw f.parts (with_cons a _ (rw f.parts at g.meant))
 
 -- the same of a step that finds it
-module _ {t : List ℕ} {at k : ℕ} (g : Ahead t at k) {x : Step} (e : step_paper x ≡ step_answer t at) {a : Allele} {next : ℕ} (q : x ≡ S.Found a next) where
+module _ {t : List ℕ} {at k : ℕ} (g : Ahead t at k) {x : Step} (e : step_paper x ≡ step_answer t at) {a : Allele} {next : ℕ} (q : x ≡ Ok (a, next)) where
   pub ahead_turn : Ahead t next (k + 1)
   ahead_turn = ahead_past g (found t at x e a next q)
 
@@ -66,30 +63,12 @@ unfolding gathered list_of
 left_none t at k h = rw (parts_end t at h)
 
 -- where a step finds no allele, neither
-pub left_end : (t : List ℕ) (at k : ℕ) (x : Step) → Ahead t at k → step_paper x ≡ step_answer t at → ((a : Allele) (next : ℕ) → x ≡ S.Found a next → ⊥) → left_of t at k ≡ []
+pub left_end : (t : List ℕ) (at k : ℕ) (x : Step) → Ahead t at k → step_paper x ≡ step_answer t at → (y : NoAllele) → x ≡ Err y → left_of t at k ≡ []
 unfolding gathered list_of
-left_end t at k (S.Found a next) g e h = absurd (h a next refl)
-left_end t at k S.Beyond g e h = absurd (let f = step_means t at S.Beyond e in omega arith)
-left_end t at k S.Nothing g e h = let f = step_means t at S.Nothing e in left_none t at k (omega arith)
-left_end t at k S.Empty g e h = let f = step_means t at S.Empty e in left_none t at k (omega arith)
-left_end t at k (S.Bad fault) g e h = let f = step_means t at (S.Bad fault) e in rw f.parts
-
--- where one is left, a step finds it
-pub left_some : (t : List ℕ) (at k : ℕ) (a : Allele) (as' : List Allele) → left_of t at k ≡ a ∷ as' → Ahead t at k → Further t at a (past_at t at)
-unfolding gathered list_of
-left_some t at k a as' e g = reached (ltb at (length t)) refl
+left_end t at k x g e y q = by y (rw q at e)
   where
-    none_left : [] ≡ a ∷ as' → Further t at a (past_at t at)
-    none_left z = absurd (let y : ◌≡◌ {A = ℕ} 0 1 = cc in omega arith)
-
-    some_left : (h : at < length t) (o : Option Allele) → first_at t at ≡ o → Further t at a (past_at t at)
-    some_left h (some b) q =
-        let f = further_at t at h b q in
-        let c = sym (left_past g f) ∙ e in
-        let z : b ≡ a = cc in
-        rw z at f
-    some_left h none q = let f = wrong_at t at h q in none_left (rw f.parts at e)
-
-    reached : (c : Bool) → ltb at (length t) ≡ c → Further t at a (past_at t at)
-    reached true h = some_left (ltb-true _ _ h) (first_at t at) refl
-    reached false h = none_left (rw (parts_end t at (ltb-false _ _ h)) at e)
+    by : (y : NoAllele) → step_paper (Err y) ≡ step_answer t at → left_of t at k ≡ []
+    by S.Beyond e = absurd (let f = step_means t at (Err S.Beyond) e in let w = g.within in omega arith)
+    by S.Nothing e = let f = step_means t at (Err S.Nothing) e in left_none t at k (omega arith)
+    by S.Empty e = let f = step_means t at (Err S.Empty) e in left_none t at k (omega arith)
+    by (S.Bad fault) e = let f = step_means t at (Err (S.Bad fault)) e in rw f.parts

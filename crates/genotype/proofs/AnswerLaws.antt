@@ -13,8 +13,7 @@ use Rattle.allele.specs.Reading.{list, bad, empty, reading_of, list_of, fault_at
 use Rattle.allele.specs.Row.{numbers_of, missing_of, phased_of}
 use Rattle.allele.specs.declared.allele.Allele.{Allele}
 use Rattle.genotype.specs.Answers.{read_answer, row_answer, ReadsText}
-use Rattle.genotype.specs.Paper.{read_paper}
-use Rattle.genotype.specs.declared.read.Read.{Read}
+use Rattle.genotype.specs.Paper.{Read, read_paper}
 
 -- ---- by what the text reads as
 

@@ -6,21 +6,23 @@ use native.Mathlib.Omega.{arith}
 use native.Mathlib.Nat.{zero-add}
 use lib.ListN.{length, drop}
 use borrow.Author.Tests.{lt-leb, le-leb}
+use Rattle.std.specs.Prelude.{Ok, Err, Result}
 use Rattle.text.specs.Answer.{Answer, says, number_of}
 use Rattle.text.specs.Over.{room_for}
 use Rattle.allele.specs.Reading.{Reading, list, bad, empty, with, gathered, reading_of, parts_of, fault_at, step_answer}
-use Rattle.allele.specs.Paper.{step_paper}
+use Rattle.allele.specs.Paper.{Step, step_paper}
 use Rattle.allele.specs.declared.allele.Allele.{Allele}
-use Rattle.allele.specs.declared.step.Step.{Step}
-use Rattle.allele.specs.declared.step.Step.TheVariants as S
+use Rattle.allele.specs.declared.step.NoAllele.{NoAllele}
+use Rattle.allele.specs.declared.step.NoAllele.TheVariants as S
 use Rattle.allele.proofs.PieceLaws.{parts_end}
 use Rattle.allele.proofs.StepLaws.{further_fault, step_means, found}
 use Rattle.allele.proofs.ReadingLaws.{reading_some, reading_none}
 use Rattle.genotype.specs.Answers.{read_answer, text_answer}
-use Rattle.genotype.specs.Paper.{read_paper}
-use Rattle.genotype.specs.declared.read.Read.{Read}
-use Rattle.genotype.specs.declared.read.Read.TheVariants as R
-use Rattle.genotype.specs.Inner.{whole_answer}
+use Rattle.genotype.specs.Paper.{Read, read_paper}
+use Rattle.genotype.specs.declared.read.ReadError.TheVariants as R
+use Rattle.genotype.specs.Inner.{whole_answer, Judged}
+use Rattle.genotype.specs.declared.lay.Whole.{Whole}
+use Rattle.genotype.specs.declared.read.ReadError.{ReadError}
 
 -- ---- the whole text
 
@@ -43,12 +45,11 @@ whole_with t k a (bad j) = refl
 whole_with t k a empty = refl
 
 -- neither an allele nor a bad piece, at a place of the text: it is the end
-pub end_tells : (t : List ℕ) (at : ℕ) (x : Step) → at ≤ length t → step_paper x ≡ step_answer t at → ((a : Allele) (next : ℕ) → x ≡ S.Found a next → ⊥) → ((fault : ℕ) → x ≡ S.Bad fault → ⊥) → length t ≤ at
-end_tells t at (S.Found a next) w e h b = absurd (h a next refl)
-end_tells t at S.Beyond w e h b = let f = step_means t at S.Beyond e in omega arith
-end_tells t at S.Nothing w e h b = let f = step_means t at S.Nothing e in omega arith
-end_tells t at S.Empty w e h b = let f = step_means t at S.Empty e in omega arith
-end_tells t at (S.Bad fault) w e h b = absurd (b fault refl)
+pub end_tells : (t : List ℕ) (at : ℕ) (y : NoAllele) → at ≤ length t → step_paper (Err y) ≡ step_answer t at → ((fault : ℕ) → y ≡ S.Bad fault → ⊥) → length t ≤ at
+end_tells t at S.Beyond w e b = let f = step_means t at (Err S.Beyond) e in omega arith
+end_tells t at S.Nothing w e b = let f = step_means t at (Err S.Nothing) e in omega arith
+end_tells t at S.Empty w e b = let f = step_means t at (Err S.Empty) e in omega arith
+end_tells t at (S.Bad fault) w e b = absurd (b fault refl)
 
 -- k alleles are passed, and at stands behind them: a fault from there on is one of the whole
 pub record Judging (t : List ℕ) (at k : ℕ) : Type 0 where
@@ -57,7 +58,7 @@ pub record Judging (t : List ℕ) (at k : ℕ) : Type 0 where
   pub same : whole_from t k (gathered k (parts_of (drop at t))) ≡ whole_answer t (reading_of t)
   pub faults : (j : ℕ) → at + fault_at (drop at t) j ≡ fault_at t (k + j)
 
-pub judge_empty : (t : List ℕ) → length t ≡ 0 → read_paper R.Empty ≡ whole_answer t (reading_of t)
+pub judge_empty : (t : List ℕ) → length t ≡ 0 → read_paper (Err R.Empty) ≡ whole_answer t (reading_of t)
 unfolding read_paper whole_answer
 judge_empty t h = rw (reading_none t h)
 
@@ -71,7 +72,7 @@ judge_first t h =
     }
 
 module _ (t : List ℕ) (at k : ℕ) (x : Step) (g : Judging t at k) (e : step_paper x ≡ step_answer t at) where
-  module _ (a : Allele) (next : ℕ) (q : x ≡ S.Found a next) where
+  module _ (a : Allele) (next : ℕ) (q : x ≡ Ok (a, next)) where
     pub judge_turn : Judging t next (k + 1)
     unfolding gathered
     judge_turn =
@@ -83,45 +84,40 @@ module _ (t : List ℕ) (at k : ℕ) (x : Step) (g : Judging t at k) (e : step_p
           faults = λ j. (let z : k + (j + 1) ≡ k + 1 + j = omega arith in sym (further_fault f j) ∙ g.faults (j + 1) ∙ rw z);
         }
 
-  pub judge_bad : {fault : ℕ} → x ≡ S.Bad fault → read_paper (R.Bad k fault) ≡ whole_answer t (reading_of t)
+  pub judge_bad : {fault : ℕ} → x ≡ Err (S.Bad fault) → read_paper (Err (R.Bad k fault)) ≡ whole_answer t (reading_of t)
   unfolding read_paper gathered whole_from
   judge_bad {fault} q =
-      let f = step_means t at (S.Bad fault) (rw q at e) in
+      let f = step_means t at (Err (S.Bad fault)) (rw q at e) in
       let z : k + 0 ≡ k = omega arith in
       let w : fault ≡ fault_at t k = f.there ∙ g.faults 0 ∙ rw z in
       rw w (rw f.parts at g.same)
 
-pub judge_past : {t : List ℕ} {at k : ℕ} → Judging t at k → length t ≤ at → read_paper (R.Done k) ≡ whole_answer t (reading_of t)
+pub judge_past : {t : List ℕ} {at k : ℕ} → Judging t at k → length t ≤ at → read_paper (Ok k) ≡ whole_answer t (reading_of t)
 unfolding read_paper gathered whole_from
 judge_past {t} {at} {k} g h = let z : k + 0 ≡ k = omega arith in rw (parts_end t at h, z) at g.same
 
 -- ---- room
 
--- an answer that is done has the number 0, and no other has
-pub done_number : (n : ℕ) → number_of (read_paper (R.Done n)) ≡ 0
+-- what is refused has no 0
+pub error_number : (x : ReadError) → number_of (read_paper (Err x)) ≡ 0 → ⊥
 unfolding read_paper
-done_number n = refl
-
-pub other_number : (x : Read) → ((k : ℕ) → x ≡ R.Done k → ⊥) → number_of (read_paper x) ≡ 0 → ⊥
-unfolding read_paper
-other_number (R.Done n) h e = h n refl
-other_number R.Empty h e = omega arith
-other_number (R.Bad k fault) h e = omega arith
-other_number R.Lengths h e = omega arith
-other_number R.Short h e = omega arith
-other_number (R.Above k) h e = omega arith
+error_number R.Empty e = omega arith
+error_number (R.Bad k fault) e = omega arith
+error_number R.Lengths e = omega arith
+error_number R.Short e = omega arith
+error_number (R.Above k) e = omega arith
 
 module _ {n room : ℕ} where
-  pub fit_short : room < n → read_paper R.Short ≡ room_for n room
+  pub fit_short : room < n → read_paper (Err R.Short) ≡ room_for n room
   unfolding read_paper
   fit_short h = rw (lt-leb _ _ h)
 
-  pub fit_done : n ≤ room → read_paper (R.Done n) ≡ room_for n room
+  pub fit_done : n ≤ room → read_paper (Ok n) ≡ room_for n room
   unfolding read_paper
   fit_done h = rw (le-leb _ _ h)
 
 -- a count is that of a list, and only room is left to be judged
-whole_count : (t : List ℕ) (r : Reading) (n room : ℕ) → read_paper (R.Done n) ≡ whole_answer t r → room_for n room ≡ read_answer t r room
+whole_count : (t : List ℕ) (r : Reading) (n room : ℕ) → read_paper (Ok n) ≡ whole_answer t r → room_for n room ≡ read_answer t r room
 unfolding read_paper whole_answer read_answer
 whole_count t (list as') n room e = let z : n ≡ length as' = cc in rw z
 whole_count t (bad k) n room e = cc
@@ -134,11 +130,13 @@ whole_other t (list as') room n = absurd (n refl)
 whole_other t (bad k) room n = refl
 whole_other t empty room n = refl
 
-module _ (t : List ℕ) (room : ℕ) (x : Read) (e : read_paper x ≡ whole_answer t (reading_of t)) where
-  pub judge_fits : {n : ℕ} (y : Read) → x ≡ R.Done n → read_paper y ≡ room_for n room → read_paper y ≡ text_answer t room
-  judge_fits {n} y q f = f ∙ whole_count t (reading_of t) n room (rw q at e)
+module _ (t : List ℕ) (room : ℕ) (w : Result Whole ReadError) (g : Judged t w) where
+  pub judge_fits : (v : Whole) (y : Read) → w ≡ Ok v → read_paper y ≡ room_for v.count room → read_paper y ≡ text_answer t room
+  judge_fits v y q f = f ∙ whole_count t (reading_of t) v.count room (rw q at g.answer)
 
-  pub judge_other : ((k : ℕ) → x ≡ R.Done k → ⊥) → read_paper x ≡ text_answer t room
-  judge_other h = e ∙ whole_other t (reading_of t) room (λ z. other_number x h (rw e z))
+  pub judge_error : (x : ReadError) → w ≡ Err x → read_paper (Err x) ≡ text_answer t room
+  judge_error x q =
+      let e = rw q at g.answer in
+      e ∙ whole_other t (reading_of t) room (λ z. error_number x (rw e z))
 
-pub ruleset laws = (fit_short, fit_done, judge_fits, judge_other)
+pub ruleset laws = (fit_short, fit_done, judge_fits, judge_error)

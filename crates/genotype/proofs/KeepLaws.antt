@@ -9,10 +9,14 @@ use lib.ListN.{length, get_or, take, drop, set, length-set}
 use lib.Seq.{paste-suc, length-take-le, take_at}
 use Rattle.text.specs.Over.{over}
 use Rattle.text.proofs.Lists.{over_is, over_nil, length_over}
-use Rattle.allele.specs.Row.{numbers_of, missing_of, phased_of}
+use Rattle.allele.specs.Row.{numbers_of, missing_of, phased_of, Parallel}
 use Rattle.allele.specs.declared.allele.Allele.{Allele}
 use Rattle.allele.proofs.ColumnLaws.{numbers_of_length, missing_of_length, phased_of_length}
 use Rattle.genotype.specs.Inner.{Room, Laid, Copies, Keeps}
+
+-- slices of one length have room where the first has
+pub room_even : {k : ℕ} {n m p : List ℕ} → Parallel n m p → k ≤ length n → Room k n m p
+room_even q h = record { numbers = h; missing = omega (arith, q.missing); phased = omega (arith, q.phased) }
 
 -- ---- copied
 

@@ -2,25 +2,31 @@
 -- stands, in each of the three slices. Assumes nothing.
 use Prim.Native.Nat.{ℕ, ◌+◌, ◌≤◌}
 use mathlib.Core.Path.{◌≡◌, refl, sym, ap, ◌∙◌}
+use mathlib.Core.Bool.{Bool, true}
 use mathlib.Core.List.{List, [], ◌∷◌, map}
 use native.Mathlib.Omega.{arith}
 use native.Mathlib.Numerals.{add-one}
 use lib.ListN.{length, set, length-set, length-map}
-use lib.Seq.{sets, set_out}
+use lib.Seq.{sets}
+use borrow.Author.Tests.{eqb-true}
+use Rattle.std.specs.Prelude.{◌==◌, Ok, Err, Result}
 use Rattle.text.specs.Over.{over}
 use Rattle.text.proofs.Lists.{sets_over}
 use Rattle.text.specs.Pick.{one_if}
 use Rattle.allele.specs.Reading.{reading_of, step_answer, list_of}
 use Rattle.allele.specs.Row.{numbers_of, missing_of, phased_of, Parallel}
-use Rattle.allele.specs.Paper.{step_paper}
+use Rattle.allele.specs.Slices.{StoresIn}
+use Rattle.allele.specs.Paper.{Step, step_paper}
 use Rattle.allele.specs.declared.allele.Allele.{Allele}
-use Rattle.allele.specs.declared.step.Step.{Step}
-use Rattle.allele.specs.declared.step.Step.TheVariants as S
+use Rattle.allele.specs.declared.row.RowMut.{RowMut}
+use Rattle.allele.specs.declared.step.NoAllele.{NoAllele}
+use Rattle.allele.specs.declared.step.NoAllele.TheVariants as S
 use Rattle.allele.proofs.StepLaws.{found_less}
 use Rattle.genotype.specs.Paper.{read_paper}
-use Rattle.genotype.specs.declared.read.Read.{Read}
-use Rattle.genotype.specs.declared.read.Read.TheVariants as R
-use Rattle.genotype.specs.Inner.{ListMeant, whole_answer, Larger, Stores, Lays}
+use Rattle.genotype.specs.declared.read.ReadError.TheVariants as R
+use Rattle.genotype.specs.Inner.{ListMeant, whole_answer, counted, Lays}
+use Rattle.genotype.specs.declared.lay.Whole.{Whole}
+use Rattle.genotype.specs.declared.read.ReadError.{ReadError}
 use Rattle.genotype.proofs.JudgeLaws.{Judging, end_tells, judge_empty, judge_first, judge_turn, judge_bad, judge_past}
 use Rattle.genotype.proofs.Ahead.{left_of, Ahead, some_text, ahead_first, left_first, ahead_turn, left_turn, left_none, left_end}
 use Rattle.genotype.proofs.AboveLaws.{Finding, find_first, find_turn, find_past}
@@ -68,22 +74,14 @@ pub record Laying (t n₀ m₀ p₀ n m p : List ℕ) (at k most : ℕ) : Type 0
   pub finding : ListMeant t → (count : ℕ) → most ≤ count → Finding t count at k
   pub columns : ListMeant t → Columns t n₀ m₀ p₀ n m p at k
 
--- ---- what is stored
-
-module _ {a : Allele} {k : ℕ} {n m p : List ℕ} (e : Parallel n m p) where
-  pub store_out : length n ≤ k → Stores a k n m p n m p
-  store_out h = record { numbers = sym (set_out n k _ h); missing = sym (set_out m k _ (omega arith)); phased = sym (set_out p k _ (omega arith)) }
-
-  pub store_in : {v u : ℕ} → v ≡ one_if a.missing → u ≡ one_if a.phased → Stores a k n m p (set n k a.number) (set m k v) (set p k u)
-  store_in f g = record { numbers = refl; missing = rw f; phased = rw g }
-
 -- ---- the loop
 
 module _ {t n m p : List ℕ} (e : Parallel n m p) where
-  pub lay_empty : length t ≡ 0 → Lays t n m p (record { read = R.Empty; most = 0 }) n m p
-  lay_empty h =
+  pub lay_empty : {none : Bool} → none ≡ (length t == 0) → none ≡ true → Lays t n m p (Err R.Empty) n m p
+  lay_empty d z =
+      let h = eqb-true (length t) 0 (sym d ∙ z) in
       record {
-        judged = record { answer = judge_empty t h; most = λ l. absurd (some_text t l h) };
+        judged = record { answer = judge_empty t h; most = λ v q l. absurd (some_text t l h) };
         laid = λ l r. absurd (some_text t l h);
       }
 
@@ -105,12 +103,16 @@ module _ {t n m p : List ℕ} (e : Parallel n m p) where
       }
 
 -- where none is left
-module _ {t n₀ m₀ p₀ n m p : List ℕ} {at k most : ℕ} (g : Laying t n₀ m₀ p₀ n m p at k most) where
-  lay_ends : {r : Read} → (ListMeant t → left_of t at k ≡ []) → read_paper r ≡ whole_answer t (reading_of t) → Lays t n₀ m₀ p₀ (record { read = r; most = most }) n m p
+module _ {t n₀ m₀ p₀ n m p : List ℕ} {at : ℕ} (v : Whole) (g : Laying t n₀ m₀ p₀ n m p at v.count v.most) where
+  lay_ends : (w : Result Whole ReadError) → ((u : Whole) → w ≡ Ok u → v ≡ u) → (ListMeant t → left_of t at v.count ≡ []) → read_paper (counted w) ≡ whole_answer t (reading_of t)
+      → Lays t n₀ m₀ p₀ w n m p
   unfolding numbers_of missing_of phased_of
-  lay_ends z j =
+  lay_ends w same z j =
       record {
-        judged = record { answer = j; most = λ l. record { is = λ count c. sym (find_past (g.finding l count c) (z l)) } };
+        judged = record {
+          answer = j;
+          most = λ u q l. record { is = λ count c. sym (find_past (g.finding l count (let e = ap (λ (x : Whole). x.most) (same u q) in omega arith)) (z l)) };
+        };
         laid = λ l r. (let c = g.columns l in
             record {
               numbers = column_past (rw (z l) at c.numbers) r.numbers;
@@ -119,14 +121,14 @@ module _ {t n₀ m₀ p₀ n m p : List ℕ} {at k most : ℕ} (g : Laying t n�
             });
       }
 
-  pub lay_past : length t ≤ at → Lays t n₀ m₀ p₀ (record { read = R.Done k; most = most }) n m p
-  lay_past h = lay_ends (λ l. left_none t at k h) (judge_past g.judging h)
+  pub lay_past : length t ≤ at → Lays t n₀ m₀ p₀ (Ok v) n m p
+  lay_past h = lay_ends (Ok v) (λ u q. cc) (λ l. left_none t at v.count h) (judge_past g.judging h)
 
-module _ (t n₀ m₀ p₀ n m p : List ℕ) (at k most : ℕ) (x : Step) (g : Laying t n₀ m₀ p₀ n m p at k most) (e : step_paper x ≡ step_answer t at) where
-  module _ (a : Allele) (next : ℕ) (q : x ≡ S.Found a next) where
-    columns_turn : {n' m' p' : List ℕ} → Stores a k n m p n' m' p' → Columns t n₀ m₀ p₀ n m p at k → Columns t n₀ m₀ p₀ n' m' p' next (k + 1)
+module _ (t n₀ m₀ p₀ : List ℕ) (row : RowMut) (at : ℕ) (v : Whole) (x : Step) (g : Laying t n₀ m₀ p₀ row.numbers.now row.missing.now row.phased.now at v.count v.most) (e : step_paper x ≡ step_answer t at) where
+  module _ (a : Allele) (next : ℕ) (q : x ≡ Ok (a, next)) where
+    columns_turn : {row' : RowMut} → StoresIn a v.count row row' → Columns t n₀ m₀ p₀ row.numbers.now row.missing.now row.phased.now at v.count → Columns t n₀ m₀ p₀ row'.numbers.now row'.missing.now row'.phased.now next (v.count + 1)
     columns_turn s c =
-        let l : left_of t at k ≡ a ∷ left_of t next (k + 1) = left_turn c.ahead e q in
+        let l : left_of t at v.count ≡ a ∷ left_of t next (v.count + 1) = left_turn c.ahead e q in
         rw (s.numbers, s.missing, s.phased)
         (record {
           ahead = ahead_turn c.ahead e q;
@@ -135,26 +137,27 @@ module _ (t n₀ m₀ p₀ n m p : List ℕ) (at k most : ℕ) (x : Step) (g : L
           phases = column_turn (rw l at c.phases);
         })
 
-    pub lay_turn : {n' m' p' : List ℕ} {r : ℕ} → Stores a k n m p n' m' p' → Larger most a.number r → Laying t n₀ m₀ p₀ n' m' p' next (k + 1) r
-    lay_turn s r =
-        let u = ap length s.numbers ∙ length-set n k a.number in
-        let v = ap length s.missing ∙ length-set m k (one_if a.missing) in
-        let w = ap length s.phased ∙ length-set p k (one_if a.phased) in
+    pub lay_turn : {row' : RowMut} {r : ℕ} → StoresIn a v.count row row' → v.most ≤ r → a.number ≤ r → Laying t n₀ m₀ p₀ row'.numbers.now row'.missing.now row'.phased.now next (v.count + 1) r
+    lay_turn s w₁ w₂ =
+        let u = ap length s.numbers ∙ length-set row.numbers.now v.count a.number in
+        let y = ap length s.missing ∙ length-set row.missing.now v.count (one_if a.missing) in
+        let w = ap length s.phased ∙ length-set row.phased.now v.count (one_if a.phased) in
         record {
           even = record { missing = omega arith; phased = omega arith };
           numbers = omega arith;
           missing = omega arith;
           phased = omega arith;
-          judging = judge_turn t at k x g.judging e a next q;
-          finding = λ l count c. find_turn t count at k x (g.finding l count (omega arith)) e a next q (omega arith);
+          judging = judge_turn t at v.count x g.judging e a next q;
+          finding = λ l count c. find_turn t count at v.count x (g.finding l count (omega arith)) e a next q (omega arith);
           columns = λ l. columns_turn s (g.columns l);
         }
 
-  pub lay_bad : {fault : ℕ} → x ≡ S.Bad fault → Lays t n₀ m₀ p₀ (record { read = R.Bad k fault; most = most }) n m p
-  lay_bad q =
-      lay_ends g (λ l. left_end t at k x (g.columns l).ahead e (λ a next f. cc)) (judge_bad t at k x g.judging e q)
+  module _ {y : NoAllele} (q : x ≡ Err y) where
+    pub lay_bad : {fault : ℕ} → y ≡ S.Bad fault → Lays t n₀ m₀ p₀ (Err (R.Bad v.count fault)) row.numbers.now row.missing.now row.phased.now
+    lay_bad {fault} f =
+        lay_ends v g (Err (R.Bad v.count fault)) (λ u z. cc) (λ l. left_end t at v.count x (g.columns l).ahead e y q) (judge_bad t at v.count x g.judging e (rw f at q))
 
-  pub lay_nothing : ((a : Allele) (next : ℕ) → x ≡ S.Found a next → ⊥) → ((fault : ℕ) → x ≡ S.Bad fault → ⊥) → Lays t n₀ m₀ p₀ (record { read = R.Done k; most = most }) n m p
-  lay_nothing h b = lay_past g (end_tells t at x g.judging.within e h b)
+    pub lay_nothing : ((fault : ℕ) → y ≡ S.Bad fault → ⊥) → Lays t n₀ m₀ p₀ (Ok v) row.numbers.now row.missing.now row.phased.now
+    lay_nothing b = lay_past v g (end_tells t at y g.judging.within (rw q at e) b)
 
-pub ruleset laws = (store_out, store_in, lay_empty, lay_first, found_less, lay_turn, lay_bad, lay_nothing, lay_past)
+pub ruleset laws = (lay_empty, lay_first, found_less, lay_turn, lay_bad, lay_nothing, lay_past)

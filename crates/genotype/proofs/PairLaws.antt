@@ -18,7 +18,7 @@ use Rattle.allele.specs.Means as M
 use Rattle.allele.proofs.BodyLaws.{digit_body, mark_of}
 use Rattle.allele.proofs.MeansLaws.{reads_means}
 use Rattle.genotype.specs.Answers.{first_above}
-use Rattle.genotype.specs.Inner.{NoneAbove, Larger, Room, Laid, is_body, Pair, FindsPair, KnowsPair, byte_worth, byte_allele, pair_of}
+use Rattle.genotype.specs.Inner.{NoneAbove, Room, Laid, is_body, Pair, FindsPair, KnowsPair, byte_worth, byte_allele, pair_of}
 
 -- ---- one byte
 
@@ -93,11 +93,11 @@ module _ {b : ℕ} where
   unfolding byte_worth
   worth_digit n = rw (ne_eqb b 46 n)
 
-pub pair_most : (t : List ℕ) {x y r : ℕ} → x ≡ byte_worth (get_or t 0 0) → y ≡ byte_worth (get_or t 2 0) → Larger x y r → NoneAbove (pair_of t) r
+pub pair_most : (t : List ℕ) {x y r : ℕ} → x ≡ byte_worth (get_or t 0 0) → y ≡ byte_worth (get_or t 2 0) → x ≤ r → y ≤ r → NoneAbove (pair_of t) r
 unfolding pair_of first_above
-pair_most t p q g =
+pair_most t p q g h =
     record {
-      is = λ count h. where_later _ 0 _ _ (le-ltb count _ (omega arith)) ∙ where_later _ 1 _ _ (le-ltb count _ (omega arith)) ∙ where_none _ 2;
+      is = λ count w. where_later _ 0 _ _ (le-ltb count _ (omega arith)) ∙ where_later _ 1 _ _ (le-ltb count _ (omega arith)) ∙ where_none _ 2;
     }
 
 pub known_not : {t alt : List ℕ} {room : ℕ} → KnowsPair t alt room false

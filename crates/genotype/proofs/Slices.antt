@@ -9,9 +9,9 @@ use Rattle.lists.specs.AlternateBases.{alt_count}
 use Rattle.allele.specs.Row.{row_of, Parallel}
 use Rattle.allele.specs.declared.allele.Allele.{Allele}
 use Rattle.allele.proofs.RowLaws.{row_length, row_laid}
+use Rattle.genotype.specs.Paper.{Read}
 use Rattle.genotype.specs.Answers.{row_answer, Reads}
 use Rattle.genotype.specs.Demands.{SlicesReader, SlicesChecked}
-use Rattle.genotype.specs.declared.read.Read.{Read}
 use Rattle.genotype.proofs.AnswerLaws.{row_even}
 use Rattle.genotype.proofs.ReaderLaws.{reader_answer, reader_row, checked_answer_lem, checked_row}
 

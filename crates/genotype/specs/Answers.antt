@@ -9,8 +9,7 @@ use Rattle.lists.specs.AlternateBases.{alt_count}
 use Rattle.allele.specs.Reading.{Reading, list, bad, empty, reading_of, list_of, fault_at}
 use Rattle.allele.specs.Row.{numbers_of, missing_of, phased_of}
 use Rattle.allele.specs.declared.allele.Allele.{Allele}
-use Rattle.genotype.specs.Paper.{read_paper}
-use Rattle.genotype.specs.declared.read.Read.{Read}
+use Rattle.genotype.specs.Paper.{Read, read_paper}
 
 -- ---- judged whole, and room last
 

@@ -10,9 +10,8 @@ use Rattle.allele.specs.Reading.{reading_of}
 use Rattle.allele.specs.Row.{row_of, Parallel}
 use Rattle.allele.specs.Means.{Means, Broken}
 use Rattle.allele.specs.declared.allele.Allele.{Allele}
-use Rattle.genotype.specs.Paper.{read_paper}
+use Rattle.genotype.specs.Paper.{Read, read_paper}
 use Rattle.genotype.specs.Answers.{text_answer, row_read, checked_answer, row_within, ReadsText, ReadsChecked}
-use Rattle.genotype.specs.declared.read.Read.{Read}
 
 -- ---- readers
 

@@ -1,19 +1,18 @@
 -- What the private functions of this crate promise each other; of three slices also those of `bcf`. Assumes nothing.
-use Rattle.std.specs.Prelude.{ℕ, ◌-◌, ◌≤◌, ◌≡◌, Bool, true, ◌||◌, List, [], ◌∷◌, length, get_or, take, set, eqb}
+use Rattle.std.specs.Prelude.{ℕ, ◌-◌, ◌≤◌, ◌≡◌, Bool, true, ◌||◌, List, [], ◌∷◌, length, get_or, take, eqb, Result, Ok, Err}
+use Rattle.std.specs.Prelude as P
 use Rattle.std.proofs.Math.Option.{Option, some, none}
 use Rattle.text.specs.Answer.{Answer, says}
 use Rattle.text.specs.Over.{over}
-use Rattle.text.specs.Pick.{pick, one_if, within}
+use Rattle.text.specs.Pick.{pick, within}
 use Rattle.lists.specs.AlternateBases.{alt_count}
 use Rattle.allele.specs.Reading.{Reading, list, bad, empty, is_mark, reading_of, list_of, fault_at}
 use Rattle.allele.specs.Row.{numbers_of, missing_of, phased_of}
 use Rattle.allele.specs.declared.allele.Allele.{Allele}
-use Rattle.genotype.specs.Answers.{first_above}
-use Rattle.genotype.specs.Paper.{read_paper}
-use Rattle.genotype.specs.declared.read.Read.{Read}
-use Rattle.genotype.specs.declared.read.Read.TheVariants as R
-use Rattle.genotype.specs.declared.above.Above.{Above}
-use Rattle.genotype.specs.declared.above.Above.TheVariants as O
+use Rattle.allele.specs.declared.row.RowMut.{RowMut}
+use Rattle.genotype.specs.Answers.{first_above, Reads}
+use Rattle.genotype.specs.Paper.{Read, read_paper}
+use Rattle.genotype.specs.declared.read.ReadError.{ReadError}
 use Rattle.genotype.specs.declared.lay.Whole.{Whole}
 
 -- ---- the whole text
@@ -33,20 +32,20 @@ whole_answer t empty = says 11 []
 pub record NoneAbove (as' : List Allele) (most : ℕ) : Type 0 where
   pub is : (count : ℕ) → most ≤ count → first_above count 0 as' ≡ none
 
+-- how many alleles a text that was judged whole has
+abbrev pub counted : Result Whole ReadError → Read
+counted (Ok w) = Ok w.count
+counted (Err e) = Err e
+
 -- the answer of a text, and a number that no allele is above where it reads as a list
-pub record Judged (t : List ℕ) (w : Whole) : Type 0 where
-  pub answer : read_paper w.read ≡ whole_answer t (reading_of t)
-  pub most : ListMeant t → NoneAbove (list_of (reading_of t)) w.most
+pub record Judged (t : List ℕ) (w : Result Whole ReadError) : Type 0 where
+  pub answer : read_paper (counted w) ≡ whole_answer t (reading_of t)
+  pub most : (v : Whole) → w ≡ Ok v → ListMeant t → NoneAbove (list_of (reading_of t)) v.most
 
 -- an index, or none
-unfoldable pub above_paper : Above → Option ℕ
-above_paper (O.At k) = some k
-above_paper O.Nothing = none
-
--- a number that is not below either of two
-pub record Larger (a b r : ℕ) : Type 0 where
-  pub first : a ≤ r
-  pub second : b ≤ r
+unfoldable pub above_paper : P.Option ℕ → Option ℕ
+above_paper (P.Some k) = some k
+above_paper P.None = none
 
 -- ---- three slices
 
@@ -56,12 +55,6 @@ pub record Room (k : ℕ) (n m p : List ℕ) : Type 0 where
   pub missing : k ≤ length m
   pub phased : k ≤ length p
 
--- an allele stored at an index
-pub record Stores (a : Allele) (k : ℕ) (n m p n' m' p' : List ℕ) : Type 0 where
-  pub numbers : n' ≡ set n k a.number
-  pub missing : m' ≡ set m k (one_if a.missing)
-  pub phased : p' ≡ set p k (one_if a.phased)
-
 -- a list laid over the slices
 pub record Laid (as' : List Allele) (n m p n' m' p' : List ℕ) : Type 0 where
   pub numbers : n' ≡ over (numbers_of as') n
@@ -69,7 +62,7 @@ pub record Laid (as' : List Allele) (n m p n' m' p' : List ℕ) : Type 0 where
   pub phased : p' ≡ over (phased_of as') p
 
 -- a text judged whole, and laid over slices that hold its list
-pub record Lays (t n m p : List ℕ) (w : Whole) (n' m' p' : List ℕ) : Type 0 where
+pub record Lays (t n m p : List ℕ) (w : Result Whole ReadError) (n' m' p' : List ℕ) : Type 0 where
   pub judged : Judged t w
   pub laid : ListMeant t → Room (length (list_of (reading_of t))) n m p → Laid (list_of (reading_of t)) n m p n' m' p'
 
@@ -90,11 +83,29 @@ pub record Keeps (as' : List Allele) (a b c : List ℕ) : Type 0 where
 pub record Kept (t a b c : List ℕ) : Type 0 where
   pub is : ListMeant t → length (list_of (reading_of t)) ≤ 8 → Keeps (list_of (reading_of t)) a b c
 
--- where the answer is done, the text reads as a list of so many alleles, and there is room for it
-pub record Fillable (t : List ℕ) (r : Read) (room : ℕ) : Type 0 where
-  pub meant : (k : ℕ) → r ≡ R.Done k → ListMeant t
-  pub count : (k : ℕ) → r ≡ R.Done k → length (list_of (reading_of t)) ≡ k
-  pub few : (k : ℕ) → r ≡ R.Done k → k ≤ room
+-- the text reads as a list of k alleles, and there is room for it
+pub record Fillable (t : List ℕ) (k room : ℕ) : Type 0 where
+  pub meant : ListMeant t
+  pub count : length (list_of (reading_of t)) ≡ k
+  pub few : k ≤ room
+
+-- ---- the same of a row
+
+abbrev pub LaidIn : List Allele → RowMut → RowMut → Type 0
+LaidIn as' row row' = Laid as' row.numbers.now row.missing.now row.phased.now row'.numbers.now row'.missing.now row'.phased.now
+
+abbrev pub LaysIn : List ℕ → RowMut → Result Whole ReadError → RowMut → Type 0
+LaysIn t row w row' = Lays t row.numbers.now row.missing.now row.phased.now w row'.numbers.now row'.missing.now row'.phased.now
+
+abbrev pub CopiesIn : ℕ → RowMut → RowMut → RowMut → Type 0
+CopiesIn k kept row row' =
+    Copies k kept.numbers.now kept.missing.now kept.phased.now row.numbers.now row.missing.now row.phased.now row'.numbers.now row'.missing.now row'.phased.now
+
+abbrev pub KeptIn : List ℕ → RowMut → Type 0
+KeptIn t kept = Kept t kept.numbers.now kept.missing.now kept.phased.now
+
+abbrev pub ReadsIn : Answer → List Allele → RowMut → Read → RowMut → Type 0
+ReadsIn a as' row r row' = Reads a as' row.numbers.now row.missing.now row.phased.now r row'.numbers.now row'.missing.now row'.phased.now
 
 -- ---- a pair
 

@@ -2,8 +2,7 @@
 use Rattle.std.specs.Prelude.{ℕ, ◌≡◌, List}
 use Rattle.text.specs.Outcome.{OneAnswer}
 use Rattle.genotype.specs.Answers.{text_answer, checked_text, ReadsText, ReadsChecked}
-use Rattle.genotype.specs.Paper.{read_paper}
-use Rattle.genotype.specs.declared.read.Read.{Read}
+use Rattle.genotype.specs.Paper.{Read, read_paper}
 
 abbrev pub Judges : List ℕ → ℕ → Read → Type 0
 Judges t room r = read_paper r ≡ text_answer t room

@@ -1,4 +1,6 @@
 -- A step of the INFO scan: the entry is read up to its first `;`, cut at its first `=`, and each answer is a law of the pieces between `;`. Assumes nothing.
+use Rattle.std.specs.Option.{unwrap_or}
+use Rattle.std.specs.Prelude.{Ok, Err, Option, Some, None}
 use Prim.Native.Nat.{ℕ, suc, ◌+◌, ◌-◌, ◌^◌, ◌<◌, ◌≤◌}
 use mathlib.Core.Path.{◌≡◌, refl, sym, ap, ◌∙◌}
 use mathlib.Core.Bool.{Bool, true, false}
@@ -19,7 +21,7 @@ use Rattle.text.proofs.Lists.{here, cut_is}
 use Rattle.text.proofs.ByteLaws.{empty_is}
 use Rattle.pieces.specs.Demands.{Free}
 use Rattle.pieces.specs.Inner.{Quiet, quiet_length}
-use Rattle.pieces.specs.declared.step.Step.TheVariants as P
+use Rattle.pieces.specs.declared.step.Piece.TheVariants as P
 use Rattle.pieces.proofs.BlockLaws.{quiet_most, quiet_to}
 use Rattle.pieces.proofs.EitherLaws.{seek_first, seek_turn, seek_past, seek_rest}
 use Rattle.pieces.proofs.PieceLaws.{part_free, split_whole, split_append}
@@ -27,10 +29,8 @@ use Rattle.pieces.proofs.StepLaws.{step_tells, finds_last, finds_more}
 use Rattle.info.specs.Info.{Pair, alone, paired, key_of, pair_of, places_of, entry_answer, dangling_answer, ended_answer, step_answer}
 use Rattle.info.specs.Paper.{value_places, entry_places, step_paper}
 use Rattle.info.specs.Inner.{Reading, KeyRead, bare_at, entry_text, end_by, end_of, ReadsEntry, Drops, Passes}
-use Rattle.info.specs.declared.step.Value.{Value}
-use Rattle.info.specs.declared.step.Value.TheVariants as W
 use Rattle.info.specs.declared.step.Entry.{Entry}
-use Rattle.info.specs.declared.step.Step.TheVariants as S
+use Rattle.info.specs.declared.step.NoEntry.TheVariants as N
 use Rattle.info.proofs.EntryLaws.{pair_alone, pair_paired, step_beyond, step_end, step_inside, first_last, first_ended, ended_none, ended_some}
 
 -- ---- the key is read
@@ -78,14 +78,17 @@ module _ {t : List ℕ} {at i : ℕ} (g : Reading t at i) where
   pub bare_mark : {r : Entry} → i < length t → get_or t i 0 ≡ 59 → r ≡ bare_at at i → ReadsEntry t at r
   bare_mark h e q = rw q (bare_reads (seek_first {a = 59} {b = 59} (record { same = g.semicolon }) h e))
 
-  pub bare_end : {r : Entry} → length t ≤ i → r ≡ bare_at at i → ReadsEntry t at r
-  bare_end h q = rw q (bare_reads (seek_past {a = 59} {b = 59} (record { same = g.semicolon }) h))
+  pub bare_end : {r : Entry} → length t ≤ i → r ≡ bare_at at (length t) → ReadsEntry t at r
+  bare_end h q =
+      let w = g.within in
+      let n : length t ≡ i = omega arith in
+      rw (q, n) (bare_reads (seek_past {a = 59} {b = 59} (record { same = g.semicolon }) h))
 
 -- ---- a key and a value
 
 module _ {t : List ℕ} {at equals : ℕ} (g : KeyRead t at equals) where
   pub value_reads : {end : ℕ} → end ≡ equals + 1 + quiet_length 59 59 (drop (equals + 1) t)
-      → ReadsEntry t at (record { key = record { start = at; len = equals - at }; value = W.At (record { start = equals + 1; len = end - (equals + 1) }) })
+      → ReadsEntry t at (record { key = record { start = at; len = equals - at }; value = Some (record { start = equals + 1; len = end - (equals + 1) }) })
   unfolding end_of end_by entry_places value_places places_of entry_text
   value_reads {end} e =
       let a = g.read.after in
@@ -107,21 +110,17 @@ module _ {t : List ℕ} {at equals : ℕ} (g : KeyRead t at equals) where
 
 -- ---- where it ends
 
-module _ (e : Entry) (v : e.value ≡ W.Absent) where
-  pub end_bare : e.key.start + e.key.len ≡ end_of e
+module _ (e : Entry) {r : Range} (q : r ≡ unwrap_or e.value e.key) where
+  pub end_is : r.start + r.len ≡ end_of e
   unfolding end_of end_by
-  end_bare = rw v
+  end_is = by e.value q
+    where
+      by : (v : Option Range) → r ≡ unwrap_or v e.key → r.start + r.len ≡ end_by v e
+      by None q = rw q
+      by (Some x) q = rw q
 
-  pub bare_fits : end_of e < 2 ^ 64 → Fits w64 (e.key.start + e.key.len)
-  bare_fits h = omega (arith, end_bare)
-
-module _ (e : Entry) {r : Range} (v : e.value ≡ W.At r) where
-  pub end_valued : r.start + r.len ≡ end_of e
-  unfolding end_of end_by
-  end_valued = rw v
-
-  pub valued_fits : end_of e < 2 ^ 64 → Fits w64 (r.start + r.len)
-  valued_fits h = omega (arith, end_valued)
+  pub end_sum : end_of e < 2 ^ 64 → Fits w64 (r.start + r.len)
+  end_sum h = omega (arith, end_is)
 
 pub passes_none : {end left : ℕ} → left ≡ 0 → Passes end left end
 passes_none z = record { none = λ y. refl; some = λ n. absurd (n z) }
@@ -131,10 +130,10 @@ passes_some n = record { none = λ z. absurd (n z); some = λ y. refl }
 
 -- ---- whether it is a key alone before one byte
 
-pub drops_bare : {e : Entry} {left : ℕ} → left ≡ 1 → e.value ≡ W.Absent → Drops e left true
+pub drops_bare : {e : Entry} {left : ℕ} → left ≡ 1 → e.value ≡ None → Drops e left true
 drops_bare h v = record { yes = λ z. (h, v); no = λ z. absurd (let y : ◌≡◌ {A = ℕ} 0 1 = cc in omega arith) }
 
-pub drops_valued : {e : Entry} {left : ℕ} {r : Range} → e.value ≡ W.At r → Drops e left false
+pub drops_valued : {e : Entry} {left : ℕ} {r : Range} → e.value ≡ Some r → Drops e left false
 drops_valued v = record { yes = λ z. absurd (let y : ◌≡◌ {A = ℕ} 0 1 = cc in omega arith); no = λ z h w. (let y : ◌≡◌ {A = ℕ} 0 1 = cc in omega arith) }
 
 pub drops_far : {e : Entry} {left : ℕ} → (left ≡ 1 → ⊥) → Drops e left false
@@ -148,19 +147,19 @@ module _ (e : Entry) (at : ℕ) where
   key_size (alone k) q = cc
   key_size (paired k v) q = cc
 
-  bare_dangles : (p : Pair) (end : ℕ) → entry_places e ≡ places_of at p → e.value ≡ W.Absent → dangling_answer at p end ≡ says 7 (end ∷ [])
+  bare_dangles : (p : Pair) (end : ℕ) → entry_places e ≡ places_of at p → e.value ≡ None → dangling_answer at p end ≡ says 7 (end ∷ [])
   unfolding entry_places value_places places_of dangling_answer
   bare_dangles (alone k) end q v = refl
   bare_dangles (paired k w) end q v = absurd (let g = rw v at q in let z : ◌≡◌ {A = ℕ} 0 1 = cc in omega arith)
 
-  value_dangles : (p : Pair) (end : ℕ) → entry_places e ≡ places_of at p → (e.value ≡ W.Absent → ⊥)
+  value_dangles : (p : Pair) (end : ℕ) → entry_places e ≡ places_of at p → (e.value ≡ None → ⊥)
       → dangling_answer at p end ≡ pick (eqb e.key.len 0) (says 8 ((at + 1) ∷ [])) (says 9 (end ∷ []))
   unfolding entry_places value_places places_of dangling_answer
   value_dangles (alone k) end q n = absurd (by e.value refl)
     where
-      by : (v : Value) → e.value ≡ v → ⊥
-      by W.Absent f = n f
-      by (W.At r) f = let g = rw f at q in let z : ◌≡◌ {A = ℕ} 0 1 = cc in omega arith
+      by : (v : Option Range) → e.value ≡ v → ⊥
+      by None f = n f
+      by (Some r) f = let g = rw f at q in let z : ◌≡◌ {A = ℕ} 0 1 = cc in omega arith
   value_dangles (paired k v) end q n = rw (key_size (paired k v) q, empty_is k)
 
   entry_judged : (p : Pair) (next : ℕ) → entry_places e ≡ places_of at p
@@ -170,11 +169,11 @@ module _ (e : Entry) (at : ℕ) where
 
 -- ---- each way through a step
 
-pub finds_end : (t : List ℕ) (at : ℕ) → at ≡ length t → step_paper (S.Nothing at) ≡ step_answer t at
+pub finds_end : (t : List ℕ) (at : ℕ) → at ≡ length t → step_paper (Err (N.Nothing at)) ≡ step_answer t at
 unfolding step_paper
 finds_end t at h = sym (step_end t at h)
 
-pub finds_beyond : (t : List ℕ) (at : ℕ) → length t ≤ at → (at ≡ length t → ⊥) → step_paper (S.Beyond at) ≡ step_answer t at
+pub finds_beyond : (t : List ℕ) (at : ℕ) → length t ≤ at → (at ≡ length t → ⊥) → step_paper (Err (N.Beyond at)) ≡ step_answer t at
 unfolding step_paper
 finds_beyond t at h n = sym (step_beyond t at (omega arith))
 
@@ -201,7 +200,7 @@ module _ {t : List ℕ} {at : ℕ} {e : Entry} (h : at < length t) (g : ReadsEnt
   answer_last z =
       let q = g.end in
       let l = text_length in
-      let f = step_tells 59 t at (P.Last (range_at at (end_of e - at))) (finds_last 59 t at (omega arith) (λ y. omega arith) g.end z) in
+      let f = step_tells 59 t at (Ok (P.Last (range_at at (end_of e - at)))) (finds_last 59 t at (omega arith) (λ y. omega arith) g.end z) in
       let x : at + length (entry_text t at) ≡ end_of e = omega arith in
       step_inside t at h ∙ rw (f.pieces, text_is (end_of e - at) (omega arith), first_last, x)
 
@@ -210,7 +209,7 @@ module _ {t : List ℕ} {at : ℕ} {e : Entry} (h : at < length t) (g : ReadsEnt
   answer_more z =
       let q = g.end in
       let l = text_length in
-      let f = step_tells 59 t at (P.More (range_at at (end_of e - at)) (end_of e + 1)) (finds_more 59 t at (omega arith) (λ y. omega arith) g.end z) in
+      let f = step_tells 59 t at (Ok (P.More (range_at at (end_of e - at)) (end_of e + 1))) (finds_more 59 t at (omega arith) (λ y. omega arith) g.end z) in
       let x : at + length (entry_text t at) + 1 ≡ end_of e + 1 = omega arith in
       step_inside t at h ∙ rw (f.pieces, text_is (end_of e - at) (omega arith), first_ended, x)
 
@@ -231,11 +230,11 @@ module _ {t : List ℕ} {at : ℕ} {e : Entry} (h : at < length t) (g : ReadsEnt
             let y = p.some (λ d. omega arith) in
             answer_more z ∙ ended_some at (pair_at t at) (end_of e + 1) (drop (end_of e + 1) t) (simp length-drop (omega arith)) ∙ ap (entry_answer at (pair_at t at)) (omega arith)
 
-    pub says_seven : {r : Bool} → Drops e (length t - end) r → r ≡ true → step_paper (S.AfterKey (length t)) ≡ step_answer t at
+    pub says_seven : {r : Bool} → Drops e (length t - end) r → r ≡ true → step_paper (Err (N.AfterKey (length t))) ≡ step_answer t at
     unfolding step_paper
     says_seven d y = sym (answer_dropped (d.yes y).0 ∙ bare_dangles e at (pair_at t at) (length t) g.places (d.yes y).1)
 
-    pub says_eight : {r : Bool} → Drops e (length t - end) r → r ≡ false → e.key.len ≡ 0 → step_paper (S.NoKey (at + 1)) ≡ step_answer t at
+    pub says_eight : {r : Bool} → Drops e (length t - end) r → r ≡ false → e.key.len ≡ 0 → step_paper (Err (N.NoKey (at + 1))) ≡ step_answer t at
     unfolding step_paper
     says_eight d y z = by (ℕ_discrete (length t - end) 1)
       where
@@ -247,12 +246,12 @@ module _ {t : List ℕ} {at : ℕ} {e : Entry} (h : at < length t) (g : ReadsEnt
         by (no n) = elim (ℕ_discrete (length t - end) 0) [ yes o ↦ kept n (passes_none o) | no m ↦ kept n (passes_some m) ]
 
     module _ (k : e.key.len ≡ 0 → ⊥) where
-      pub says_nine : {r : Bool} → Drops e (length t - end) r → r ≡ false → length t - end ≡ 1 → step_paper (S.AfterValue (length t)) ≡ step_answer t at
+      pub says_nine : {r : Bool} → Drops e (length t - end) r → r ≡ false → length t - end ≡ 1 → step_paper (Err (N.AfterValue (length t))) ≡ step_answer t at
       unfolding step_paper
       says_nine d y o = sym (answer_dropped o ∙ value_dangles e at (pair_at t at) (length t) g.places (d.no y o) ∙ rw (ne_eqb _ _ k))
 
-      pub says_entry : {next : ℕ} → (length t - end ≡ 1 → ⊥) → Passes end (length t - end) next → step_paper (S.Found e next) ≡ step_answer t at
+      pub says_entry : {next : ℕ} → (length t - end ≡ 1 → ⊥) → Passes end (length t - end) next → step_paper (Ok (e, next)) ≡ step_answer t at
       unfolding step_paper
       says_entry {next} n p = sym (answer_kept n p ∙ entry_judged e at (pair_at t at) next g.places ∙ rw (ne_eqb _ _ k))
 
-pub ruleset laws = (read_first, read_turn, key_read, bare_mark, bare_end, value_reads, end_bare, bare_fits, end_valued, valued_fits, passes_none, passes_some, drops_bare, drops_valued, drops_far, finds_end, finds_beyond, end_within, end_fits, says_seven, says_eight, says_nine, says_entry)
+pub ruleset laws = (read_first, read_turn, key_read, bare_mark, bare_end, value_reads, end_is, end_sum, passes_none, passes_some, drops_bare, drops_valued, drops_far, finds_end, finds_beyond, end_within, end_fits, says_seven, says_eight, says_nine, says_entry)

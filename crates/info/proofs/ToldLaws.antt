@@ -1,45 +1,17 @@
--- The number and the next place of each case of a step, as its paper has them. Assumes nothing.
+-- A step that is told by another number than 10 moves on. Assumes nothing.
 use Prim.Native.Nat.{ℕ, ◌<◌, ◌≤◌}
 use mathlib.Core.Path.{◌≡◌, refl, ap, ◌∙◌}
 use mathlib.Core.List.{List}
 use lib.ListN.{length, get_or}
 use Rattle.text.specs.Answer.{number_of, next_of}
 use Rattle.info.specs.Info.{step_answer}
-use Rattle.info.specs.Paper.{step_paper}
+use Rattle.info.specs.Paper.{Step, step_paper}
 use Rattle.info.specs.Told.{Tells}
 use Rattle.info.specs.Demands.{MovesOn}
-use Rattle.info.specs.declared.step.Entry.{Entry}
-use Rattle.info.specs.declared.step.Step.{Step}
-use Rattle.info.specs.declared.step.Step.TheVariants as S
 use Rattle.info.specs.declared.step.Told.{Told}
 use Rattle.info.proofs.MovesOn.{moves_on, Turn, stop, go, turn}
 
-module _ (x : Step) {next : ℕ} where
-  pub told_found : {e : Entry} → x ≡ S.Found e next → Tells (step_paper x) (record { number = 0; next = next })
-  unfolding step_paper
-  told_found q = rw q (record { number = refl; next = refl })
-
-  pub told_beyond : x ≡ S.Beyond next → Tells (step_paper x) (record { number = 6; next = next })
-  unfolding step_paper
-  told_beyond q = rw q (record { number = refl; next = refl })
-
-  pub told_after_key : x ≡ S.AfterKey next → Tells (step_paper x) (record { number = 7; next = next })
-  unfolding step_paper
-  told_after_key q = rw q (record { number = refl; next = refl })
-
-  pub told_no_key : x ≡ S.NoKey next → Tells (step_paper x) (record { number = 8; next = next })
-  unfolding step_paper
-  told_no_key q = rw q (record { number = refl; next = refl })
-
-  pub told_after_value : x ≡ S.AfterValue next → Tells (step_paper x) (record { number = 9; next = next })
-  unfolding step_paper
-  told_after_value q = rw q (record { number = refl; next = refl })
-
-  pub told_nothing : x ≡ S.Nothing next → Tells (step_paper x) (record { number = 10; next = next })
-  unfolding step_paper
-  told_nothing q = rw q (record { number = refl; next = refl })
-
--- ---- a step that is told by another number than 10 moves on, from a place in the column
+-- from a place in the column
 
 goes : {t : List ℕ} {at n next : ℕ} → Turn t at n next → (n ≡ 10 → ⊥) → (at < next) × (next ≤ length t)
 goes (stop w) d = absurd (d refl)
@@ -59,5 +31,3 @@ module _ (t : List ℕ) (at : ℕ) (x : Step) (e : step_paper x ≡ step_answer 
 
   pub told_within : r.next ≤ length t
   told_within = told_goes.1
-
-pub ruleset laws = (told_found, told_beyond, told_after_key, told_no_key, told_after_value, told_nothing)

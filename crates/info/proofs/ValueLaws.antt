@@ -1,4 +1,6 @@
 -- The value shown: where `find` answers an entry with a value, its place, and else the empty place at the column's end; the part there. Assumes nothing.
+use Rattle.std.specs.Option.{unwrap_or}
+use Rattle.std.specs.Prelude.{Ok, Err, Option, Some, None}
 use Prim.Native.Nat.{ℕ, ◌+◌, ◌^◌, ◌<◌, ◌≤◌}
 use mathlib.Core.Path.{◌≡◌, refl, sym, ap, ◌∙◌}
 use mathlib.Core.List.{List}
@@ -13,14 +15,13 @@ use Rattle.text.specs.Range.{range_at}
 use Rattle.text.specs.declared.range.Range.{Range}
 use Rattle.text.proofs.PartLaws.{lent_part}
 use Rattle.info.specs.Info.{step_answer}
-use Rattle.info.specs.Paper.{value_places, entry_places, step_paper}
+use Rattle.info.specs.Paper.{Step, value_places, entry_places, step_paper}
 use Rattle.info.specs.Find.{find_answer}
 use Rattle.info.specs.Value.{shown_of, shown, PlacesValue, Shows}
 use Rattle.info.specs.Demands.{Leads, found, refused, none, other}
-use Rattle.info.specs.declared.step.Value.TheVariants as W
 use Rattle.info.specs.declared.step.Entry.{Entry}
-use Rattle.info.specs.declared.step.Step.{Step}
-use Rattle.info.specs.declared.step.Step.TheVariants as S
+use Rattle.info.specs.declared.step.NoEntry.{NoEntry}
+use Rattle.info.specs.declared.step.NoEntry.TheVariants as N
 use Rattle.info.proofs.EntryLaws.{step_end}
 use Rattle.info.proofs.TellLaws.{info_tells}
 use Rattle.info.proofs.First.{first}
@@ -47,31 +48,37 @@ module _ (t key : List ℕ) (x : Step) (e : step_paper x ≡ find_answer t key) 
   at_end : shown_of (length t) (step_paper x) ≡ range_at (length t) 0 → PlacesValue t key (range_at (length t) 0)
   at_end q = record { is = sym (by_find ∙ q); within = omega arith }
 
-  module _ {en : Entry} {next : ℕ} (q : x ≡ S.Found en next) where
-    pub shown_value : {r : Range} → en.value ≡ W.At r → PlacesValue t key r
+  module _ {en : Entry} {next : ℕ} (q : x ≡ Ok (en, next)) where
+    shown_value : {r : Range} → en.value ≡ Some r → PlacesValue t key r
     unfolding shown_of step_paper entry_places value_places
     shown_value {r} v =
         let s = step_of t key (first.is t key) in
-        let f = info_tells t s.place (S.Found en next) (rw q at (e ∙ s.is)) in
+        let f = info_tells t s.place (Ok (en, next)) (rw q at (e ∙ s.is)) in
         record { is = sym (by_find ∙ rw (q, v)); within = rw v at f.value_within }
 
-    pub shown_absent : en.value ≡ W.Absent → PlacesValue t key (range_at (length t) 0)
+    shown_absent : en.value ≡ None → PlacesValue t key (range_at (length t) 0)
     unfolding shown_of step_paper entry_places value_places
     shown_absent v = at_end (rw (q, v))
 
-  pub shown_none : ((en : Entry) (next : ℕ) → x ≡ S.Found en next → ⊥) → PlacesValue t key (range_at (length t) 0)
-  unfolding shown_of step_paper
-  shown_none n = at_end (by x n)
-    where
-      by : (y : Step) → ((en : Entry) (next : ℕ) → y ≡ S.Found en next → ⊥) → shown_of (length t) (step_paper y) ≡ range_at (length t) 0
-      by (S.Found en next) n = absurd (n en next refl)
-      by (S.Beyond next) n = refl
-      by (S.AfterKey next) n = refl
-      by (S.NoKey next) n = refl
-      by (S.AfterValue next) n = refl
-      by (S.Nothing next) n = refl
+    pub shown_or : {r : Range} → r ≡ unwrap_or en.value (range_at (length t) 0) → PlacesValue t key r
+    shown_or {r} o = by en.value refl
+      where
+        by : (v : Option Range) → en.value ≡ v → PlacesValue t key r
+        by None v = rw (o, v) (shown_absent v)
+        by (Some a) v = rw (o, v) (shown_value v)
 
-pub ruleset laws = (shown_value, shown_absent, shown_none)
+  pub shown_none : {d : NoEntry} → x ≡ Err d → PlacesValue t key (range_at (length t) 0)
+  unfolding shown_of step_paper
+  shown_none {d} q = at_end (rw q (by d))
+    where
+      by : (d : NoEntry) → shown_of (length t) (step_paper (Err d)) ≡ range_at (length t) 0
+      by (N.Beyond next) = refl
+      by (N.AfterKey next) = refl
+      by (N.NoKey next) = refl
+      by (N.AfterValue next) = refl
+      by (N.Nothing next) = refl
+
+pub ruleset laws = (shown_or, shown_none)
 
 -- ---- the part that is lent there
 

@@ -5,9 +5,8 @@ use Rattle.text.specs.Outcome.{OneAnswer, OnePart}
 use Rattle.info.specs.Info.{step_answer, info_count}
 use Rattle.info.specs.Find.{find_answer}
 use Rattle.info.specs.Value.{PlacesValue, Shows}
-use Rattle.info.specs.Paper.{step_paper}
+use Rattle.info.specs.Paper.{Step, step_paper}
 use Rattle.info.specs.Told.{Tells}
-use Rattle.info.specs.declared.step.Step.{Step}
 use Rattle.info.specs.declared.reader.Reader.{Reader}
 
 abbrev pub TakesStep : List ℕ → ℕ → Step → Type 0

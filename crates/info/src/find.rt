@@ -2,24 +2,21 @@
 ghost use Rattle.info.specs.Value.{PlacesValue, Shows};
 ghost use Rattle.info.specs.Promises.{FindsEntry};
 
-use crate::step::{Step, Value, step_at};
+use crate::step::{Entry, NoEntry, step_at};
 use text::range::Range;
 use text::same::same_bytes;
 
 // The first entry whose key is equal, or the first refusal before it, or 10 with the column's length.
-pub fn find(column: &[u8], key: &[u8]) -> Step
+pub fn find(column: &[u8], key: &[u8]) -> Result<(Entry, usize), NoEntry>
     ensures { FindsEntry column.now key.now result }
 {
     let mut at = 0;
     loop {
-        let step = step_at(column, at);
-        let Step::Found(entry, next) = step else {
-            return step;
-        };
+        let (entry, next) = step_at(column, at)?;
         let start = entry.key.start;
         let end = start + entry.key.len;
         if same_bytes(&column[start..end], key) {
-            return step;
+            return Ok((entry, next));
         }
         at = next;
     }
@@ -30,15 +27,13 @@ pub fn find(column: &[u8], key: &[u8]) -> Step
 pub fn value_place(column: &[u8], key: &[u8]) -> Range
     ensures { PlacesValue column.now key.now result }
 {
-    if let Step::Found(entry, _) = find(column, key) {
-        let value = entry.value;
-        if let Value::At(range) = value {
-            return range;
-        }
-    }
-    Range {
+    let end = Range {
         start: column.len(),
         len: 0,
+    };
+    match find(column, key) {
+        Ok((entry, _)) => entry.value.unwrap_or(end),
+        Err(_) => end,
     }
 }
 

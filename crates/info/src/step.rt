@@ -8,24 +8,16 @@ ghost use Rattle.info.specs.Inner.{end_of, bare_at, KeyRead, ReadsEntry, Drops, 
 use pieces::either::find_either;
 use text::range::Range;
 
-// An entry's value, which stands after its first `=`.
-#[derive(Clone, Copy)]
-pub enum Value {
-    Absent,
-    At(Range),
-}
-
+// An entry's key, and the value that stands after its first `=`, if one does.
 #[derive(Clone, Copy)]
 pub struct Entry {
     pub key: Range,
-    pub value: Value,
+    pub value: Option<Range>,
 }
 
-// What a step from a place finds. Each case has the next place.
-#[derive(Clone, Copy)]
-pub enum Step {
-    // 0: an entry.
-    Found(Entry, usize),
+// Why no entry is found at a place. Each case has the next place.
+#[derive(Clone, Copy, Debug, PartialEq, Eq)]
+pub enum NoEntry {
     // 6: the place lies beyond the column.
     Beyond(usize),
     // 7: the `;` after a key is the last byte.
@@ -38,37 +30,56 @@ pub enum Step {
     Nothing(usize),
 }
 
-// A step's number, and the next place.
+// A step's number, and the next place. Kept: `Tells` promises the number, which is told to C.
 #[derive(Clone, Copy)]
 pub struct Told {
     pub number: u64,
     pub next: usize,
 }
 
-pub fn tell(step: Step) -> Told
+#[tactic(auto, unfolding(crate::specs::Paper::step_paper))]
+pub fn tell(step: Result<(Entry, usize), NoEntry>) -> Told
     ensures { Tells (step_paper step) result }
 {
     match step {
-        Step::Found(_, next) => Told { number: 0, next },
-        Step::Beyond(next) => Told { number: 6, next },
-        Step::AfterKey(next) => Told { number: 7, next },
-        Step::NoKey(next) => Told { number: 8, next },
-        Step::AfterValue(next) => Told { number: 9, next },
-        Step::Nothing(next) => Told { number: 10, next },
+        Ok((_, next)) => Told { number: 0, next },
+        Err(NoEntry::Beyond(next)) => Told { number: 6, next },
+        Err(NoEntry::AfterKey(next)) => Told { number: 7, next },
+        Err(NoEntry::NoKey(next)) => Told { number: 8, next },
+        Err(NoEntry::AfterValue(next)) => Told { number: 9, next },
+        Err(NoEntry::Nothing(next)) => Told { number: 10, next },
     }
 }
 
-// A key alone.
-fn bare(at: usize, end: usize) -> Entry
-    requires { at ≤ end }
-    ensures { result ≡ bare_at at end }
-{
-    Entry {
-        key: Range {
-            start: at,
-            len: end - at,
-        },
-        value: Value::Absent,
+impl Entry {
+    // A key alone.
+    fn bare(at: usize, end: usize) -> Entry
+        requires { at ≤ end }
+        ensures { result ≡ bare_at at end }
+    {
+        Entry {
+            key: Range {
+                start: at,
+                len: end - at,
+            },
+            value: None,
+        }
+    }
+
+    // Where it ends: where its value does, or its key where it has none.
+    fn end(self) -> usize
+        requires { end_of self < 2 ^ 64 }
+        ensures { result ≡ end_of self }
+    {
+        let last = self.value.unwrap_or(self.key);
+        last.start + last.len
+    }
+
+    // Whether it is a key alone, with one byte left behind it.
+    fn is_dropped(self, left: usize) -> bool
+        ensures { Drops self left result }
+    {
+        left == 1 && self.value.is_none()
     }
 }
 
@@ -84,7 +95,7 @@ fn valued(column: &[u8], at: usize, equals: usize) -> Entry
             start: at,
             len: equals - at,
         },
-        value: Value::At(Range {
+        value: Some(Range {
             start,
             len: end - start,
         }),
@@ -96,45 +107,14 @@ fn entry_from(column: &[u8], at: usize) -> Entry
     requires { at ≤ length column.now }
     ensures { ReadsEntry column.now at result }
 {
-    let mut i = at;
-    while i < column.len() {
-        let b = column[i];
-        if b == b'=' {
-            return valued(column, at, i);
+    for i in at..column.len() {
+        match column[i] {
+            b'=' => return valued(column, at, i),
+            b';' => return Entry::bare(at, i),
+            _ => {}
         }
-        if b == b';' {
-            return bare(at, i);
-        }
-        i += 1;
     }
-    bare(at, i)
-}
-
-// Where an entry ends.
-fn end_of(entry: Entry) -> usize
-    requires { end_of entry < 2 ^ 64 }
-    ensures { result ≡ end_of entry }
-{
-    let value = entry.value;
-    match value {
-        Value::Absent => entry.key.start + entry.key.len,
-        Value::At(range) => range.start + range.len,
-    }
-}
-
-// Whether it is a key alone, with one byte left behind it.
-fn is_dropped(entry: Entry, left: usize) -> bool
-    ensures { Drops entry left result }
-{
-    if left == 1 {
-        let value = entry.value;
-        match value {
-            Value::Absent => true,
-            Value::At(_) => false,
-        }
-    } else {
-        false
-    }
+    Entry::bare(at, column.len())
 }
 
 // The place past the `;` at the place `end`; where nothing is left, that place.
@@ -146,33 +126,33 @@ fn past(end: usize, left: usize) -> usize
 }
 
 // What is answered for an entry that starts at the place `at`. 7 is judged before 8.
-fn judged(column: &[u8], at: usize, entry: Entry) -> Step
+fn judged(column: &[u8], at: usize, entry: Entry) -> Result<(Entry, usize), NoEntry>
     requires at_in_bounds { at < length column.now }
     requires reads_entry { ReadsEntry column.now at entry }
     ensures { TakesStep column.now at result }
 {
-    let end = end_of(entry);
+    let end = entry.end();
     let left = column.len() - end;
-    if is_dropped(entry, left) {
-        Step::AfterKey(column.len())
+    if entry.is_dropped(left) {
+        Err(NoEntry::AfterKey(column.len()))
     } else if entry.key.len == 0 {
-        Step::NoKey(at + 1)
+        Err(NoEntry::NoKey(at + 1))
     } else if left == 1 {
-        Step::AfterValue(column.len())
+        Err(NoEntry::AfterValue(column.len()))
     } else {
-        Step::Found(entry, past(end, left))
+        Ok((entry, past(end, left)))
     }
 }
 
-// The entry that starts at the place `at`.
-pub fn step_at(column: &[u8], at: usize) -> Step
+// The entry that starts at the place `at`, and the next place.
+pub fn step_at(column: &[u8], at: usize) -> Result<(Entry, usize), NoEntry>
     ensures { TakesStep column.now at result }
 {
     if at < column.len() {
         judged(column, at, entry_from(column, at))
     } else if at == column.len() {
-        Step::Nothing(at)
+        Err(NoEntry::Nothing(at))
     } else {
-        Step::Beyond(at)
+        Err(NoEntry::Beyond(at))
     }
 }

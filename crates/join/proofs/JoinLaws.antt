@@ -2,30 +2,28 @@
 use Prim.Native.Nat.{ℕ, ◌+◌, ◌-◌, ◌^◌, ◌<◌, ◌≤◌, zero-le}
 use mathlib.Core.Path.{◌≡◌, refl, sym, ◌∙◌}
 use mathlib.Core.Bool.{Bool, true, false, ◌&&◌, ◌||◌, not, false≢true}
-use mathlib.Core.List.{List, [], ◌∷◌}
+use mathlib.Core.List.{List, [], ◌∷◌, ◌++◌}
 use native.Mathlib.Omega.{arith}
 use native.Mathlib.Decide.{dec_le, dec_lt}
-use types.Run.{OneOf, miss}
-use denote.Enum.Declared.{tag_of}
 use mir.Syntax.{w64}
 use mir.Val.{Fits}
-use lib.ListN.{length, get_or, take, drop, length-append, length-drop}
+use lib.ListN.{length, get_or, take, drop, set, length-append, length-drop}
 use lib.Dec.{leb, ltb, eqb}
 use borrow.Author.Tests.{eqb-true, eqb-false, lt-ltb, le-ltb, le-leb, lt-leb, eq-eqb, ne_eqb, not-true, not-false}
 use borrow.Rule.Slice.PartMut.{put_mid}
+use Rattle.std.specs.Prelude.{Result, Ok, Err}
+use Rattle.std.specs.Result.{is_ok}
 use Rattle.text.specs.Pick.{pick}
 use Rattle.text.specs.Answer.{Answer, says, number_of}
-use Rattle.text.specs.Over.{over, over_at, room_for, Writes}
-use Rattle.text.specs.declared.copy.Written.{Written}
+use Rattle.text.specs.Over.{over, over_at, room_for}
 use Rattle.text.specs.Bytes.{ends_in}
 use Rattle.text.specs.Utf8.{is_utf8, utf8_answer}
 use Rattle.text.specs.Paper.{utf8_paper}
-use Rattle.text.specs.declared.utf8.Utf8.{Utf8}
-use Rattle.text.specs.declared.utf8.Utf8.TheVariants as U
+use Rattle.text.specs.declared.utf8.NotUtf8.{NotUtf8}
 use Rattle.text.proofs.ByteLaws.{none_empty, ends_none, ends_at}
 use Rattle.text.proofs.CharLaws.{told_text, told_broken}
-use Rattle.text.proofs.CopyLaws.{room_sized, writes_fits}
-use Rattle.text.proofs.Lists.{rest_all, length_rest, rest_put, over_nil, over_at_append, length_over_at}
+use Rattle.text.proofs.CopyLaws.{room_sized}
+use Rattle.text.proofs.Lists.{rest_all, length_rest, rest_put, over_nil, over_is, over_at_one, over_at_start, over_at_append, length_over_at}
 use Rattle.text.specs.Verdict.{fine, fitted}
 use mathlib.Core.Logic.{inl, inr, ⊎_elim}
 use Rattle.record.specs.Ending.{Ending, ending_bytes}
@@ -41,16 +39,14 @@ use Rattle.pieces.proofs.EitherLaws.{either_quiet, either_second}
 use Rattle.entries.specs.Entries.{rising, entry_list}
 use Rattle.entries.specs.Inner.{ends_answer, start_of}
 use Rattle.entries.specs.Paper.{ends_paper}
-use Rattle.entries.specs.declared.entries.Ends.{Ends}
-use Rattle.entries.specs.declared.entries.Ends.TheVariants as N
+use Rattle.entries.specs.declared.entries.WrongEnds.{WrongEnds}
 use Rattle.entries.proofs.EntryLaws.{start_later, entries_length, entry_here, entry_past, ends_tell}
 use Rattle.entries.proofs.JoinedLaws.{list_length}
 use Rattle.join.specs.Join.{is_bad, loses_return, column_judged, columns_judged, line_text, columns_answer, list_answer, join_answer, JoinsAt}
 use Rattle.join.specs.Inner.{Fine}
 use Rattle.join.specs.Paper.{joined_paper}
-use Rattle.join.specs.declared.columns.Joined.{Joined}
-use Rattle.join.specs.declared.columns.Joined.TheVariants as J
-use Rattle.join.specs.contracts.columns.Joined.{the_type}
+use Rattle.join.specs.declared.columns.JoinError.{JoinError}
+use Rattle.join.specs.declared.columns.JoinError.TheVariants as J
 use Rattle.join.proofs.FaultLaws.{bad_column, column_bad, is_last, judged_cons, Done, columns_done}
 
 -- ---- one column
@@ -83,41 +79,22 @@ module _ (c : List ℕ) where
             no_feed = record { free = λ k m. quiet.no_second k (omega arith) (omega arith) };
           }))
 
-  pub return_not : length c ≡ 0 → false ≡ ends_in 13 c
-  return_not h = sym (ends_none 13 c h)
+  pub return_none : length c < 1 → false ≡ ends_in 13 c
+  return_none h = sym (ends_none 13 c (omega arith))
 
-  pub return_byte : (length c ≡ 0 → ⊥) → eqb (get_or c (length c - 1) 0) 13 ≡ ends_in 13 c
-  return_byte h = sym (ends_at 13 c (omega arith))
+  pub return_not : 1 ≤ length c → (get_or c (length c - 1) 0 ≡ 13 → ⊥) → false ≡ ends_in 13 c
+  return_not h n = sym (ends_at 13 c (omega arith) ∙ ne_eqb _ 13 n)
 
-  module _ {x : DeclaredEnding} where
-    pub loses_nothing : x ≡ E.Nothing → false ≡ loses_return (ending_of x) c
-    unfolding loses_return
-    loses_nothing q = rw q
+  pub return_byte : 1 ≤ length c → get_or c (length c - 1) 0 ≡ 13 → true ≡ ends_in 13 c
+  return_byte h e = sym (ends_at 13 c (omega arith) ∙ eq-eqb _ 13 e)
 
-    pub loses_feed : {u : Bool} → x ≡ E.Feed → u ≡ ends_in 13 c → u ≡ loses_return (ending_of x) c
-    unfolding loses_return
-    loses_feed q f = rw q f
+  pub loses_feed : {x : DeclaredEnding} {u : Bool} → x ≡ E.Feed → u ≡ ends_in 13 c → u ≡ loses_return (ending_of x) c
+  unfolding loses_return
+  loses_feed q f = rw q f
 
-    pub loses_return_feed : x ≡ E.ReturnFeed → false ≡ loses_return (ending_of x) c
-    unfolding loses_return
-    loses_return_feed q = rw q
-
-  module _ (last : Bool) (x : DeclaredEnding) {t : Bool} (e : t ≡ is_bad c) where
-    pub refused_bad : t ≡ true → true ≡ (is_bad c || (last && loses_return (ending_of x) c))
-    refused_bad y = rw (← e, y)
-
-    pub refused_return : {u : Bool} → t ≡ false → last ≡ true → u ≡ loses_return (ending_of x) c → u ≡ (is_bad c || (last && loses_return (ending_of x) c))
-    refused_return n l f = rw (← e, n, l) f
-
-    pub refused_not : t ≡ false → last ≡ false → false ≡ (is_bad c || (last && loses_return (ending_of x) c))
-    refused_not n l = rw (← e, n, l)
-
-  module _ {x : Utf8} (e : utf8_paper x ≡ utf8_answer c) where
-    pub utf8_yes : x ≡ U.Text → true ≡ is_utf8 c
-    utf8_yes q = sym (told_text c (rw q at e))
-
-    pub utf8_no : x ≡ U.Broken → false ≡ is_utf8 c
-    utf8_no q = sym (told_broken c (rw q at e))
+  pub utf8_is : (x : Result Unit NotUtf8) {b : Bool} → b ≡ is_ok x → utf8_paper x ≡ utf8_answer c → b ≡ is_utf8 c
+  utf8_is (Ok u) q e = q ∙ sym (told_text c e)
+  utf8_is (Err n) q e = q ∙ sym (told_broken c e)
 
 -- ---- the columns of a list
 
@@ -175,12 +152,12 @@ module _ {t ends : List ℕ} {e : Ending} {i : ℕ} {c : List ℕ} {x : Bool} (g
       (sym (judged_cons i (get_or (entry_list t ends) i []) (drop (i + 1) (entry_list t ends)) e)
       ∙ (rw (entry_here t ends i h) at g.same))
 
-  pub judge_bad : (l : List ℕ) → x ≡ true → joined_paper (J.Bad i) ≡ judged_answer t ends e l
+  pub judge_bad : (l : List ℕ) → x ≡ true → joined_paper (Err (J.Bad i)) ≡ judged_answer t ends e l
   unfolding joined_paper column_judged
   judge_bad l y = rw (← judge_here, y)
 
   module _ {u : Bool} (n : x ≡ false) (v : u ≡ is_utf8 c) where
-    pub judge_broken : (l : List ℕ) → not u ≡ true → joined_paper (J.NotUtf8 i) ≡ judged_answer t ends e l
+    pub judge_broken : (l : List ℕ) → not u ≡ true → joined_paper (Err (J.NotUtf8 i)) ≡ judged_answer t ends e l
     unfolding joined_paper column_judged
     judge_broken l w = rw (← judge_here, n, ← v, not-true u w)
 
@@ -191,31 +168,13 @@ module _ {t ends : List ℕ} {e : Ending} {i : ℕ} {c : List ℕ} {x : Bool} (g
 -- ---- the room
 
 module _ (end tabs size room : ℕ) where
-  short : room < end + tabs + size → joined_paper J.Short ≡ room_for (end + tabs + size) room
+  pub fit_short : room < end + tabs + size → joined_paper (Err J.Short) ≡ room_for (end + tabs + size) room
   unfolding joined_paper
-  short h = rw (lt-leb _ _ h)
+  fit_short h = rw (lt-leb _ _ h)
 
-  pub fit_no_end : room < end → joined_paper J.Short ≡ room_for (end + tabs + size) room
-  fit_no_end h = short (omega arith)
-
-  module _ (h : end ≤ room) where
-    pub fit_no_tabs : room - end < tabs → joined_paper J.Short ≡ room_for (end + tabs + size) room
-    fit_no_tabs l = short (omega arith)
-
-    module _ (l : tabs ≤ room - end) {n : ℕ} (e : n ≡ size) where
-      pub fit_no_ending : room - end - tabs < n → joined_paper J.Short ≡ room_for (end + tabs + size) room
-      fit_no_ending k = short (omega arith)
-
-      module _ (k : n ≤ room - end - tabs) where
-        pub fit_tabs : room < 2 ^ 64 → Fits w64 (end + tabs)
-        fit_tabs z = record { fits = omega arith }
-
-        pub fit_all : room < 2 ^ 64 → Fits w64 (end + tabs + n)
-        fit_all z = record { fits = omega arith }
-
-        pub fit_done : joined_paper (J.Done (end + tabs + n)) ≡ room_for (end + tabs + size) room
-        unfolding joined_paper
-        fit_done = rw (le-leb (end + tabs + size) room (omega arith), e)
+  pub fit_done : {n : ℕ} → n ≡ size → end ≤ room → tabs ≤ room - end → n ≤ room - end - tabs → joined_paper (Ok (end + tabs + n)) ≡ room_for (end + tabs + size) room
+  unfolding joined_paper
+  fit_done e h l k = rw (le-leb (end + tabs + size) room (omega arith), e)
 
 -- ---- the line
 
@@ -231,7 +190,7 @@ line_length t ends e r s =
 -- ---- the answer after the columns
 
 module _ (t ends : List ℕ) (e : Ending) (l : List ℕ) (r : rising 0 ends (length t) ≡ true) (s : 0 < length ends) (f : columns_judged 0 (entry_list t ends) e ≡ fine) where
-  all_room : (x : Joined) {end : ℕ} → end ≡ start_of ends (length ends) → joined_paper x ≡ room_for (end + (length ends - 1) + length (ending_bytes e)) (length l)
+  all_room : (x : Result ℕ JoinError) {end : ℕ} → end ≡ start_of ends (length ends) → joined_paper x ≡ room_for (end + (length ends - 1) + length (ending_bytes e)) (length l)
       → joined_paper x ≡ judged_answer t ends e l
   all_room x {end} q g = let n = line_length t ends e r s in g ∙ rw f (room_sized (line_text (entry_list t ends) e) l (omega arith))
 
@@ -240,44 +199,38 @@ module _ {t ends : List ℕ} {e : Ending} {i : ℕ} (l : List ℕ) (g : Judging 
   unfolding columns_judged
   all_fine = sym g.same ∙ rw (entry_past t ends i h)
 
-  pub judge_some : 1 ≤ i
-  judge_some = omega arith
-
-  pub judge_room : (x : Joined) {end : ℕ} → end ≡ start_of ends (length ends) → joined_paper x ≡ room_for (end + (i - 1) + length (ending_bytes e)) (length l)
+  pub judge_room : (x : Result ℕ JoinError) {end : ℕ} → end ≡ start_of ends (length ends) → joined_paper x ≡ room_for (end + (length ends - 1) + length (ending_bytes e)) (length l)
       → joined_paper x ≡ judged_answer t ends e l
-  judge_room x {end} q f =
-      let w = g.within in
-      let z : i ≡ length ends = omega arith in
-      all_room t ends e l r s all_fine x q (rw z at f)
+  judge_room x q f = all_room t ends e l r s all_fine x q f
 
 -- ---- the answer for a list
 
 module _ (t ends : List ℕ) {u : Bool} (n : u ≡ not (required (length ends))) where
   module _ (r : rising 0 ends (length t) ≡ true) where
-    list_told : (e : Ending) (l : List ℕ) (x : Joined) → u ≡ true → joined_paper x ≡ judged_answer t ends e l → joined_paper x ≡ list_answer t ends e l
+    list_told : (e : Ending) (l : List ℕ) (x : Result ℕ JoinError) → u ≡ true → joined_paper x ≡ judged_answer t ends e l → joined_paper x ≡ list_answer t ends e l
     unfolding list_answer columns_answer
     list_told e l x y f = rw (r, entries_length, not-true (required (length ends)) (sym n ∙ y)) f
 
   -- where no column is refused, as is seen at once
-  pub list_fine : {e : Ending} {b : Bool} (l : List ℕ) (x : Joined) {end : ℕ} → u ≡ true → (b ≡ true → Fine t ends e) → b ≡ true → end ≡ start_of ends (length ends)
+  pub list_fine : {e : Ending} {b : Bool} (l : List ℕ) (x : Result ℕ JoinError) {end : ℕ} → u ≡ true → (b ≡ true → Fine t ends e) → b ≡ true → end ≡ start_of ends (length ends)
       → joined_paper x ≡ room_for (end + (length ends - 1) + length (ending_bytes e)) (length l) → joined_paper x ≡ list_answer t ends e l
   list_fine {e} l x y f z q g = let k = f z in list_told k.rises e l x y (all_room t ends e l k.rises (count_some (length ends) n y) k.judged x q g)
 
-module _ (t ends : List ℕ) {x : Ends} (p : ends_paper x ≡ ends_answer t ends) where
-  pub list_wrong : (e : Ending) (l : List ℕ) → x ≡ N.Wrong → joined_paper J.Wrong ≡ list_answer t ends e l
+module _ (t ends : List ℕ) {x : Result Unit WrongEnds} (p : ends_paper x ≡ ends_answer t ends) where
+  pub list_wrong : (e : Ending) (l : List ℕ) {w : WrongEnds} → x ≡ Err w → joined_paper (Err J.Wrong) ≡ list_answer t ends e l
   unfolding joined_paper list_answer
   list_wrong e l q = rw (rw q at (ends_tell t ends x p))
 
-  module _ (q : x ≡ N.Good) where
+  module _ {v : Unit} (q : x ≡ Ok v) where
     pub list_rising : rising 0 ends (length t) ≡ true
     list_rising = rw q at (ends_tell t ends x p)
 
     module _ {u : Bool} (n : u ≡ not (required (length ends))) where
-      pub list_few : (e : Ending) (l : List ℕ) → u ≡ false → joined_paper J.Few ≡ list_answer t ends e l
+      pub list_few : (e : Ending) (l : List ℕ) → u ≡ false → joined_paper (Err J.Few) ≡ list_answer t ends e l
       unfolding joined_paper list_answer columns_answer
       list_few e l y = rw (list_rising, entries_length, not-false (required (length ends)) (sym n ∙ y))
 
-      pub list_columns : (e : Ending) (l : List ℕ) (r : Joined) → u ≡ true → joined_paper r ≡ judged_answer t ends e l → joined_paper r ≡ list_answer t ends e l
+      pub list_columns : (e : Ending) (l : List ℕ) (r : Result ℕ JoinError) → u ≡ true → joined_paper r ≡ judged_answer t ends e l → joined_paper r ≡ list_answer t ends e l
       list_columns = list_told t ends n list_rising
 
 -- ---- the ending
@@ -286,12 +239,18 @@ module _ {x : DeclaredEnding} (l : List ℕ) where
   pub put_nothing : x ≡ E.Nothing → l ≡ over (ending_bytes (ending_of x)) l
   put_nothing q = rw (q, nothing_bytes) (sym (over_nil l))
 
-  module _ (h : length (ending_bytes (ending_of x)) ≤ length l) {r : Written} {l' : List ℕ} where
-    pub put_feed : x ≡ E.Feed → Writes (10 ∷ []) l r l' → l' ≡ over (ending_bytes (ending_of x)) l
-    put_feed q w = rw (q, feed_bytes) (writes_fits w (rw (q, feed_bytes) at h))
+  pub feed_room : x ≡ E.Feed → length (ending_bytes (ending_of x)) ≤ length l → 1 ≤ length l
+  feed_room q h = rw (q, feed_bytes) at h
 
-    pub put_return_feed : x ≡ E.ReturnFeed → Writes (13 ∷ 10 ∷ []) l r l' → l' ≡ over (ending_bytes (ending_of x)) l
-    put_return_feed q w = rw (q, return_feed_bytes) (writes_fits w (rw (q, return_feed_bytes) at h))
+  pub return_room : x ≡ E.ReturnFeed → length (ending_bytes (ending_of x)) ≤ length l → 2 ≤ length l
+  return_room q h = rw (q, return_feed_bytes) at h
+
+  module _ (h : length (ending_bytes (ending_of x)) ≤ length l) where
+    pub put_feed : x ≡ E.Feed → set l 0 10 ≡ over (ending_bytes (ending_of x)) l
+    put_feed q = rw (q, feed_bytes) (sym (over_at_one l 0 10 (feed_room q h)) ∙ over_at_start (10 ∷ []) l)
+
+    pub put_return_feed : {ys : List ℕ} → x ≡ E.ReturnFeed → ys ≡ 13 ∷ 10 ∷ [] → ys ++ drop 2 l ≡ over (ending_bytes (ending_of x)) l
+    put_return_feed q e = rw (q, return_feed_bytes, e) (sym (over_is (13 ∷ 10 ∷ []) l))
 
 -- ---- the joiner
 
@@ -309,31 +268,29 @@ ready t ends e l z = by (rising 0 ends (length t)) refl z
     by true r z = record { rises = r; line = columns_done (entry_list t ends) e l z; answer = rw r }
     by false r z = absurd (omega arith)
 
--- an answer other than done
-refusal : (r : Joined) → OneOf (1 ∷ 2 ∷ 3 ∷ 4 ∷ 5 ∷ 6 ∷ []) (tag_of the_type r) → eqb (number_of (joined_paper r)) 0 ≡ false
+refusal : (e : JoinError) → eqb (number_of (joined_paper (Err e))) 0 ≡ false
 unfolding joined_paper
-refusal (J.Done n) h = absurd (miss (1 ∷ 2 ∷ 3 ∷ 4 ∷ 5 ∷ 6 ∷ []) 0 tt h)
-refusal (J.NotUtf8 i) h = refl
-refusal J.Beyond h = refl
-refusal J.Wrong h = refl
-refusal J.Short h = refl
-refusal (J.Bad i) h = refl
-refusal J.Few h = refl
+refusal (J.NotUtf8 i) = refl
+refusal J.Beyond = refl
+refusal J.Wrong = refl
+refusal J.Short = refl
+refusal (J.Bad i) = refl
+refusal J.Few = refl
 
 module _ (t ends : List ℕ) (e : Ending) (at : ℕ) (out : List ℕ) where
-  pub join_beyond : length out < at → JoinsAt t ends e at out J.Beyond out
+  pub join_beyond : length out < at → JoinsAt t ends e at out (Err J.Beyond) out
   unfolding joined_paper join_answer
   join_beyond h = record { answer = rw (lt-leb _ _ h); bytes = rw (lt-leb _ _ h) }
 
-  module _ (r : Joined) (h : at ≤ length out) (f : joined_paper r ≡ list_answer t ends e (take (length out - at) (drop at out))) where
+  module _ (r : Result ℕ JoinError) (h : at ≤ length out) (f : joined_paper r ≡ list_answer t ends e (take (length out - at) (drop at out))) where
     join_answer_lem : join_answer t ends e at out ≡ joined_paper r
     unfolding join_answer
     join_answer_lem = rw (le-leb _ _ h) (sym (rw (rest_all out at) at f))
 
-    pub join_refused : OneOf (1 ∷ 2 ∷ 3 ∷ 4 ∷ 5 ∷ 6 ∷ []) (tag_of the_type r) → JoinsAt t ends e at out r out
-    join_refused o = record { answer = sym join_answer_lem; bytes = rw (join_answer_lem, refusal r o) }
+    pub join_refused : {z : JoinError} → r ≡ Err z → JoinsAt t ends e at out (Err z) out
+    join_refused {z} q = record { answer = rw (← q) (sym join_answer_lem); bytes = rw (join_answer_lem, q, refusal z) }
 
-    module _ {n : ℕ} (q : r ≡ J.Done n) where
+    module _ {n : ℕ} (q : r ≡ Ok n) where
       done : number_of (joined_paper r) ≡ 0
       unfolding joined_paper
       done = rw q
@@ -400,7 +357,7 @@ module _ (t ends : List ℕ) (e : Ending) (at : ℕ) (out : List ℕ) where
 
           -- and what the ending leaves behind them
           pub join_done : {zs : List ℕ} → zs ≡ over (ending_bytes e) (take (length (put_mid at (length out - at) out ys) - (at + n - size)) (drop (at + n - size) (put_mid at (length out - at) out ys)))
-              → JoinsAt t ends e at out (J.Done n) (put_mid (at + n - size) (length (put_mid at (length out - at) out ys) - (at + n - size)) (put_mid at (length out - at) out ys) zs)
+              → JoinsAt t ends e at out (Ok n) (put_mid (at + n - size) (length (put_mid at (length out - at) out ys) - (at + n - size)) (put_mid at (length out - at) out ys) zs)
           unfolding line_text
           join_done {zs} p =
               let k = join_length in
@@ -414,4 +371,4 @@ module _ (t ends : List ℕ) (e : Ending) (at : ℕ) (out : List ℕ) where
 
 pub ruleset join_laws = (join_beyond, join_refused, join_rises, join_columns, join_fit, join_some, join_sum, join_end, join_fits, join_done)
 
-pub ruleset laws = (bad_empty, bad_found, return_not, return_byte, loses_nothing, loses_feed, loses_return_feed, refused_bad, refused_return, refused_not, utf8_yes, utf8_no, count_eight, count_ten, count_some, last_is, judge_first, judge_bad, judge_broken, judge_turn, fit_no_end, fit_no_tabs, fit_no_ending, fit_tabs, fit_all, fit_done, judge_some, judge_room, list_fine, list_wrong, list_rising, list_few, list_columns, put_nothing, put_feed, put_return_feed)
+pub ruleset laws = (bad_empty, bad_found, return_none, return_not, return_byte, loses_feed, utf8_is, count_eight, count_ten, count_some, last_is, judge_first, judge_bad, judge_broken, judge_turn, fit_short, fit_done, judge_room, list_fine, list_wrong, list_rising, list_few, list_columns, put_nothing, feed_room, return_room, put_feed, put_return_feed)

@@ -100,8 +100,8 @@ module _ (c : List ℕ) {u : Bool} (f : u ≡ true → AllSimple c (length c)) (
   pub simple_not_bad : (length c ≡ 0 → ⊥) → false ≡ is_bad c
   simple_not_bad h = sym (column_bad c (simple_column h))
 
-  pub simple_utf8 : true ≡ is_utf8 c
-  simple_utf8 = let g = f y in sym (plain_utf8 c (λ k l. (g.each k l).small))
+  pub simple_utf8 : u ≡ is_utf8 c
+  simple_utf8 = let g = f y in y ∙ sym (plain_utf8 c (λ k l. (g.each k l).small))
 
 -- ---- each column of a list
 

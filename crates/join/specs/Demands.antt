@@ -1,6 +1,6 @@
 -- What is asked of any joiner, as a function on lists, and of any joiner and line reader together (docs/RULES.md, "Joining", "One list, one
 -- spelling"; docs/STATEMENTS.md). Assumes nothing.
-use Rattle.std.specs.Prelude.{ℕ, ◌+◌, ◌-◌, ◌<◌, ◌≤◌, ◌≡◌, true, false, ◌↔◌, List, [], ◌∷◌, ◌++◌, length, get_or, take, drop}
+use Rattle.std.specs.Prelude.{ℕ, ◌+◌, ◌-◌, ◌<◌, ◌≤◌, ◌≡◌, true, false, ◌↔◌, List, [], ◌∷◌, ◌++◌, length, get_or, take, drop, Result, Ok}
 use Rattle.text.specs.Answer.{Answer, says, number_of, values_of}
 use Rattle.text.specs.Bytes.{ends_in}
 use Rattle.text.specs.Outcome.{Outcome, laid_over, HasWritten}
@@ -11,15 +11,13 @@ use Rattle.entries.specs.Entries.{rising, entry_list}
 use Rattle.record.specs.Ending.{Ending, nothing, feed}
 use Rattle.record.specs.Paper.{ending_of}
 use Rattle.record.specs.declared.place.Record.{Record}
-use Rattle.line.specs.Paper.{read_paper}
+use Rattle.line.specs.Paper.{Read, read_paper}
 use Rattle.line.specs.Promises.{ReadsLine}
 use Rattle.line.specs.Demands as Line
 use Rattle.line.specs.Demands.{MayEnd, Column, Begins, Reader, Stands}
-use Rattle.line.specs.declared.read.Read.{Read}
-use Rattle.line.specs.declared.read.Read.TheVariants as R
 use Rattle.join.specs.Join.{line_text, columns_answer, JoinsAt}
 use Rattle.join.specs.Paper.{joined_paper}
-use Rattle.join.specs.declared.columns.Joined.{Joined}
+use Rattle.join.specs.declared.columns.JoinError.{JoinError}
 
 -- a joiner is given columns, an ending, an output and a place in it
 abbrev pub Joiner : Type 0
@@ -157,21 +155,21 @@ Spellings = (join : Joiner) → Meets join → OneSpelling join × ((read : Read
 -- where the ends are in order, `join` answers and leaves what the joiner does with the columns that they stand for; else 16, behind 6,
 -- and the output is left as it was
 pub record EntriesJoiner : Type 0 where
-  pub rises : (t ends : List ℕ) (e : Ending) (at : ℕ) (out : List ℕ) (r : Joined) (out' : List ℕ) → rising 0 ends (length t) ≡ true → JoinsAt t ends e at out r out'
+  pub rises : (t ends : List ℕ) (e : Ending) (at : ℕ) (out : List ℕ) (r : Result ℕ JoinError) (out' : List ℕ) → rising 0 ends (length t) ≡ true → JoinsAt t ends e at out r out'
       → (joined_paper r ≡ (joiner (entry_list t ends) e out at).answer) × (out' ≡ (joiner (entry_list t ends) e out at).output)
-  pub falls : (t ends : List ℕ) (e : Ending) (at : ℕ) (out : List ℕ) (r : Joined) (out' : List ℕ) → rising 0 ends (length t) ≡ false → JoinsAt t ends e at out r out'
+  pub falls : (t ends : List ℕ) (e : Ending) (at : ℕ) (out : List ℕ) (r : Result ℕ JoinError) (out' : List ℕ) → rising 0 ends (length t) ≡ false → JoinsAt t ends e at out r out'
       → (joined_paper r ≡ placed at out (says 16 [])) × (out' ≡ out)
 
 -- so a record that `read_line` made, and its line's columns, given to `join`, with room, are the bytes consumed
 unfoldable pub Rejoins : Type 0
-Rejoins = (s : List ℕ) (at next : ℕ) (r : Record) → ReadsLine s at (R.Line r next) → (t ends rest : List ℕ) → rising 0 ends (length t) ≡ true
+Rejoins = (s : List ℕ) (at next : ℕ) (r : Record) → ReadsLine s at (Ok (r, next)) → (t ends rest : List ℕ) → rising 0 ends (length t) ≡ true
     → Begins (drop at s) (entry_list t ends) (ending_of r.ending) rest → (out : List ℕ) (p : ℕ) → p + (next - at) ≤ length out
-    → (x : Joined) (out' : List ℕ) → JoinsAt t ends (ending_of r.ending) p out x out'
+    → (x : Result ℕ JoinError) (out' : List ℕ) → JoinsAt t ends (ending_of r.ending) p out x out'
     → (joined_paper x ≡ says 0 ((next - at) ∷ [])) × (out' ≡ over_at p (take (next - at) (drop at s)) out)
 
 -- `join`, by its contract, answered 0 and n, and left out'
 pub record Wrote (t ends : List ℕ) (e : Ending) (at : ℕ) (out : List ℕ) (n : ℕ) (out' : List ℕ) : Type 0 where
-  pub answer : Joined
+  pub answer : Result ℕ JoinError
   pub joins : JoinsAt t ends e at out answer out'
   pub done : joined_paper answer ≡ says 0 (n ∷ [])
 
@@ -187,7 +185,7 @@ unfoldable pub JoinedTwice : Type 0
 JoinedTwice =
     (t ends : List ℕ) (e : Ending) (at : ℕ) (out : List ℕ) (n : ℕ) (out' : List ℕ) → Wrote t ends e at out n out'
     → (s : List ℕ) (q : ℕ) (rest : List ℕ) → drop q s ≡ take n (drop at out') ++ rest → (e ≡ nothing → rest ≡ [])
-    → (r : Record) (next : ℕ) → ReadsLine s q (R.Line r next)
+    → (r : Record) (next : ℕ) → ReadsLine s q (Ok (r, next))
     → (t₂ ends₂ rest₂ : List ℕ) → rising 0 ends₂ (length t₂) ≡ true → Begins (drop q s) (entry_list t₂ ends₂) (ending_of r.ending) rest₂
-    → (out₂ : List ℕ) (p : ℕ) → p + n ≤ length out₂ → (x : Joined) (out₂' : List ℕ) → JoinsAt t₂ ends₂ (ending_of r.ending) p out₂ x out₂'
+    → (out₂ : List ℕ) (p : ℕ) → p + n ≤ length out₂ → (x : Result ℕ JoinError) (out₂' : List ℕ) → JoinsAt t₂ ends₂ (ending_of r.ending) p out₂ x out₂'
     → (joined_paper x ≡ says 0 (n ∷ [])) × (out₂' ≡ over_at p (take n (drop at out')) out₂)

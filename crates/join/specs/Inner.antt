@@ -1,5 +1,5 @@
 -- What the private functions of this crate promise each other. Assumes nothing.
-use Rattle.std.specs.Prelude.{ℕ, ◌+◌, ◌-◌, ◌<◌, ◌≤◌, ◌≡◌, true, List, ◌++◌, length, get_or}
+use Rattle.std.specs.Prelude.{ℕ, ◌+◌, ◌<◌, ◌≤◌, ◌≡◌, true, List, ◌++◌, length, get_or}
 use Rattle.text.specs.Over.{over_at}
 use Rattle.text.specs.Verdict.{fine}
 use Rattle.record.specs.Ending.{Ending}
@@ -35,18 +35,16 @@ pub record Fine (t ends : List ℕ) (e : Ending) : Type 0 where
 
 -- ---- writing
 
--- a column from start to end, and the columns behind it up to the last end, stand in a text; from the place `at` on there is room in l
--- for them and a byte more
-pub record Lies (start end last : ℕ) (t : List ℕ) (at : ℕ) (l : List ℕ) : Type 0 where
-  pub up : start ≤ end
-  pub below : end ≤ last
-  pub within : last ≤ length t
-  pub room : at + (last - start) < length l
+-- a text begins with a column of n bytes, and the columns behind it are the rest; from the place `at` on there is room in l for all of
+-- it and a byte more
+pub record Lies (n : ℕ) (t : List ℕ) (at : ℕ) (l : List ℕ) : Type 0 where
+  pub within : n ≤ length t
+  pub room : at + length t < length l
 
--- a column is at most 16 bytes long, and 16 bytes stand from its start on
-pub record Short (start end last : ℕ) : Type 0 where
-  pub few : end - start ≤ 16
-  pub long : 16 ≤ last - start
+-- the column is at most 16 bytes long, and 16 bytes stand from its start on
+pub record Short (n : ℕ) (t : List ℕ) : Type 0 where
+  pub few : n ≤ 16
+  pub long : 16 ≤ length t
 
 -- l' is l with p laid over it from the place `at` on, and behind p it may differ in the next `size` bytes: what is laid over these lies
 -- as it would behind p alone

@@ -1,5 +1,5 @@
 -- Joining columns to a line (docs/RULES.md, "Joining"). Assumes nothing.
-use Rattle.std.specs.Prelude.{ℕ, ◌+◌, ◌≡◌, Bool, false, not, ◌||◌, List, [], ◌∷◌, ◌++◌, length, drop}
+use Rattle.std.specs.Prelude.{ℕ, ◌+◌, ◌≡◌, Bool, false, not, ◌||◌, List, [], ◌∷◌, ◌++◌, length, drop, Result}
 use Rattle.text.specs.Pick.{pick}
 use Rattle.text.specs.Answer.{Answer, says}
 use Rattle.text.specs.Over.{laid_at}
@@ -12,7 +12,7 @@ use Rattle.line.specs.Line.{required}
 use Rattle.pieces.specs.Pieces.{joined, lacks}
 use Rattle.entries.specs.Entries.{entry_list, ordered}
 use Rattle.join.specs.Paper.{joined_paper}
-use Rattle.join.specs.declared.columns.Joined.{Joined}
+use Rattle.join.specs.declared.columns.JoinError.{JoinError}
 
 -- ---- the columns
 
@@ -58,6 +58,6 @@ abbrev pub line_left : List ℕ → List ℕ → Ending → ℕ → List ℕ →
 line_left t ends e at out = laid_at (join_answer t ends e at out) at (line_text (entry_list t ends) e) out
 
 -- the joiner answers r, and leaves out' in an output that held out
-pub record JoinsAt (t ends : List ℕ) (e : Ending) (at : ℕ) (out : List ℕ) (r : Joined) (out' : List ℕ) : Type 0 where
+pub record JoinsAt (t ends : List ℕ) (e : Ending) (at : ℕ) (out : List ℕ) (r : Result ℕ JoinError) (out' : List ℕ) : Type 0 where
   pub answer : joined_paper r ≡ join_answer t ends e at out
   pub bytes : out' ≡ line_left t ends e at out

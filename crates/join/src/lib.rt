@@ -2,6 +2,7 @@
 
 #![tactic(auto)]
 
+mod column;
 pub mod columns;
 pub mod put;
 pub mod simple;

@@ -6,60 +6,48 @@ ghost use Rattle.entries.specs.Entries.{rising, entry_list};
 ghost use Rattle.join.specs.Inner.{Lies, Short, Puts};
 
 use crate::simple::last_end;
-use text::copy::copy;
 
-// Copies 16 bytes. Through a block of their own they are moved at once, since it shares no memory with either side.
-fn put_sixteen(text: &[u8], start: usize, out: &mut [u8], at: usize)
-    requires start_in_bounds { start + 16 ≤ length text.now }
+// Copies the first 16 bytes of a text. Through a block of their own they are moved at once, since it shares no memory with either side.
+fn put_sixteen(from: &[u8], out: &mut [u8], at: usize)
+    requires from_in_bounds { 16 ≤ length from.now }
     requires at_in_bounds { at + 16 ≤ length out.old }
-    ensures { out.new ≡ over_at at (take 16 (drop start text.now)) out.old }
+    ensures { out.new ≡ over_at at (take 16 from.now) out.old }
 {
     let mut block = [0u8; 16];
-    copy(&text[start..start + 16], &mut block);
-    copy(&block, &mut out[at..]);
+    block.copy_from_slice(&from[..16]);
+    out[at..at + 16].copy_from_slice(&block);
 }
 
-// Whether a column can be copied as 16 bytes: those past its end are written over by the columns behind it.
-fn is_short(start: usize, end: usize, last: usize) -> bool
-    requires start_le_end { start ≤ end }
-    requires end_le_last { end ≤ last }
-    ensures { result ≡ true → Short start end last }
+// Whether a column, the first n bytes of a text, can be copied as 16 bytes: those past its end are written over by the columns
+// behind it.
+fn is_short(from: &[u8], n: usize) -> bool
+    ensures { result ≡ true → Short n from.now }
 {
-    if end - start > 16 {
-        return false;
-    }
-    last - start >= 16
+    n <= 16 && from.len() >= 16
 }
 
-// Copies a column to the place `at`, and maybe bytes past its end, where the columns behind it are written next.
-fn put_part(text: &[u8], start: usize, end: usize, last: usize, out: &mut [u8], at: usize)
-    requires { Lies start end last text.now at out.old }
-    ensures { Puts (take (end - start) (drop start text.now)) (last - end) at out.old out.new }
+// Copies a column, the first n bytes of a text, to the place `at`, and maybe bytes past its end, where the columns behind it are
+// written next.
+fn put_part(from: &[u8], n: usize, out: &mut [u8], at: usize)
+    requires { Lies n from.now at out.old }
+    ensures { Puts (take n from.now) (length from.now - n) at out.old out.new }
 {
-    if is_short(start, end, last) {
-        put_sixteen(text, start, out, at);
+    if is_short(from, n) {
+        put_sixteen(from, out, at);
     } else {
-        copy(&text[start..end], &mut out[at..]);
+        out[at..at + n].copy_from_slice(&from[..n]);
     }
 }
 
 // Writes a column and a tab behind it from the place `at` on, and returns the place past both.
-fn put_column(
-    text: &[u8],
-    start: usize,
-    end: usize,
-    last: usize,
-    out: &mut [u8],
-    at: usize,
-) -> usize
-    requires { Lies start end last text.now at out.old }
-    ensures value { result ≡ at + (end - start) + 1 }
-    ensures puts { Puts (take (end - start) (drop start text.now) ++ 9 ∷ []) (last - end) at out.old out.new }
+fn put_column(from: &[u8], n: usize, out: &mut [u8], at: usize) -> usize
+    requires { Lies n from.now at out.old }
+    ensures value { result ≡ at + n + 1 }
+    ensures puts { Puts (take n from.now ++ 9 ∷ []) (length from.now - n) at out.old out.new }
 {
-    put_part(text, start, end, last, out, at);
-    let behind = at + (end - start);
-    out[behind] = b'\t';
-    behind + 1
+    put_part(from, n, out, at);
+    out[at + n] = b'\t';
+    at + n + 1
 }
 
 // Writes the columns at the start of the output with tabs between.
@@ -72,12 +60,10 @@ pub(crate) fn put_columns(text: &[u8], ends: &[usize], out: &mut [u8])
     let last = last_end(ends);
     let mut start = 0;
     let mut at = 0;
-    let mut i = 0;
-    while i < ends.len() - 1 {
+    for i in 0..ends.len() - 1 {
         let end = ends[i];
-        at = put_column(text, start, end, last, out, at);
+        at = put_column(&text[start..last], end - start, out, at);
         start = end;
-        i += 1;
     }
-    copy(&text[start..last], &mut out[at..]);
+    out[at..at + (last - start)].copy_from_slice(&text[start..last]);
 }

@@ -5,14 +5,11 @@ use mathlib.Core.Bool.{true, false}
 use mathlib.Core.Logic.{◌⊎◌}
 use mathlib.Core.List.{List, [], ◌∷◌, ◌++◌}
 use native.Mathlib.Omega.{arith}
+use Rattle.std.specs.Prelude.{Ok, Err}
 use lib.ListN.{length, get_or, replicate, take, drop, length-append, length-drop}
 use lib.Seq.{take_at, length-take-le}
-use Rattle.text.specs.Answer.{says, number_of}
-use Rattle.text.specs.Utf8.{utf8_answer}
-use Rattle.text.specs.Paper.{utf8_paper}
-use Rattle.text.specs.declared.utf8.Utf8.{Utf8}
-use Rattle.text.specs.declared.utf8.Utf8.TheVariants as U
-use Rattle.text.proofs.CharLaws.{told_text, told_broken}
+use Rattle.text.specs.Answer.{says}
+use Rattle.text.specs.Utf8.{is_utf8}
 use Rattle.text.proofs.Lists.{drop_take}
 use Rattle.text.specs.Verdict.{Verdict, fine, refused}
 use Rattle.pieces.specs.Pieces.{split}
@@ -23,15 +20,13 @@ use Rattle.record.specs.Paper.{ending_of, record_places, record_numbers}
 use Rattle.record.specs.Promises.{NamesEnding}
 use Rattle.record.specs.declared.ending.Ending.{Ending as DeclaredEnding}
 use Rattle.record.specs.declared.place.Record.{Record}
+use Rattle.line.specs.declared.read.Refusal.{Refusal}
+use Rattle.line.specs.declared.read.Refusal.TheVariants as R
 use Rattle.line.specs.Line.{Line, line, line_of, verdict, all_utf8, judged_answer, line_answer, read_answer}
-use Rattle.line.specs.Paper.{read_paper}
+use Rattle.line.specs.Paper.{Read, read_paper}
 use Rattle.line.specs.Promises.{KeepsNumbers}
 use Rattle.line.specs.Demands.{ByColumns}
-use Rattle.line.specs.Inner.{accepted, denied, judgement, judgement_of, judged_paper, InOrder, Unset, Marks, Told, Fields}
-use Rattle.line.specs.declared.read.Read.{Read}
-use Rattle.line.specs.declared.read.Read.TheVariants as R
-use Rattle.line.specs.declared.read.Judged.{Judged}
-use Rattle.line.specs.declared.read.Judged.TheVariants as J
+use Rattle.line.specs.Inner.{Judged, accepted, denied, judgement, judgement_of, judged_paper, InOrder, Unset, Marks, Told, Fields}
 use Rattle.record.proofs.EndingLaws.{ending_sized, ending_numbered}
 use Rattle.record.proofs.NumberLaws.{record_values_lem}
 use Rattle.line.proofs.ColumnLaws.{line_whole, by_columns, fine_count}
@@ -111,64 +106,41 @@ module _ {s : List ℕ} {at end next : ℕ} (g : InOrder s at end next) where
   unfolding line_answer
   line_judged o = rw (o.is, o.ends, o.past, o.order)
 
-  module _ {x : Utf8} (u : utf8_paper x ≡ utf8_answer (take (end - at) (drop at s))) where
-    pub finish_line : (r : Record) (y : DeclaredEnding) → x ≡ U.Text → NamesEnding (next - end) y → Fields (take end s) at y r
-        → read_paper (R.Line r next) ≡ line_answer at (line_of (drop at s))
-    unfolding read_paper judged_answer ByColumns
-    finish_line r y q b f = by (ordered g)
-      where
-        by : Ordered s at end next → read_paper (R.Line r next) ≡ line_answer at (line_of (drop at s))
-        by o =
-            let v : all_utf8 (split 9 o.text) ≡ true = sym (by_columns o.text) ∙ told_text o.text (rw (q, o.stands) at u) in
-            let d : ending_of y ≡ o.ending = b ∙ ending_sized o.ending (let z = o.past in omega arith) in
-            let n : ending_number (ending_of r.ending) ≡ ending_number o.ending = sym (ending_numbered f.ends) ∙ ap ending_number d in
-            rw (record_values_lem r, line_judged o, v, n, f.places, text_cut o, length-take-le end s o.within)
+  pub finish_line : is_utf8 (take (end - at) (drop at s)) ≡ true → (r : Record) (y : DeclaredEnding) → NamesEnding (next - end) y → Fields (take end s) at y r
+      → read_paper (Ok (r, next)) ≡ line_answer at (line_of (drop at s))
+  unfolding read_paper judged_answer ByColumns
+  finish_line u r y b f = by (ordered g)
+    where
+      by : Ordered s at end next → read_paper (Ok (r, next)) ≡ line_answer at (line_of (drop at s))
+      by o =
+          let v : all_utf8 (split 9 o.text) ≡ true = sym (by_columns o.text) ∙ rw o.stands at u in
+          let d : ending_of y ≡ o.ending = b ∙ ending_sized o.ending (let z = o.past in omega arith) in
+          let n : ending_number (ending_of r.ending) ≡ ending_number o.ending = sym (ending_numbered f.ends) ∙ ap ending_number d in
+          rw (record_values_lem r, line_judged o, v, n, f.places, text_cut o, length-take-le end s o.within)
 
-    pub finish_broken : x ≡ U.Broken → read_paper (R.NotUtf8 next) ≡ line_answer at (line_of (drop at s))
-    unfolding read_paper judged_answer ByColumns
-    finish_broken q = by (ordered g)
-      where
-        by : Ordered s at end next → read_paper (R.NotUtf8 next) ≡ line_answer at (line_of (drop at s))
-        by o =
-            let v : all_utf8 (split 9 o.text) ≡ false = sym (by_columns o.text) ∙ told_broken o.text (rw (q, o.stands) at u) in
-            rw (line_judged o, v)
+  pub finish_broken : is_utf8 (take (end - at) (drop at s)) ≡ false → read_paper (Err (R.NotUtf8 next)) ≡ line_answer at (line_of (drop at s))
+  unfolding read_paper judged_answer ByColumns
+  finish_broken u = by (ordered g)
+    where
+      by : Ordered s at end next → read_paper (Err (R.NotUtf8 next)) ≡ line_answer at (line_of (drop at s))
+      by o =
+          let v : all_utf8 (split 9 o.text) ≡ false = sym (by_columns o.text) ∙ rw o.stands at u in
+          rw (line_judged o, v)
+
+-- one line is one record
+pub ok_same : (r r' : Record) {next n : ℕ} → ◌≡◌ {A = Read} (Ok (r, next)) (Ok (r', n)) → r ≡ r'
+ok_same r r' {next} {n} e = let p : ◌≡◌ {A = Record × ℕ} (r, next) (r', n) = cc in ap (λ (x : Record × ℕ). x.0) p
 
 -- a record that has the numbers of its places keeps them in the answer
-pub keeps_line : (r : Record) (next : ℕ) → record_numbers r ≡ numbers_of (record_places r) → KeepsNumbers (R.Line r next)
-keeps_line r next h r' n e = let d : r ≡ r' = cc in rw d at h
+pub keeps_line : (r : Record) (next : ℕ) → record_numbers r ≡ numbers_of (record_places r) → KeepsNumbers (Ok (r, next))
+keeps_line r next h r' n e = let d = ok_same r r' e in rw d at h
 
-pub finish_numbers : {t : List ℕ} {at : ℕ} {y : DeclaredEnding} {r : Record} (next : ℕ) → Fields t at y r → KeepsNumbers (R.Line r next)
+pub finish_numbers : {t : List ℕ} {at : ℕ} {y : DeclaredEnding} {r : Record} (next : ℕ) → Fields t at y r → KeepsNumbers (Ok (r, next))
 finish_numbers {r = r} next f = keeps_line r next f.numbers
 
 -- a refusal has none
-refused_numbers : (x : Read) → (number_of (read_paper x) ≡ 0 → ⊥) → KeepsNumbers x
-unfolding read_paper
-refused_numbers x h r next e = absurd (h (ap (λ (y : Read). number_of (read_paper y)) e))
-
-module _ (next : ℕ) where
-  pub keeps_end : KeepsNumbers (R.End next)
-  unfolding read_paper
-  keeps_end = refused_numbers (R.End next) (λ z. omega arith)
-
-  pub keeps_empty : KeepsNumbers (R.Empty next)
-  unfolding read_paper
-  keeps_empty = refused_numbers (R.Empty next) (λ z. omega arith)
-
-  pub keeps_fed : KeepsNumbers (R.Fed next)
-  unfolding read_paper
-  keeps_fed = refused_numbers (R.Fed next) (λ z. omega arith)
-
-  pub keeps_cut : KeepsNumbers (R.Cut next)
-  unfolding read_paper
-  keeps_cut = refused_numbers (R.Cut next) (λ z. omega arith)
-
-  pub keeps_broken : KeepsNumbers (R.NotUtf8 next)
-  unfolding read_paper
-  keeps_broken = refused_numbers (R.NotUtf8 next) (λ z. omega arith)
-
-  pub keeps_beyond : KeepsNumbers (R.Beyond next)
-  unfolding read_paper
-  keeps_beyond = refused_numbers (R.Beyond next) (λ z. omega arith)
+pub keeps_refused : (e : Refusal) → KeepsNumbers (Err e)
+keeps_refused e r next q = absurd (let z : ◌≡◌ {A = ℕ} 0 1 = cc in omega arith)
 
 -- ---- the reader
 
@@ -195,11 +167,11 @@ reads_unset =
     }
 
 module _ (s : List ℕ) (at : ℕ) where
-  pub reads_beyond : length s < at → read_paper (R.Beyond at) ≡ read_answer s at
+  pub reads_beyond : length s < at → read_paper (Err (R.Beyond at)) ≡ read_answer s at
   unfolding read_paper
   reads_beyond h = sym (read_beyond s at h)
 
-  pub reads_end : at ≡ length s → read_paper (R.End at) ≡ read_answer s at
+  pub reads_end : at ≡ length s → read_paper (Err (R.End at)) ≡ read_answer s at
   unfolding read_paper
   reads_end e = sym (read_end s at e)
 
@@ -211,30 +183,27 @@ module _ (s : List ℕ) (at : ℕ) where
     reads_line r e = e ∙ sym (read_line s at inside)
 
     module _ (x : Judged) (j : judged_paper x ≡ judgement_of 1 at (line_of (drop at s))) where
-      pub reads_ordered : {end next : ℕ} → x ≡ J.Fine end next → InOrder s at end next
+      pub reads_ordered : {end next : ℕ} → x ≡ Ok (end, next) → InOrder s at end next
       unfolding judged_paper
       reads_ordered q = record { reached = h; judged = sym (rw q at j) }
 
-      pub reads_told : {end next : ℕ} {tabs : List ℕ} → Marks s at x tabs → x ≡ J.Fine end next → Told (take end s) at tabs
+      pub reads_told : {end next : ℕ} {tabs : List ℕ} → Marks s at x tabs → x ≡ Ok (end, next) → Told (take end s) at tabs
       reads_told m q = m.told _ _ q
 
       -- a refusal is the line's
-      refusal : {k next : ℕ} → judged_paper x ≡ denied k next → says k (next ∷ []) ≡ read_answer s at
-      refusal {k} {next} q = by (line_of (drop at s)) refl (sym j ∙ q) ∙ sym (read_line s at inside)
+      pub reads_refused : {e : Refusal} → x ≡ Err e → read_paper (Err e) ≡ read_answer s at
+      unfolding read_paper judged_paper
+      reads_refused {e} q = by e (rw q at j)
         where
-          by : (l : Line) → line_of (drop at s) ≡ l → judgement_of 1 at (line_of (drop at s)) ≡ denied k next → says k (next ∷ []) ≡ line_answer at (line_of (drop at s))
-          by l e d = rw e (refused_says at l (rw e at d))
+          says_so : {k next : ℕ} → denied k next ≡ judgement_of 1 at (line_of (drop at s)) → says k (next ∷ []) ≡ read_answer s at
+          says_so d = refused_says at (line_of (drop at s)) (sym d) ∙ sym (read_line s at inside)
 
-      pub reads_empty : {next : ℕ} → x ≡ J.Empty next → read_paper (R.Empty next) ≡ read_answer s at
-      unfolding read_paper judged_paper
-      reads_empty q = refusal (rw q)
+          by : (e : Refusal) → judged_paper (Err e) ≡ judgement_of 1 at (line_of (drop at s)) → read_paper (Err e) ≡ read_answer s at
+          by (R.End next) d = says_so d
+          by (R.Empty next) d = says_so d
+          by (R.Fed next) d = says_so d
+          by (R.Cut next) d = says_so d
+          by (R.NotUtf8 next) d = says_so d
+          by (R.Beyond next) d = says_so d
 
-      pub reads_fed : {next : ℕ} → x ≡ J.Fed next → read_paper (R.Fed next) ≡ read_answer s at
-      unfolding read_paper judged_paper
-      reads_fed q = refusal (rw q)
-
-      pub reads_cut : {next : ℕ} → x ≡ J.Cut next → read_paper (R.Cut next) ≡ read_answer s at
-      unfolding read_paper judged_paper
-      reads_cut q = refusal (rw q)
-
-pub ruleset laws = (order_after, order_within, order_next, order_count, finish_line, finish_numbers, finish_broken, keeps_end, keeps_empty, keeps_fed, keeps_cut, keeps_broken, keeps_beyond, reads_unset, reads_beyond, reads_end, reads_line, reads_ordered, reads_told, reads_empty, reads_fed, reads_cut)
+pub ruleset laws = (order_after, order_within, order_next, order_count, finish_line, finish_numbers, finish_broken, keeps_refused, reads_unset, reads_beyond, reads_end, reads_line, reads_ordered, reads_told, reads_refused)

@@ -4,76 +4,64 @@ use mathlib.Core.Path.{◌≡◌, refl}
 use mathlib.Core.Bool.{Bool, true}
 use mathlib.Core.List.{List}
 use native.Mathlib.Omega.{arith}
-use native.Mathlib.Nat.{le_refl}
-use native.Mathlib.Decide.{ℕ_discrete, dec_le}
+use native.Mathlib.Decide.{ℕ_discrete}
 use lib.ListN.{length, get_or}
-use lib.Bits.{bit_and, bit_or, and_zero_r}
-use Rattle.text.specs.Flags.{OneIf, Plain, Tells}
-use Rattle.text.proofs.FlagLaws.{Gathered, more_flags, each_over, or_left, or_right, or_none, one_none}
-use Rattle.line.specs.Scan.{HighIf, Smooth, Calm, Runs}
+use lib.Bits.{bit_or, or_lt}
+use Rattle.std.proofs.lemmas.Nat.{pow_pos}
+use lib.Dec.{eqb, ltb}
+use borrow.Author.Tests.{eqb-true, eqb-false, ltb-true, ltb-false}
+use Rattle.text.specs.Flags.{Plain, Tells}
+use Rattle.text.proofs.FlagLaws.{each_over, or_left, or_right}
+use Rattle.line.specs.Scan.{FlagsOf, Gathers, Runs, InBlock, Passes}
 
--- ---- one byte
+-- ---- the flags of a block
 
-pub high_yes : {b : ℕ} → 127 < b → HighIf b 1
-high_yes h = record { low = λ l. absurd (omega arith); high = λ l. refl }
+module _ {T : ℕ → ℕ → Type 0} {at : ℕ} where
+  pub gather_first : Gathers T at (at + 0) 0
+  gather_first = record { each = λ k p q. absurd (omega arith); few = λ j f. pow_pos j }
 
-pub high_no : {b : ℕ} → b ≤ 127 → HighIf b 0
-high_no h = record { low = λ l. refl; high = λ l. absurd (omega arith) }
+  pub gather_turn : (i : ℕ) {h r : ℕ} → Gathers T at (at + i) h → T (at + i) r → Gathers T at (at + (i + 1)) (bit_or h r)
+  gather_turn i {h} {r} g t =
+      record {
+        each = λ k p q. by k p q (ℕ_discrete k (at + i));
+        few = λ j f. or_lt j h r (g.few j (λ k x p q. f k x p (omega arith))) (f (at + i) r (omega arith) (omega arith) t);
+      }
+    where
+      by : (k : ℕ) → at ≤ k → k < at + (i + 1) → Dec (k ≡ at + i) → (x : ℕ) × (T k x × (x ≤ bit_or h r))
+      by k p q (yes e) = rw e (r, (t, or_right h r))
+      by k p q (no n) = let x = g.each k p (omega arith) in (x.0, (x.1.0, (let l = or_left h r in let m = x.1.1 in omega arith)))
 
-high_none : {s : List ℕ} {k r : ℕ} → HighIf (get_or s k 0) r → r ≡ 0 → Plain s k
-high_none {s} {k} o z = elim (dec_le 128 (get_or s k 0)) [ yes l ↦ absurd (omega (arith, o.high l)) | no l ↦ record { small = omega arith } ]
+  module _ {h : ℕ} (g : Gathers T at (at + 64) h) where
+    pub flags_told : {P : List ℕ → ℕ → Type 0} {s : List ℕ} → ((k r : ℕ) → T k r → FlagsOf P s k r) → Tells P s at (eqb h 0)
+    flags_told f =
+        record {
+          yes = λ e k p q. (let x = g.each k p q in let z = eqb-true h 0 e in let l = x.1.1 in (f k x.0 x.1.0).yes (omega arith));
+          no = λ e a. (let n = eqb-false h 0 e in let l = g.few 0 (λ k r p q t. (let z = (f k r t).no (a k p q) in omega arith)) in n (omega arith));
+        }
 
-one_and : {b c d e p q : ℕ} → OneIf b c p → OneIf d e q → bit_and p q ≡ 0 → b ≡ c → d ≡ e → ⊥
-one_and {p = p} {q = q} o u z e f =
-    let a = o.same e in
-    let g = u.same f in
-    omega (arith, rw (a, g) at z)
-
-and_one : {b c d e p q : ℕ} → OneIf b c p → OneIf d e q → (b ≡ c → d ≡ e → ⊥) → bit_and p q ≡ 0
-and_one {b} {c} {d} {e} {p} {q} o u n = by (ℕ_discrete b c)
-  where
-    by : Dec (b ≡ c) → bit_and p q ≡ 0
-    by (yes h) = rw (u.other (n h)) (and_zero_r p)
-    by (no h) = rw (o.other h)
-
--- ---- one more byte of a block
-
-module _ {P : List ℕ → ℕ → Type 0} {s : List ℕ} {at i h : ℕ} (g : Gathered P s at i 0 h) (l : i < 64) (p q r : ℕ) where
-  -- three flags, none of which is set exactly where the byte is as asked
-  three : (p ≡ 0 → q ≡ 0 → r ≡ 0 → P s (at + i)) → (P s (at + i) → (p ≡ 0) × ((q ≡ 0) × (r ≡ 0))) → Gathered P s at (i + 1) 0 (bit_or (bit_or (bit_or h p) q) r)
-  three f b =
-      let x = or_left (bit_or (bit_or h p) q) r in
-      let y = or_right (bit_or (bit_or h p) q) r in
-      let z = or_left (bit_or h p) q in
-      let w = or_right (bit_or h p) q in
-      let u = or_left h p in
-      let v = or_right h p in
-      more_flags g l (λ e. (omega arith, f (omega arith) (omega arith) (omega arith)))
-      (λ e t.
-      (let n = b t in
-      let a = or_none h p (omega arith) n.0 in
-      let c = or_none (bit_or h p) q a n.1.0 in
-      let d = or_none (bit_or (bit_or h p) q) r c n.1.1 in
-      omega arith))
-
-pub smooth_turn : {s : List ℕ} {at i h p q r : ℕ} → Gathered Smooth s at i 0 h → i < 64 → OneIf (get_or s (at + i) 0) 9 p → OneIf (get_or s (at + i) 0) 10 q
-    → HighIf (get_or s (at + i) 0) r → Gathered Smooth s at (i + 1) 0 (bit_or (bit_or (bit_or h p) q) r)
-smooth_turn {p = p} {q = q} {r = r} g l o u v =
-    three g l p q r (λ a b c. record { quiet = record { no_first = one_none o a; no_second = one_none u b }; plain = high_none v c })
-    (λ t. (o.other t.quiet.no_first, (u.other t.quiet.no_second, v.low t.plain.small)))
-
-pub calm_turn : {s : List ℕ} {at i h p q r t : ℕ} → Gathered Calm s at i 0 h → i < 64 → OneIf (get_or s (at + i) 0) 10 p → OneIf (get_or s (at + i - 1) 0) 9 q
-    → OneIf (get_or s (at + i) 0) 9 r → HighIf (get_or s (at + i) 0) t → Gathered Calm s at (i + 1) 0 (bit_or (bit_or (bit_or h p) (bit_and q r)) t)
-calm_turn {p = p} {q = q} {r = r} {t = t} g l o u v w =
-    three g l p (bit_and q r) t (λ a b c. record { no_feed = one_none o a; no_pair = one_and u v b; plain = high_none w c })
-    (λ y. (o.other y.no_feed, (and_one u v y.no_pair, w.low y.plain.small)))
+    pub plain_told : {s : List ℕ} → ((k r : ℕ) → T k r → r ≡ get_or s k 0) → Tells Plain s at (ltb h 128)
+    plain_told f =
+        record {
+          yes = λ e k p q. (let x = g.each k p q in let z = ltb-true h 128 e in let l = x.1.1 in let y = f k x.0 x.1.0 in record { small = omega arith });
+          no = λ e a. (let n = ltb-false h 128 e in let l = g.few 7 (λ k r p q t. (let z = f k r t in let y = (a k p q).small in omega arith)) in absurd (omega arith));
+        }
 
 -- ---- runs of blocks
 
-pub run_first : {P : List ℕ → ℕ → Type 0} {s : List ℕ} {at : ℕ} → at ≤ length s → Runs P s at at
-run_first h = record { after = le_refl _; within = h; each = λ k p l. absurd (omega arith) }
+pub run_turn : {T : ℕ → Bool → Type 0} {s : List ℕ} {at i : ℕ} {r : Bool} → Passes T s at i → 64 ≤ length s - i → T i r → r ≡ true → Passes T s at (i + 64)
+run_turn {T} {s} {at} {i} g l t e =
+    let w = g.after in
+    let v = g.within in
+    record {
+      after = omega arith;
+      within = omega arith;
+      each = each_over (λ s k. InBlock T k) s g.each (λ k p q. record { block = i; after = p; before = q; passes = rw e at t });
+    }
 
-pub run_turn : {P : List ℕ → ℕ → Type 0} {s : List ℕ} {at i : ℕ} {r : Bool} → Runs P s at i → 64 ≤ length s - i → Tells P s i r → r ≡ true → Runs P s at (i + 64)
-run_turn {P} {s} {at} {i} g l t e = let w = g.after in record { after = omega arith; within = omega arith; each = each_over P s g.each (t.yes e) }
-
-pub ruleset laws = (high_yes, high_no, smooth_turn, calm_turn, run_first, run_turn)
+pub run_told : {T : ℕ → Bool → Type 0} {P : List ℕ → ℕ → Type 0} {s : List ℕ} {at end : ℕ} → Passes T s at end → ((i : ℕ) → T i true → Tells P s i true) → Runs P s at end
+run_told g f =
+    record {
+      after = g.after;
+      within = g.within;
+      each = λ k p q. (let b = g.each k p q in (f b.block b.passes).yes refl k b.after b.before);
+    }

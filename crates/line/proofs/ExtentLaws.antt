@@ -4,6 +4,7 @@ use mathlib.Core.Path.{◌≡◌, refl, sym, ◌∙◌}
 use mathlib.Core.List.{List, [], drop_last}
 use native.Mathlib.Omega.{arith}
 use native.Mathlib.Decide.{ℕ_discrete}
+use Rattle.std.specs.Prelude.{Ok, Err}
 use lib.ListN.{length, get_or, drop, length-drop}
 use borrow.Author.Tests.{le-leb, lt-leb}
 use Rattle.text.specs.Answer.{says}
@@ -18,7 +19,6 @@ use Rattle.line.specs.Paper.{lined_paper}
 use Rattle.line.specs.Promises.{FindsLine}
 use Rattle.line.specs.Demands.{FirstFeed}
 use Rattle.line.specs.Inner.{TextEnd, input, none, bare, return}
-use Rattle.line.specs.declared.extent.Lined.TheVariants as L
 use Rattle.record.proofs.EndingLaws.{nothing_bytes, feed_bytes, return_feed_bytes, ending_sized}
 use Rattle.line.proofs.ColumnLaws.{line_end}
 use Rattle.line.proofs.ReadLaws.{input_end, rest_free, length_last, column, column_length, line_here, Closes, plain, returned, closes}
@@ -38,7 +38,7 @@ module _ (s : List ℕ) (at : ℕ) where
 
 -- with none it goes to the end of the input
 pub found_unfed : (s : List ℕ) (at : ℕ) → at ≤ length s → ((k : ℕ) → at ≤ k → k < length s → get_or s k 0 ≡ 10 → ⊥)
-    → FindsLine s at (L.At (length s) E.Nothing (length s))
+    → FindsLine s at (Ok (record { end = length s; ending = E.Nothing; next = length s }))
 unfolding lined_paper extent_answer
 found_unfed s at h f =
     let l : at + length (drop at s) ≡ length s = omega (arith, length-drop at s) in
@@ -52,7 +52,7 @@ module _ (s : List ℕ) (at stop : ℕ) (g : FirstFeed s at stop) where
   reached : at ≤ length s
   reached = let a = g.after in let w = g.within in omega arith
 
-  found_closed : {x end : ℕ} → Closes s at stop g x → x ≡ end → (r : Ending) → NamesEnding (stop + 1 - end) r → lined_paper (L.At end r (stop + 1)) ≡ line_at_answer s at
+  found_closed : {x end : ℕ} → Closes s at stop g x → x ≡ end → (r : Ending) → NamesEnding (stop + 1 - end) r → lined_paper (Ok (record { end = end; ending = r; next = stop + 1 })) ≡ line_at_answer s at
   unfolding lined_paper extent_answer fed text
   found_closed {end = end} (plain c) q r b =
       let l : at + length text ≡ end = omega (arith, column_length s at stop g, g.after) in
@@ -66,12 +66,12 @@ module _ (s : List ℕ) (at stop : ℕ) (g : FirstFeed s at stop) where
       sym (at_inside s at reached ∙ rw (line_here s at stop g, c, l, b, ending_sized return_feed k, return_feed_bytes, m))
 
   -- with one it goes there, and the byte before it tells the ending
-  pub found_fed : {end : ℕ} → TextEnd s at stop end → (r : Ending) → NamesEnding (stop + 1 - end) r → FindsLine s at (L.At end r (stop + 1))
+  pub found_fed : {end : ℕ} → TextEnd s at stop end → (r : Ending) → NamesEnding (stop + 1 - end) r → FindsLine s at (Ok (record { end = end; ending = r; next = stop + 1 }))
   found_fed z = found_closed (closes s at stop g z) refl
 
 -- ---- each way through the code
 
-pub finds_beyond : (s : List ℕ) (at : ℕ) → length s < at → lined_paper L.Beyond ≡ line_at_answer s at
+pub finds_beyond : (s : List ℕ) (at : ℕ) → length s < at → lined_paper (Err (record {})) ≡ line_at_answer s at
 unfolding lined_paper
 finds_beyond s at h = sym (at_beyond s at h)
 
@@ -105,12 +105,12 @@ module _ (s : List ℕ) (at : ℕ) {stop : ℕ} (h : at ≤ length s) (first : s
         by (bare a n) = omega arith
         by (return a b c) = omega arith
 
-    pub finds_nothing : stop ≡ length s → lined_paper (L.At end E.Nothing stop) ≡ line_at_answer s at
+    pub finds_nothing : stop ≡ length s → lined_paper (Ok (record { end = end; ending = E.Nothing; next = stop })) ≡ line_at_answer s at
     finds_nothing q =
         let y : end ≡ length s = input_end s (rw q at z) in
         rw (q, y) (found_unfed s at h (rw q at quiet.no_first))
 
-    pub finds_fed : (stop ≡ length s → ⊥) → (r : Ending) → NamesEnding (stop + 1 - end) r → lined_paper (L.At end r (stop + 1)) ≡ line_at_answer s at
+    pub finds_fed : (stop ≡ length s → ⊥) → (r : Ending) → NamesEnding (stop + 1 - end) r → lined_paper (Ok (record { end = end; ending = r; next = stop + 1 })) ≡ line_at_answer s at
     finds_fed n = found_fed s at stop (stop_feed n) z
 
 pub ruleset laws = (finds_beyond, stop_after, stop_within, stop_inside, ends_before, finds_nothing, finds_fed)

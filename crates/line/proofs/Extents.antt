@@ -5,19 +5,19 @@ use mathlib.Core.Path.{◌≡◌, refl, sym, ap, ◌∙◌}
 use mathlib.Core.Bool.{Bool, true, false}
 use mathlib.Core.List.{List, [], ◌∷◌, ◌++◌}
 use native.Mathlib.Omega.{arith}
+use Rattle.std.specs.Prelude.{Ok, Err}
 use lib.ListN.{length, drop, length-append, length-drop}
 use lib.Dec.{leb}
 use borrow.Author.Tests.{leb-true, leb-false}
 use Rattle.text.specs.Answer.{says}
 use Rattle.record.specs.Ending.{Ending, ending_bytes, ending_number}
 use Rattle.record.specs.Paper.{ending_of}
-use Rattle.record.specs.declared.ending.Ending.{Ending as DeclaredEnding}
+use Rattle.line.specs.declared.extent.Extent.{Extent}
+use Rattle.line.specs.declared.extent.Beyond.{Beyond}
 use Rattle.line.specs.Line.{Line, line, line_of, extent_answer, line_at_answer}
-use Rattle.line.specs.Paper.{lined_paper}
+use Rattle.line.specs.Paper.{Lined, lined_paper}
 use Rattle.line.specs.Promises.{FindsLine}
 use Rattle.line.specs.Demands.{Reader, Extends, Extents, OneFinder}
-use Rattle.line.specs.declared.extent.Lined.{Lined}
-use Rattle.line.specs.declared.extent.Lined.TheVariants as L
 use Rattle.record.proofs.EndingLaws.{ending_known}
 use Rattle.line.proofs.ColumnLaws.{line_only, line_whole}
 use Rattle.line.proofs.ExtentLaws.{at_beyond, at_inside}
@@ -65,15 +65,15 @@ pub record Found (s : List ℕ) (at end : ℕ) (e : Ending) (next : ℕ) : Type 
   pub within : next ≤ length s
 
 module _ (s : List ℕ) (at : ℕ) {x : Lined} (f : FindsLine s at x) where
-  pub found : {end next : ℕ} {e : DeclaredEnding} → x ≡ L.At end e next → Found s at end (ending_of e) next
+  pub found : {y : Extent} → x ≡ Ok y → Found s at y.end (ending_of y.ending) y.next
   unfolding lined_paper extent_answer
-  found {end} {next} {e} q = by (leb at (length s)) refl
+  found {y} q = by (leb at (length s)) refl
     where
-      told : at ≤ length s → (l : Line) → line_of (drop at s) ≡ l → says 0 (end ∷ ending_number (ending_of e) ∷ next ∷ []) ≡ extent_answer at l → Found s at end (ending_of e) next
-      told h (line t d rest) p y =
-          let n : ending_number (ending_of e) ≡ ending_number d = cc in
-          let z : ending_of e ≡ d = ending_known _ _ n in
-          let b : next ≡ at + length t + length (ending_bytes d) = cc in
+      told : at ≤ length s → (l : Line) → line_of (drop at s) ≡ l → says 0 (y.end ∷ ending_number (ending_of y.ending) ∷ y.next ∷ []) ≡ extent_answer at l → Found s at y.end (ending_of y.ending) y.next
+      told h (line t d rest) p a =
+          let n : ending_number (ending_of y.ending) ≡ ending_number d = cc in
+          let z : ending_of y.ending ≡ d = ending_known _ _ n in
+          let b : y.next ≡ at + length t + length (ending_bytes d) = cc in
           let w = ap length (line_whole (drop at s) p).whole in
           rw z
           (record {
@@ -85,11 +85,11 @@ module _ (s : List ℕ) (at : ℕ) {x : Lined} (f : FindsLine s at x) where
             within = omega (arith, length-drop at s, length-append t (ending_bytes d ++ rest), length-append (ending_bytes d) rest);
           })
 
-      by : (b : Bool) → leb at (length s) ≡ b → Found s at end (ending_of e) next
+      by : (b : Bool) → leb at (length s) ≡ b → Found s at y.end (ending_of y.ending) y.next
       by true p = let h = leb-true at (length s) p in told h (line_of (drop at s)) refl (rw q at f ∙ at_inside s at h)
       by false p = absurd (let y = rw q at f ∙ at_beyond s at (leb-false at (length s) p) in let z : ◌≡◌ {A = ℕ} 0 6 = cc in omega arith)
 
-  pub beyond : x ≡ L.Beyond → length s < at
+  pub beyond : {e : Beyond} → x ≡ Err e → length s < at
   unfolding lined_paper extent_answer
   beyond q = by (leb at (length s)) refl
     where

@@ -7,15 +7,15 @@ use mathlib.Core.List.{List, [], ◌∷◌}
 use native.Mathlib.Omega.{arith}
 use native.Mathlib.Decide.{ℕ_discrete}
 use native.Mathlib.Nat.{le_refl}
+use Rattle.std.specs.Prelude.{Ok, Err}
 use lib.ListN.{length, get_or, set, take, drop, length-set}
 use lib.Seq.{get_or-take, get_or-set_same, get_or-set_other, length-take-le}
 use Rattle.text.proofs.Lists.{drop_take}
 use Rattle.pieces.specs.Pieces.{split}
 use Rattle.pieces.proofs.PieceLaws.{part_free, split_whole, split_append}
+use Rattle.line.specs.declared.read.Refusal.TheVariants as R
 use Rattle.line.specs.Line.{line_of}
-use Rattle.line.specs.Inner.{Clear, Stopped, accepted, judgement_of, judged_paper, InOrder, Unset, Tab, start_of, Told, Marks, Going, Kept, Judging}
-use Rattle.line.specs.declared.read.Judged.{Judged}
-use Rattle.line.specs.declared.read.Judged.TheVariants as J
+use Rattle.line.specs.Inner.{Judged, Clear, Stopped, accepted, judgement_of, judged_paper, InOrder, Unset, Tab, start_of, Told, Marks, Going, Kept, Judging}
 use Rattle.line.proofs.ReadLaws.{part_byte, part_no_tab, cut_ends, feed_ends}
 use Rattle.line.proofs.AnswerLaws.{order_columns}
 
@@ -155,16 +155,16 @@ module _ {s : List ℕ} {at k start end : ℕ} {tabs : List ℕ} (g : Kept s at 
         nine = λ n j l. tab_text j (omega arith) l;
       }
 
-pub marks_empty : {s : List ℕ} {at next : ℕ} {tabs : List ℕ} → Marks s at (J.Empty next) tabs
+pub marks_empty : {s : List ℕ} {at next : ℕ} {tabs : List ℕ} → Marks s at (Err (R.Empty next)) tabs
 marks_empty = record { told = λ end next e. absurd (let z : ◌≡◌ {A = ℕ} 0 1 = cc in omega arith) }
 
 module _ {s : List ℕ} {at k start : ℕ} {tabs : List ℕ} (a : at ≤ length s) (j : Going s at k start) (g : Kept s at k start tabs) (r : Judged)
     (p : judged_paper r ≡ judgement_of k start (line_of (drop start s))) where
-  accepts : {end next : ℕ} → r ≡ J.Fine end next → judgement_of k start (line_of (drop start s)) ≡ accepted end next
+  accepts : {end next : ℕ} → r ≡ Ok (end, next) → judgement_of k start (line_of (drop start s)) ≡ accepted end next
   unfolding judged_paper
   accepts e = sym (rw e at p)
 
-  marked : {end next : ℕ} → r ≡ J.Fine end next → Closed s start end → Told (take end s) at tabs
+  marked : {end next : ℕ} → r ≡ Ok (end, next) → Closed s start end → Told (take end s) at tabs
   marked {end} {next} e c =
       let o : InOrder s at end next = record { reached = a; judged = sym j.same ∙ accepts e } in
       told g c (rw (columns_are g c) at (order_columns o))

@@ -7,6 +7,7 @@ use mathlib.Core.List.{List, [], ◌∷◌, ◌++◌, drop_last}
 use native.Mathlib.Omega.{arith}
 use native.Mathlib.Decide.{dec_lt}
 use native.Mathlib.Nat.{le_refl}
+use Rattle.std.specs.Prelude.{Ok, Err}
 use lib.ListN.{length, get_or, take, drop, length-append, length-drop, take-append-drop}
 use lib.Seq.{drop-length, drop-drop, get_or-take, get_or-drop, length-take-le}
 use lib.Dec.{eqb}
@@ -16,19 +17,18 @@ use Rattle.text.specs.Bytes.{is_empty, ends_in}
 use Rattle.text.proofs.Lists.{here, rest_all}
 use Rattle.text.proofs.ByteLaws.{none_empty, some_empty, ends_none, ends_some, ends_at}
 use Rattle.text.specs.Verdict.{Verdict, fine, refused}
-use Rattle.pieces.specs.Inner.{quiet_length}
+use Rattle.pieces.specs.Inner.{near_end, quiet_length}
 use Rattle.pieces.specs.Pieces.{split}
 use Rattle.pieces.specs.Demands.{Free}
-use Rattle.pieces.proofs.EitherLaws.{either_quiet, either_second}
+use Rattle.pieces.proofs.EitherLaws.{near_short, near_long, either_quiet, either_second}
 use Rattle.pieces.proofs.PieceLaws.{free_nil, free_cons, free_head, free_tail, part_free, split_whole, split_append, split_nil}
 use Rattle.record.specs.Ending.{Ending, feed, return_feed, ending_bytes}
+use Rattle.line.specs.declared.read.Refusal.TheVariants as R
 use Rattle.line.specs.Line.{Line, line, fed, line_of, required, last_verdict, verdict}
 use Rattle.line.specs.Demands.{FirstFeed}
-use Rattle.line.specs.Inner.{Clear, Stopped, StopsAt, TextEnd, input, none, bare, return, accepted, denied, judgement, judgement_of, judged_paper, Going}
+use Rattle.line.specs.Inner.{Judged, Clear, Stopped, StopsAt, TextEnd, input, none, bare, return, accepted, denied, judgement, judgement_of, judged_paper, Going}
 use Rattle.line.specs.declared.read.Stop.{Stop}
 use Rattle.line.specs.declared.read.Stop.TheVariants as S
-use Rattle.line.specs.declared.read.Judged.{Judged}
-use Rattle.line.specs.declared.read.Judged.TheVariants as J
 use Rattle.record.proofs.EndingLaws.{nothing_bytes, feed_bytes, return_feed_bytes}
 use Rattle.line.proofs.ColumnLaws.{line_end, line_feed, line_tab}
 
@@ -82,6 +82,19 @@ pub search_over : {s : List ℕ} {from i : ℕ} (x : Stop) → Clear s from i �
 search_over (S.Tab j) g t = stopped_over g t
 search_over (S.Feed j) g t = stopped_over g t
 search_over S.Input g t = clear_over g t
+
+-- the first bytes were passed one by one: the others are sought from there on
+near_after : {from n near : ℕ} → from ≤ n → near ≡ near_end from n → from ≤ near
+near_after {from} {n} h e =
+    elim (dec_lt (n - from) 32) [ yes l ↦ omega (arith, near_short from n l) | no l ↦ omega (arith, near_long from n (omega arith)) ]
+
+pub search_past : {s : List ℕ} {from near i : ℕ} → from ≤ length s → near ≡ near_end from (length s) → Clear s from i → near ≤ i → (from ≤ near → i ≤ near)
+    → (x : Stop) → StopsAt s near x → StopsAt s from x
+search_past {s} {from} {near} {i} h e g m n x t =
+    let a = near_after h e in
+    let l = n a in
+    let z : i ≡ near = omega arith in
+    search_over x (rw z at g) t
 
 -- what the search's answer tells, case by case
 module _ {s : List ℕ} {from : ℕ} {x : Stop} (h : StopsAt s from x) where
@@ -177,16 +190,16 @@ module _ (s : List ℕ) (k start : ℕ) (h : start ≤ length s) (g : Clear s st
   pub cut_ends : {end next : ℕ} → judgement_of k start (line_of (drop start s)) ≡ accepted end next → end ≡ length s
   cut_ends e = judged_end (pick (required k || is_empty (drop start s)) (refused 4 (length s)) fine) (length s) (length s) (sym cut_judged ∙ e)
 
-  pub cut_required : {q : Bool} → q ≡ required k → q ≡ true → judged_paper (J.Cut (length s)) ≡ judgement_of k start (line_of (drop start s))
+  pub cut_required : {q : Bool} → q ≡ required k → q ≡ true → judged_paper (Err (R.Cut (length s))) ≡ judgement_of k start (line_of (drop start s))
   unfolding judged_paper judgement
   cut_required e t = rw (cut_judged, ← e, t)
 
-  pub cut_empty : start ≡ length s → judged_paper (J.Cut start) ≡ judgement_of k start (line_of (drop start s))
+  pub cut_empty : start ≡ length s → judged_paper (Err (R.Cut start)) ≡ judgement_of k start (line_of (drop start s))
   unfolding judged_paper judgement
   cut_empty e = rw (cut_judged, e, drop-length s, none_empty [] refl, or-true (required k))
 
   pub cut_fine : {q : Bool} {end : ℕ} → q ≡ required k → q ≡ false → (start ≡ length s → ⊥) → TextEnd s start (length s) end
-      → judged_paper (J.Fine end (length s)) ≡ judgement_of k start (line_of (drop start s))
+      → judged_paper (Ok (end, length s)) ≡ judgement_of k start (line_of (drop start s))
   unfolding judged_paper judgement
   cut_fine e t n z = rw (cut_judged, ← e, t, some_empty (drop start s) (simp length-drop (omega arith)), input_end s z)
 
@@ -310,16 +323,16 @@ module _ (s : List ℕ) (k start feed : ℕ) (g : Stopped s start feed 10) where
       by (returned h e) = omega (arith, column_length s start feed first_feed, strip_return here_text e)
 
   module _ {q : Bool} (e : q ≡ required k) where
-    pub fed_required : q ≡ true → judged_paper (J.Fed (feed + 1)) ≡ judgement_of k start (line_of (drop start s))
+    pub fed_required : q ≡ true → judged_paper (Err (R.Fed (feed + 1))) ≡ judgement_of k start (line_of (drop start s))
     unfolding judged_paper judgement
     fed_required t = rw (feed_judged, ← e, t)
 
     module _ {end : ℕ} (t : q ≡ false) (z : TextEnd s start feed end) where
-      pub fed_empty : end ≡ start → judged_paper (J.Empty (feed + 1)) ≡ judgement_of k start (line_of (drop start s))
+      pub fed_empty : end ≡ start → judged_paper (Err (R.Empty (feed + 1))) ≡ judgement_of k start (line_of (drop start s))
       unfolding judged_paper judgement
       fed_empty n = let l = end_length z in rw (feed_judged, ← e, t, none_empty (stripped here_text) (omega arith))
 
-      pub fed_fine : (end ≡ start → ⊥) → judged_paper (J.Fine end (feed + 1)) ≡ judgement_of k start (line_of (drop start s))
+      pub fed_fine : (end ≡ start → ⊥) → judged_paper (Ok (end, feed + 1)) ≡ judgement_of k start (line_of (drop start s))
       unfolding judged_paper judgement
       fed_fine n = let l = end_length z in rw (feed_judged, ← e, t, some_empty (stripped here_text) (omega arith), l)
 
@@ -375,7 +388,7 @@ module _ {s : List ℕ} {at k start tab : ℕ} (g : Going s at k start) (h : Sto
   unfolding here_column
   tab_line = ap (λ (t : List ℕ). judgement_of k start (line_of t)) (part_byte s h)
 
-  pub judge_empty : tab ≡ start → judged_paper (J.Empty (tab + 1)) ≡ judgement_of 1 at (line_of (drop at s))
+  pub judge_empty : tab ≡ start → judged_paper (Err (R.Empty (tab + 1))) ≡ judgement_of 1 at (line_of (drop at s))
   unfolding judged_paper here_column
   judge_empty e =
       let l = part_length s h in

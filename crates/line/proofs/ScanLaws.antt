@@ -254,20 +254,11 @@ further_calm {s} {cur} {k} {j} z r =
 
 -- ---- the last bytes, one by one
 
-pub found_none : {s : List ℕ} {at k feed : ℕ} {plain : Bool} {tabs : List ℕ} → k ≡ 10 → Scanned s at k feed plain tabs
-found_none e = record { fed = λ h. absurd (omega arith); small = λ h. absurd (omega arith) }
-
 pub sweep_size : {s : List ℕ} {at i k : ℕ} {f h : Bool} {tabs : List ℕ} → Swept s at i k f h tabs → length tabs ≡ 9
 sweep_size g = g.poised.scanning.judging.kept.size
 
-pub sweep_most : {s : List ℕ} {at i k : ℕ} {f h : Bool} {tabs : List ℕ} → Swept s at i k f h tabs → k ≤ 9
-sweep_most g = g.poised.scanning.most
-
 pub sweep_within : {s : List ℕ} {at i k : ℕ} {f h : Bool} {tabs : List ℕ} → Swept s at i k f h tabs → i ≤ length s
 sweep_within g = g.poised.clear.within
-
-pub sweep_length : {s : List ℕ} {at i k i₀ k₀ : ℕ} {f h f₀ h₀ : Bool} {tabs tabs₀ : List ℕ} → Swept s at i₀ k₀ f₀ h₀ tabs₀ → Swept s at i k f h tabs → length tabs ≡ length tabs₀
-sweep_length a b = sweep_size b ∙ sym (sweep_size a)
 
 plain_one : {s : List ℕ} {i : ℕ} → get_or s i 0 < 128 → Each Plain s i (i + 1)
 plain_one {s} {i} h k p q = let z : k ≡ i = omega arith in record { small = rw z h }
@@ -275,19 +266,6 @@ plain_one {s} {i} h k p q = let z : k ≡ i = omega arith in record { small = rw
 module _ {s : List ℕ} {at i k : ℕ} {f h : Bool} {tabs : List ℕ} (g : Swept s at i k f h tabs) (w : i < length s) where
   sweep_some : f ≡ false → i ≡ g.poised.start → ⊥
   sweep_some n y = true≢false (sym (g.new (sym y)) ∙ n)
-
-  pub sweep_feed : get_or s i 0 ≡ 10 → f ≡ false → Scanned s at k i h tabs
-  sweep_feed e n =
-      record {
-        fed = λ l.
-            record {
-              start = g.poised.start;
-              scanning = g.poised.scanning;
-              stopped = record { within = w; is = e; clear = g.poised.clear };
-              some = λ y. sweep_some n (sym y);
-            };
-        small = λ l. g.small;
-      }
 
   pub sweep_tab : {tabs' : List ℕ} {r : ℕ} → get_or s i 0 ≡ 9 → f ≡ false → tabs' ≡ set tabs k i → More k r → Swept s at (i + 1) r true h tabs'
   sweep_tab e n t o =
@@ -365,7 +343,7 @@ module _ {s : List ℕ} {at i k : ℕ} {f h : Bool} {tabs : List ℕ} (g : Swept
     scan_feed {k'} {p} e =
         let f = m.feed k' p e in
         let l = f.inside in
-        record { fed = λ z. f.fed; small = λ z y j b c. block_plain y j b (omega arith) }
+        record { fed = f.fed; small = λ y j b c. block_plain y j b (omega arith) }
 
     pub scan_past : {k' cur : ℕ} → r ≡ M.Past k' → Further s (i + 64) k' cur → Swept s at cur k' (eqb (get_or s (cur - 1) 0) 9) (h && a) tabs'
     scan_past {k'} {cur} e f =
@@ -379,8 +357,6 @@ module _ {s : List ℕ} {at i k : ℕ} {f h : Bool} {tabs : List ℕ} (g : Swept
           small = λ y. each_over Plain s (block_plain y) f.small;
         }
 
-pub ruleset tail_laws = (found_none, sweep_size, sweep_most, sweep_within, sweep_length, sweep_feed, sweep_tab, sweep_other)
-
-pub ruleset scan_laws = (found_none, sweep_first, sweep_within, sweep_fits, sweep_enter, scan_length, scan_feed, scan_past, scan_same)
+pub ruleset scan_laws = (sweep_first, sweep_within, sweep_fits, sweep_enter, scan_length, scan_feed, scan_past, scan_same)
 
 pub ruleset laws = (more_full, more_none, more_one, has_some, has_none, mark_first, mark_size, mark_most, mark_length, mark_within, mark_fed, mark_tab, mark_less, mark_past, further_quiet, further_none, further_calm)

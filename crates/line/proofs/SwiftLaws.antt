@@ -1,17 +1,17 @@
 -- What a scan found is the line that the columns' judge would accept, and bytes below 80 hex are UTF-8. Assumes nothing.
 use Prim.Native.Nat.{ℕ, ◌+◌, ◌-◌, ◌≤◌, ◌<◌}
 use mathlib.Core.Path.{◌≡◌, refl, sym, ◌∙◌}
-use mathlib.Core.Bool.{Bool, true, false}
+use mathlib.Core.Bool.{Bool, true, false, true≢false}
 use mathlib.Core.Logic.{◌⊎◌, inl, inr, ⊎_elim}
 use mathlib.Core.List.{List}
 use native.Mathlib.Omega.{arith}
+use Rattle.std.specs.Prelude.{Result, Ok, Err, is_err}
 use lib.ListN.{length, get_or, take, drop, length-drop}
 use lib.Seq.{get_or-take, get_or-drop, length-take-le}
-use lib.Dec.{eqb}
-use borrow.Author.Tests.{eqb-true}
-use Rattle.text.specs.Utf8.{utf8_answer}
+use Rattle.text.specs.Utf8.{is_utf8, utf8_answer}
 use Rattle.text.specs.Paper.{utf8_paper}
-use Rattle.text.specs.declared.utf8.Utf8.TheVariants as U
+use Rattle.text.specs.declared.utf8.NotUtf8.{NotUtf8}
+use Rattle.text.proofs.CharLaws.{told_text, told_broken}
 use Rattle.text.proofs.RunLaws.{plain_utf8}
 use Rattle.record.specs.Promises.{NamesEnding}
 use Rattle.record.specs.declared.ending.Ending.{Ending}
@@ -19,37 +19,53 @@ use Rattle.record.specs.declared.place.Record.{Record}
 use Rattle.line.specs.Line.{line_of, line_answer}
 use Rattle.line.specs.Paper.{read_paper}
 use Rattle.line.specs.Inner.{TextEnd, input, none, bare, return, judgement_of, judged_paper, InOrder, Told, Fields}
-use Rattle.line.specs.Scan.{FedAt, Scanned, PlainIf, Whole, Feeds, WholeEnd}
-use Rattle.line.specs.declared.read.Read.TheVariants as R
-use Rattle.line.specs.declared.read.Judged.TheVariants as J
+use Rattle.line.specs.Scan.{FedAt, Scanned, PlainIf, WholeEnd, Bounded}
+use Rattle.line.specs.declared.scan.Bounds.{Bounds}
+use Rattle.line.specs.declared.read.Refusal.TheVariants as R
 use Rattle.line.proofs.ColumnLaws.{count_required}
 use Rattle.line.proofs.ReadLaws.{fed_fine}
 use Rattle.line.proofs.MarkLaws.{marks_fed}
-use Rattle.line.proofs.AnswerLaws.{finish_line}
+use Rattle.line.proofs.AnswerLaws.{order_after, order_within, order_next, finish_line, finish_broken}
 
--- ---- bytes below 80 hex are UTF-8
+-- ---- what is left of a line whose columns are in order
 
-check_plain : {s : List ℕ} {at end : ℕ} {plain : Bool} → PlainIf s at end plain → plain ≡ true → utf8_paper U.Text ≡ utf8_answer (take (end - at) (drop at s))
-unfolding utf8_paper utf8_answer
-check_plain {s} {at} {end} g e =
+-- a check tells whether bytes are UTF-8
+module _ (t : List ℕ) where
+  pub checked_text : (x : Result Unit NotUtf8) → utf8_paper x ≡ utf8_answer t → is_err x ≡ false → is_utf8 t ≡ true
+  checked_text (Ok u) e q = told_text t e
+  checked_text (Err broken) e q = absurd (true≢false q)
+
+  pub checked_broken : (x : Result Unit NotUtf8) → utf8_paper x ≡ utf8_answer t → is_err x ≡ true → is_utf8 t ≡ false
+  checked_broken (Ok u) e q = absurd (true≢false (sym q))
+  checked_broken (Err broken) e q = told_broken t e
+
+plain_text : {s : List ℕ} {at end : ℕ} {plain : Bool} → PlainIf s at end plain → plain ≡ true → is_utf8 (take (end - at) (drop at s)) ≡ true
+plain_text {s} {at} {end} g e =
     let a = g.after in
     let w = g.within in
     let d = length-drop at s in
     let l = length-take-le (end - at) (drop at s) (omega arith) in
-    rw (plain_utf8 (take (end - at) (drop at s))
-    (λ k h. rw (get_or-take (end - at) (drop at s) k 0 (omega arith), get_or-drop at s k 0) (g.small e (at + k) (omega arith) (omega arith)).small))
+    plain_utf8 (take (end - at) (drop at s))
+    (λ k h. rw (get_or-take (end - at) (drop at s) k 0 (omega arith), get_or-drop at s k 0) (g.small e (at + k) (omega arith) (omega arith)).small)
 
-pub finish_plain : {s : List ℕ} {at end next : ℕ} {plain : Bool} → InOrder s at end next → PlainIf s at end plain → plain ≡ true → (r : Record) (y : Ending) → NamesEnding (next - end) y
-    → Fields (take end s) at y r → read_paper (R.Line r next) ≡ line_answer at (line_of (drop at s))
-finish_plain g p e r y n f = finish_line g (check_plain p e) r y refl n f
+module _ {s : List ℕ} {at : ℕ} {b : Bounds} {tabs : List ℕ} (g : Bounded s at b tabs) where
+  pub bounded_before : b.end ≤ b.next
+  bounded_before = order_next g.order
 
--- ---- small tests
+  -- bytes below 80 hex are UTF-8
+  pub bounded_plain : b.plain ≡ true → is_utf8 (take (b.end - at) (drop at s)) ≡ true
+  bounded_plain = plain_text g.plain_if
 
-pub whole_seven : {k : ℕ} → k ≡ 7 → Whole k true
-whole_seven e = record { whole = λ z. inl e }
+  pub bounded_line : is_utf8 (take (b.end - at) (drop at s)) ≡ true → (r : Record) (y : Ending) → NamesEnding (b.next - b.end) y → Fields (take b.end s) at y r
+      → read_paper (Ok (r, b.next)) ≡ line_answer at (line_of (drop at s))
+  bounded_line = finish_line g.order
 
-pub whole_nine : {k : ℕ} → Whole k (eqb k 9)
-whole_nine {k} = record { whole = λ z. inr (eqb-true k 9 z) }
+  pub bounded_broken : is_utf8 (take (b.end - at) (drop at s)) ≡ false → read_paper (Err (R.NotUtf8 b.next)) ≡ line_answer at (line_of (drop at s))
+  bounded_broken = finish_broken g.order
+
+-- one that the judge accepts, and of whose bytes nothing is known
+pub judged_bounded : {s : List ℕ} {at end next : ℕ} {tabs : List ℕ} → InOrder s at end next → Told (take end s) at tabs → Bounded s at (record { end = end; next = next; plain = false }) tabs
+judged_bounded g t = record { order = g; told = t; plain_if = record { after = order_after g; within = order_within g; small = λ z. absurd (true≢false (sym z)) } }
 
 -- ---- the line
 
@@ -63,7 +79,7 @@ module _ {s : List ℕ} {at k feed : ℕ} {plain : Bool} {tabs : List ℕ} (g : 
   few = ⊎_elim (λ e. (omega arith, omega arith)) (λ e. (omega arith, omega arith)) g.whole
 
   fed : FedAt s at k feed tabs
-  fed = g.scanned.fed few.1
+  fed = g.scanned.fed
 
   columns : (fed.scanning.col ≡ 8) ⊎ (10 ≤ fed.scanning.col)
   columns = ⊎_elim (λ e. inl (let c = fed.scanning.fewer (omega arith) in omega arith)) (λ e. inr (fed.scanning.nine e)) g.whole
@@ -112,7 +128,7 @@ module _ {s : List ℕ} {at k feed : ℕ} {plain : Bool} {tabs : List ℕ} (g : 
       full : end ≡ fed.start → ⊥
       full z = n (rw z (fed.scanning.tabbed (let f = few in omega arith)))
 
-      fine_here : judged_paper (J.Fine end (feed + 1)) ≡ judgement_of fed.scanning.col fed.start (line_of (drop fed.start s))
+      fine_here : judged_paper (Ok (end, feed + 1)) ≡ judgement_of fed.scanning.col fed.start (line_of (drop fed.start s))
       fine_here = fed_fine s fed.scanning.col fed.start feed fed.stopped {q = false} (sym (count_required columns)) refl text_ends full
 
       ready_order : InOrder s at end (feed + 1)
@@ -121,61 +137,20 @@ module _ {s : List ℕ} {at k feed : ℕ} {plain : Bool} {tabs : List ℕ} (g : 
 
       ready_told : Told (take end s) at tabs
       ready_told =
-          (marks_fed g.reached fed.scanning.judging.going fed.scanning.judging.kept (J.Fine end (feed + 1)) fine_here fed.stopped).told end (feed + 1) refl
+          (marks_fed g.reached fed.scanning.judging.going fed.scanning.judging.kept (Ok (end, feed + 1)) fine_here fed.stopped).told end (feed + 1) refl
 
--- what the scan answers is enough to look at the bytes before the LF
-pub scan_feeds : {s : List ℕ} {at k feed : ℕ} {plain : Bool} {tabs : List ℕ} → at ≤ length s → Scanned s at k feed plain tabs → Feeds s at k feed
-scan_feeds {s} {at} {k} {feed} {plain} {tabs} h c = record { late = λ w. ready_late (ready w); within = λ w. ready_within (ready w) }
-  where
-    ready : (k ≡ 7) ⊎ (k ≡ 9) → Ready s at k feed plain tabs
-    ready w = record { reached = h; whole = w; scanned = c }
+pub swift_next : {s : List ℕ} {at k feed : ℕ} {plain : Bool} {tabs : List ℕ} → Scanned s at k feed plain tabs → feed < length s
+swift_next c = c.fed.stopped.within
 
-module _ {s : List ℕ} {at k feed : ℕ} {r : Bool} (f : Feeds s at k feed) (w : Whole k r) (e : r ≡ true) where
-  pub whole_after : at ≤ feed
-  whole_after = let l = f.late (w.whole e) in omega arith
-
-  pub whole_fed : feed ≤ length s
-  whole_fed = let l = f.within (w.whole e) in omega arith
-
-  near_feed : {end : ℕ} → TextEnd s at feed end → (1 ≤ end) × (end ≤ length s)
-  near_feed = by (f.late (w.whole e)) (f.within (w.whole e))
-    where
-      by : at + 1 < feed → feed < length s → {end : ℕ} → TextEnd s at feed end → (1 ≤ end) × (end ≤ length s)
-      by a b (input z) = (omega arith, omega arith)
-      by a b (none z) = (omega arith, omega arith)
-      by a b (bare l n) = (omega arith, omega arith)
-      by a b (return l w z) = (omega arith, omega arith)
-
-  pub whole_first : {end : ℕ} → TextEnd s at feed end → 1 ≤ end
-  whole_first z = (near_feed z).0
-
-  pub whole_within : {end : ℕ} → TextEnd s at feed end → end - 1 < length s
-  whole_within z = let l = near_feed z in omega arith
-
-pub whole_none : {s : List ℕ} {at k feed : ℕ} → WholeEnd s at k feed 0
-whole_none = record { whole = λ n. absurd (n refl); ends = λ n. absurd (n refl); full = λ n. absurd (n refl) }
-
-pub whole_some : {s : List ℕ} {at k feed end : ℕ} {r : Bool} → Whole k r → r ≡ true → TextEnd s at feed end → (get_or s (end - 1) 0 ≡ 9 → ⊥) → WholeEnd s at k feed end
-whole_some w e z n = record { whole = λ m. w.whole e; ends = λ m. z; full = λ m. n }
-
-pub swift_next : {s : List ℕ} {at k feed end : ℕ} {plain : Bool} {tabs : List ℕ} → Scanned s at k feed plain tabs → WholeEnd s at k feed end → (end ≡ 0 → ⊥) → feed < length s
-swift_next c w n = ⊎_elim (λ e. (c.fed (omega arith)).stopped.within) (λ e. (c.fed (omega arith)).stopped.within) (w.whole n)
-
-module _ {s : List ℕ} {at k feed end : ℕ} {plain : Bool} {tabs : List ℕ} (h : at ≤ length s) (c : Scanned s at k feed plain tabs) (w : WholeEnd s at k feed end) (n : end ≡ 0 → ⊥) where
-  ready : Ready s at k feed plain tabs
-  ready = record { reached = h; whole = w.whole n; scanned = c }
-
-  pub swift_order : InOrder s at end (feed + 1)
-  swift_order = ready_order ready (w.ends n) (w.full n)
-
-  pub swift_told : Told (take end s) at tabs
-  swift_told = ready_told ready (w.ends n) (w.full n)
-
-  pub swift_plain : PlainIf s at end plain
-  swift_plain =
-      let m = near ready (w.ends n) in
-      let b = behind ready in
-      let l = swift_next c w n in
-      record { after = omega arith; within = omega arith; small = λ z j a q. c.small (few ready).1 z j a (omega arith) }
-
-pub ruleset laws = (finish_plain, whole_seven, whole_nine, scan_feeds, whole_after, whole_fed, whole_first, whole_within, whole_none, whole_some, swift_next, swift_order, swift_told, swift_plain)
+pub swift_bounded : {s : List ℕ} {at k feed end : ℕ} {plain : Bool} {tabs : List ℕ} → at ≤ length s → Scanned s at k feed plain tabs → WholeEnd s at k feed end
+    → Bounded s at (record { end = end; next = feed + 1; plain = plain }) tabs
+swift_bounded {s} {at} {k} {feed} {end} {plain} {tabs} h c w =
+    let g : Ready s at k feed plain tabs = record { reached = h; whole = w.whole; scanned = c } in
+    let m = near g w.ends in
+    let b = behind g in
+    let l = swift_next c in
+    record {
+      order = ready_order g w.ends w.full;
+      told = ready_told g w.ends w.full;
+      plain_if = record { after = omega arith; within = omega arith; small = λ z j a q. c.small z j a (omega arith) };
+    }

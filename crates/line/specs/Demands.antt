@@ -1,5 +1,5 @@
 -- What demand 3 asks of any line reader, as a function on lists (docs/RULES.md, "A line"; docs/STATEMENTS.md). Assumes nothing.
-use Rattle.std.specs.Prelude.{ℕ, ◌+◌, ◌-◌, ◌*◌, ◌<◌, ◌≤◌, ◌≡◌, Bool, true, false, ◌⊎◌, ◌↔◌, length, get_or, take, drop}
+use Rattle.std.specs.Prelude.{ℕ, ◌+◌, ◌-◌, ◌*◌, ◌<◌, ◌≤◌, ◌≡◌, Bool, true, false, ◌⊎◌, ◌↔◌, length, get_or, take, drop, Ok}
 use mathlib.Core.List.{List, [], ◌∷◌, ◌++◌, flatten}
 use Rattle.text.specs.Answer.{Answer, says, number_of, values_of}
 use Rattle.text.specs.Bytes.{ends_in}
@@ -13,7 +13,6 @@ use Rattle.record.specs.declared.ending.Ending.{Ending as DeclaredEnding}
 use Rattle.record.specs.declared.place.Record.{Record}
 use Rattle.line.specs.Line.{all_utf8}
 use Rattle.line.specs.Promises.{ReadsLine}
-use Rattle.line.specs.declared.read.Read.TheVariants as R
 
 -- INFO and the samples may be the last column, k counted from 1; columns 1 to 7, and FORMAT, must be ended by a tab
 abbrev pub MayEnd : ℕ → Type 0
@@ -117,7 +116,7 @@ One read = (s : List ℕ) (at : ℕ) → number_of (read s at) ≡ 0 → Stands 
 
 -- a record that the line reader made has the ending with which columns begin what is left
 unfoldable pub TellsEnding : Type 0
-TellsEnding = (s : List ℕ) (at next : ℕ) (r : Record) (x : DeclaredEnding) → ReadsLine s at (R.Line r next) → GivesEnding r x
+TellsEnding = (s : List ℕ) (at next : ℕ) (r : Record) (x : DeclaredEnding) → ReadsLine s at (Ok (r, next)) → GivesEnding r x
     → (cs : List (List ℕ)) (e : Ending) (rest : List ℕ) → Begins (drop at s) cs e rest → ending_of x ≡ e
 
 -- ---- faults

@@ -1,5 +1,5 @@
 -- What the private functions of this crate promise each other. Assumes nothing.
-use Rattle.std.specs.Prelude.{ℕ, zero, suc, ◌+◌, ◌-◌, ◌<◌, ◌≤◌, ◌≡◌, List, [], ◌∷◌, length, get_or, take, drop}
+use Rattle.std.specs.Prelude.{ℕ, zero, suc, ◌+◌, ◌-◌, ◌<◌, ◌≤◌, ◌≡◌, List, [], ◌∷◌, length, get_or, take, drop, Result, Ok, Err}
 use Rattle.text.specs.Verdict.{Verdict, fine, refused}
 use Rattle.pieces.specs.Inner.{Quiet}
 use Rattle.pieces.specs.Pieces.{split}
@@ -12,8 +12,8 @@ use Rattle.record.specs.declared.place.Record.{Record}
 use Rattle.line.specs.Line.{Line, line, line_of, verdict, field_places}
 use Rattle.line.specs.declared.read.Stop.{Stop}
 use Rattle.line.specs.declared.read.Stop.TheVariants as S
-use Rattle.line.specs.declared.read.Judged.{Judged}
-use Rattle.line.specs.declared.read.Judged.TheVariants as J
+use Rattle.line.specs.declared.read.Refusal.{Refusal}
+use Rattle.line.specs.declared.read.Refusal.TheVariants as R
 
 -- ---- where a column ends
 
@@ -56,11 +56,18 @@ unfolding judgement
 judgement_of k from (line t e rest) =
     judgement (verdict k from (split 9 t) e (from + length t + length (ending_bytes e))) (from + length t) (from + length t + length (ending_bytes e))
 
+-- as the code has it
+abbrev pub Judged : Type 0
+Judged = Result (ℕ × ℕ) Refusal
+
 unfoldable pub judged_paper : Judged → Judgement
-judged_paper (J.Fine end next) = accepted end next
-judged_paper (J.Empty next) = denied 2 next
-judged_paper (J.Fed next) = denied 3 next
-judged_paper (J.Cut next) = denied 4 next
+judged_paper (Ok (end, next)) = accepted end next
+judged_paper (Err (R.End next)) = denied 1 next
+judged_paper (Err (R.Empty next)) = denied 2 next
+judged_paper (Err (R.Fed next)) = denied 3 next
+judged_paper (Err (R.Cut next)) = denied 4 next
+judged_paper (Err (R.NotUtf8 next)) = denied 5 next
+judged_paper (Err (R.Beyond next)) = denied 6 next
 
 -- the columns are in order: `end` is the text's end, and `next` the place past the line
 pub record InOrder (s : List ℕ) (at end next : ℕ) : Type 0 where
@@ -95,7 +102,7 @@ pub record Told (t : List ℕ) (at : ℕ) (tabs : List ℕ) : Type 0 where
 
 -- that is so of the text that the judge accepts
 pub record Marks (s : List ℕ) (at : ℕ) (r : Judged) (tabs : List ℕ) : Type 0 where
-  pub told : (end next : ℕ) → r ≡ J.Fine end next → Told (take end s) at tabs
+  pub told : (end next : ℕ) → r ≡ Ok (end, next) → Told (take end s) at tabs
 
 -- ---- the columns as they are gone through
 

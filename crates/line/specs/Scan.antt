@@ -1,18 +1,14 @@
 -- What the functions that read a line by blocks promise each other. Assumes nothing.
-use Rattle.std.specs.Prelude.{ℕ, ◌+◌, ◌-◌, ◌/◌, ◌%◌, ◌<◌, ◌≤◌, ◌≡◌, Bool, true, false, ◌⊎◌, List, length, get_or}
+use Rattle.std.specs.Prelude.{ℕ, ◌+◌, ◌-◌, ◌/◌, ◌%◌, ◌^◌, ◌<◌, ◌≤◌, ◌≡◌, Bool, true, false, ◌⊎◌, List, length, get_or, take}
 use Rattle.std.specs.Int.Bits.{bit_and}
 use Rattle.text.specs.Flags.{Neither, Plain, Each}
 use Rattle.masks.specs.Mask.{mask_at}
-use Rattle.line.specs.Inner.{Clear, Stopped, TextEnd, Judging}
+use Rattle.line.specs.Inner.{Clear, Stopped, TextEnd, Judging, InOrder, Told}
 use Rattle.line.specs.declared.scan.Met.{Met}
 use Rattle.line.specs.declared.scan.Met.TheVariants as M
+use Rattle.line.specs.declared.scan.Bounds.{Bounds}
 
 -- ---- the flags of a block
-
--- 1 for a byte from 80 hex on, else 0
-pub record HighIf (b r : ℕ) : Type 0 where
-  pub low : b < 128 → r ≡ 0
-  pub high : 128 ≤ b → r ≡ 1
 
 -- the byte at a place is no tab and no LF, and below 80 hex
 pub record Smooth (s : List ℕ) (k : ℕ) : Type 0 where
@@ -25,11 +21,32 @@ pub record Calm (s : List ℕ) (k : ℕ) : Type 0 where
   pub no_pair : get_or s (k - 1) 0 ≡ 9 → get_or s k 0 ≡ 9 → ⊥
   pub plain : Plain s k
 
--- so is each byte from one place to another
+-- a flag of the byte at a place is 0 exactly where the byte is as asked
+pub record FlagsOf (P : List ℕ → ℕ → Type 0) (s : List ℕ) (k r : ℕ) : Type 0 where
+  pub yes : r ≡ 0 → P s k
+  pub no : P s k → r ≡ 0
+
+-- the flags of the places from one to another, each as T says, gathered by `|`: none is above what they are, which has no bit that none has
+pub record Gathers (T : ℕ → ℕ → Type 0) (at end h : ℕ) : Type 0 where
+  pub each : (k : ℕ) → at ≤ k → k < end → (r : ℕ) × (T k r × (r ≤ h))
+  pub few : (j : ℕ) → ((k r : ℕ) → at ≤ k → k < end → T k r → r < 2 ^ j) → h < 2 ^ j
+
+-- each byte from one place to another is as asked
 pub record Runs (P : List ℕ → ℕ → Type 0) (s : List ℕ) (at end : ℕ) : Type 0 where
   pub after : at ≤ end
   pub within : end ≤ length s
   pub each : Each P s at end
+
+-- a place is in a block that a test passes
+pub record InBlock (T : ℕ → Bool → Type 0) (k : ℕ) : Type 0 where
+  pub block : ℕ
+  pub after : block ≤ k
+  pub before : k < block + 64
+  pub passes : T block true
+
+-- so is each from one to another
+abbrev pub Passes : (ℕ → Bool → Type 0) → List ℕ → ℕ → ℕ → Type 0
+Passes T s at end = Runs (λ s k. InBlock T k) s at end
 
 -- ---- the columns as they are gone through
 
@@ -100,10 +117,10 @@ pub record Swept (s : List ℕ) (at i k : ℕ) (fresh plain : Bool) (tabs : List
 
 -- ---- the line that a scan found
 
--- where the scan answers by itself (k is at most 9), an LF ends the line there
+-- an LF ends the line there
 pub record Scanned (s : List ℕ) (at k feed : ℕ) (plain : Bool) (tabs : List ℕ) : Type 0 where
-  pub fed : k ≤ 9 → FedAt s at k feed tabs
-  pub small : k ≤ 9 → plain ≡ true → Each Plain s at feed
+  pub fed : FedAt s at k feed tabs
+  pub small : plain ≡ true → Each Plain s at feed
 
 -- a part, whose bytes are below 80 hex where the flag says so
 pub record PlainIf (s : List ℕ) (at end : ℕ) (plain : Bool) : Type 0 where
@@ -119,8 +136,14 @@ pub record Feeds (s : List ℕ) (at k feed : ℕ) : Type 0 where
   pub late : (k ≡ 7) ⊎ (k ≡ 9) → at + 1 < feed
   pub within : (k ≡ 7) ⊎ (k ≡ 9) → feed < length s
 
--- the text's end, or 0
+-- the text's end, where as many columns as there may be are in order
 pub record WholeEnd (s : List ℕ) (at k feed end : ℕ) : Type 0 where
-  pub whole : (end ≡ 0 → ⊥) → (k ≡ 7) ⊎ (k ≡ 9)
-  pub ends : (end ≡ 0 → ⊥) → TextEnd s at feed end
-  pub full : (end ≡ 0 → ⊥) → get_or s (end - 1) 0 ≡ 9 → ⊥
+  pub whole : (k ≡ 7) ⊎ (k ≡ 9)
+  pub ends : TextEnd s at feed end
+  pub full : get_or s (end - 1) 0 ≡ 9 → ⊥
+
+-- a line whose columns are in order, with the first of its tabs
+pub record Bounded (s : List ℕ) (at : ℕ) (b : Bounds) (tabs : List ℕ) : Type 0 where
+  pub order : InOrder s at b.end b.next
+  pub told : Told (take b.end s) at tabs
+  pub plain_if : PlainIf s at b.end b.plain

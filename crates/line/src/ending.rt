@@ -8,13 +8,7 @@ pub(crate) fn text_end(s: &[u8], start: usize, stop: usize) -> usize
     requires { (start ≤ stop) × (stop ≤ length s.now) }
     ensures { TextEnd s.now start stop result }
 {
-    if stop == s.len() {
-        return stop;
-    }
-    if stop == start {
-        return stop;
-    }
-    if s[stop - 1] == 13 {
+    if stop < s.len() && start < stop && s[stop - 1] == b'\r' {
         return stop - 1;
     }
     stop

@@ -17,7 +17,9 @@ use Rattle.listing.specs.declared.turn.Phase.{Phase}
 use Rattle.listing.specs.declared.drive.State.{State}
 use Rattle.listing.specs.declared.drive.Why.{Why}
 use Rattle.listing.specs.declared.drive.Driven.{Driven}
+use Rattle.std.specs.Prelude.{Result, Ok}
 use Rattle.listing.specs.declared.ask.Ask.{Ask}
+use Rattle.listing.specs.declared.ask.Beyond.{Beyond}
 
 -- ---- one turn
 
@@ -111,19 +113,20 @@ wants_same (lasts h p k v) (clears g q j u) = absurd (omega arith)
 wants_same (clears h p k v) (lasts g q j u) = absurd (omega arith)
 wants_same (clears h p k v) (clears g q j u) = (p ∙ sym q, k ∙ sym j, v ∙ sym u)
 
-ask_determined : {last : Bool} {end : ℕ} {s : State} {b l b' b'' l' l'' : List ℕ} {r r'' : Ask} → Asks last end s b l r b' l' → Asks last end s b l r'' b'' l''
+ask_determined : {last : Bool} {end : ℕ} {s : State} {b l b' b'' l' l'' : List ℕ} {r r'' : Result Ask Beyond} → Asks last end s b l r b' l' → Asks last end s b l r'' b'' l''
     → (r ≡ r'') × (b' ≡ b'') × (l' ≡ l'')
-ask_determined {end = end} {b = b} {b'' = b''} {l'' = l''} {r'' = r''} (asks {d = d} {m = m} i x v) (asks j y u) =
+ask_determined {end = end} {b = b} {b'' = b''} {l'' = l''} (asks {d = d} {m = m} i x v p) (asks {ask = ask} j y u q) =
     let o = drive_determined y x in
-    wants_same v (subst (λ (f : Driven). Wants end f.state b m r'' b'' l'' f.why) o.0 (rw o.1 at u))
-ask_determined (asks i x v) (strays j p k u) = absurd (j i)
-ask_determined (strays i p k v) (asks j y u) = absurd (i j)
+    let w = wants_same v (subst (λ (f : Driven). Wants end f.state b m ask b'' l'' f.why) o.0 (rw o.1 at u)) in
+    (p ∙ ap (λ (a : Ask). Ok a) w.0 ∙ sym q, w.1, w.2)
+ask_determined (asks i x v p) (strays j q k u) = absurd (j i)
+ask_determined (strays i p k v) (asks j y u q) = absurd (i j)
 ask_determined (strays i p k v) (strays j q m u) = (p ∙ sym q, k ∙ sym m, v ∙ sym u)
 
 pub determined : Determined
 determined =
     record {
-      first_state = λ r r' e e'. e ∙ sym e';
+      first = λ r r' e e'. e ∙ sym e';
       drive = λ w last s l r r' m m' x y. drive_determined x y;
       ask_next = λ b end last s l r r' c c' m m' x y. ask_determined x y;
     }

@@ -8,8 +8,7 @@ use lib.ListN.{length, length-append}
 use borrow.Author.Tests.{lt-ltb}
 use Rattle.text.specs.Answer.{Answer}
 use Rattle.text.specs.Over.{over_at}
-use Rattle.text.specs.declared.copy.Written.{Written}
-use Rattle.text.specs.declared.copy.Written.TheVariants.{Done, Short}
+use Rattle.text.specs.declared.copy.NoRoom.{NoRoom}
 use Rattle.text.proofs.Lists.{over_at_nil, over_at_append, length_over_at}
 use Rattle.listing.specs.Output.{row_bytes, rows_bytes}
 use Rattle.listing.specs.Turn.{on, gives, turn_move}
@@ -18,7 +17,8 @@ use Rattle.listing.specs.Demands.{Further, Turns}
 use Rattle.listing.specs.Inner.{Reaches, Known, Lays, has_room, no_room, Counts, Takes, goes, lays, stays}
 use Rattle.listing.specs.Drive.{turn_of, passed, filled, printed, Steps, here, passes, prints, Stops, misplaced, wants, lacks, ends, Drives}
 use Rattle.listing.specs.declared.turn.Phase.{Phase}
-use Rattle.listing.specs.declared.turn.Row.{Row}
+use Rattle.listing.specs.declared.turn.ReadRow.{ReadRow}
+use Rattle.listing.specs.declared.turn.Refusal.{Refusal}
 use Rattle.listing.specs.declared.turn.Turn.{Turn}
 use Rattle.listing.specs.declared.turn.Turn.TheVariants as T
 use Rattle.listing.specs.declared.turn.Reach.{Reach}
@@ -26,8 +26,7 @@ use Rattle.listing.specs.declared.print.Totals.{Totals}
 use Rattle.listing.specs.declared.drive.State.{State}
 use Rattle.listing.specs.declared.drive.Why.{Why}
 use Rattle.listing.specs.declared.drive.Why.TheVariants as W
-use Rattle.listing.specs.declared.drive.Taken.{Taken}
-use Rattle.listing.specs.declared.drive.Taken.TheVariants as K
+use Rattle.std.specs.Prelude.{Result, Ok, Err}
 use Rattle.listing.proofs.Turns.{turns}
 use Rattle.listing.proofs.Runs as runs
 use Rattle.listing.proofs.TurnLaws.{reach_later}
@@ -75,44 +74,44 @@ module _ (last : Bool) (w : List ℕ) (s : State) (h : s.at ≤ length w) where
 
 -- ---- one turn
 
-found : (last : Bool) (w : List ℕ) (s : State) (t : Turn) {row : Row} {then : Phase} {next : ℕ} → turn_paper t ≡ turn_move last s.phase w s.at → t ≡ T.Found row then next
+found : (last : Bool) (w : List ℕ) (s : State) (t : Turn) {row : Result ReadRow Refusal} {then : Phase} {next : ℕ} → turn_paper t ≡ turn_move last s.phase w s.at → t ≡ T.Found row then next
     → turn_of last w s ≡ gives (row_paper row) then next
 unfolding turn_paper
 found last w s t m e = sym m ∙ rw e
 
 module _ (last : Bool) (w : List ℕ) (s : State) {l : List ℕ} {t : Turn} (m : turn_paper t ≡ turn_move last s.phase w s.at) where
-  pub take_beyond : t ≡ T.Beyond → Takes last w s l (K.Stop W.Beyond) l
+  pub take_beyond : t ≡ T.Beyond → Takes last w s l (Err W.Beyond) l
   unfolding turn_paper
   take_beyond e = stays (misplaced (sym m ∙ rw e)) refl
 
-  pub take_more : t ≡ T.More → Takes last w s l (K.Stop W.More) l
+  pub take_more : t ≡ T.More → Takes last w s l (Err W.More) l
   unfolding turn_paper
   take_more e = stays (wants (sym m ∙ rw e)) refl
 
-  pub take_end : t ≡ T.End → Takes last w s l (K.Stop W.Done) l
+  pub take_end : t ≡ T.End → Takes last w s l (Err W.Done) l
   unfolding turn_paper
   take_end e = stays (ends (sym m ∙ rw e)) refl
 
-  pub take_on : {then : Phase} {next : ℕ} → t ≡ T.On then next → Takes last w s l (K.On (passed s then next)) l
+  pub take_on : {then : Phase} {next : ℕ} → t ≡ T.On then next → Takes last w s l (Ok (passed s then next)) l
   unfolding turn_paper
   take_on {then} {next} e = goes {then = then} {next = next} (sym m ∙ rw e) refl
 
-  module _ {row : Row} {then : Phase} {next : ℕ} (e : t ≡ T.Found row then next) {r : Written} {l' : List ℕ} (v : Lays s.put (row_bytes (row_paper row)) l r l') where
-    pub take_full : r ≡ Short → Takes last w s l (K.Stop W.Full) l'
-    take_full q = go (rw q at v)
+  module _ {row : Result ReadRow Refusal} {then : Phase} {next : ℕ} (e : t ≡ T.Found row then next) {r : Result ℕ NoRoom} {l' : List ℕ} (v : Lays s.put (row_bytes (row_paper row)) l r l') where
+    pub take_full : {no : NoRoom} → r ≡ Err no → Takes last w s l (Err W.Full) l'
+    take_full {no} q = go (rw q at v)
       where
-        go : Lays s.put (row_bytes (row_paper row)) l Short l' → Takes last w s l (K.Stop W.Full) l'
+        go : Lays s.put (row_bytes (row_paper row)) l (Err no) l' → Takes last w s l (Err W.Full) l'
         go (no_room a b) = stays (lacks (found last w s t m e) a) b
 
-    pub take_row : {n : ℕ} {c : Totals} → r ≡ Done n → Counts s.totals (row_paper row) c
-        → Takes last w s l (K.On (record { phase = then; at = next; put = n; totals = c })) l'
+    pub take_row : {n : ℕ} {c : Totals} → r ≡ Ok n → Counts s.totals (row_paper row) c
+        → Takes last w s l (Ok (record { phase = then; at = next; put = n; totals = c })) l'
     take_row {n} {c} q o = go (rw q at v)
       where
         same : {a : ℕ} {b : Totals} → filled s (row_paper row) ≡ a → (printed s (row_paper row) then next).totals ≡ b
             → printed s (row_paper row) then next ≡ record { phase = then; at = next; put = a; totals = b }
         same a b = λ i. record { phase = then; at = next; put = a i; totals = b i }
 
-        go : Lays s.put (row_bytes (row_paper row)) l (Done n) l' → Takes last w s l (K.On (record { phase = then; at = next; put = n; totals = c })) l'
+        go : Lays s.put (row_bytes (row_paper row)) l (Ok n) l' → Takes last w s l (Ok (record { phase = then; at = next; put = n; totals = c })) l'
         go (has_room k a b) =
             rw (← same (sym k) (ap₂ (λ (n m : ℕ). record { read = n; refused = m }) (sym o.read) (sym o.refused))) (lays (found last w s t m e) (omega arith) b)
 
@@ -139,25 +138,19 @@ module _ {last : Bool} {w : List ℕ} {s₀ s : State} {l₀ l : List ℕ} {x : 
   unfolding turn_move
   go_beyond h = stop (misplaced (rw (lt-ltb (length w) s.at h)))
 
-  module _ {r : Taken} {l' : List ℕ} (v : Takes last w s l r l') where
-    pub taken_stops : {why : Why} → r ≡ K.Stop why → Drives last w s₀ l₀ (record { why = why; state = s }) l'
-    taken_stops {why} q = go (rw q at v)
-      where
-        go : Takes last w s l (K.Stop why) l' → Drives last w s₀ l₀ (record { why = why; state = s }) l'
-        go (stays y e) = rw e (stop y)
-
-    module _ {e : State} (q : r ≡ K.On e) (h : s.at ≤ length w) where
+  module _ {r : Result State Why} {l' : List ℕ} (v : Takes last w s l r l') where
+    module _ {e : State} (q : r ≡ Ok e) (h : s.at ≤ length w) where
       pub taken_less : left w e < left w s
       taken_less = go (rw q at v)
         where
-          go : {e : State} → Takes last w s l (K.On e) l' → left w e < left w s
+          go : {e : State} → Takes last w s l (Ok e) l' → left w e < left w s
           go (goes m b) = runs.lower (pass_further last w s h m)
           go (lays m f b) = runs.lower (print_further last w s h m)
 
       pub taken_goes : {y : Reach} → Reaches w s.at y → Going last w s₀ l₀ e l' y
       taken_goes {y} k = go (rw q at v)
         where
-          go : {e : State} → Takes last w s l (K.On e) l' → Going last w s₀ l₀ e l' y
+          go : {e : State} → Takes last w s l (Ok e) l' → Going last w s₀ l₀ e l' y
           go (goes {next = next} m b) =
               let f = pass_further last w s h m in
               rw b

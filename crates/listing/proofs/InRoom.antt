@@ -11,13 +11,14 @@ use Rattle.listing.specs.Drive.{Drives}
 use Rattle.listing.specs.Ask.{InPlace, Wants, reads, writes, lasts, clears, asks, strays}
 use Rattle.listing.specs.declared.drive.State.{State}
 use Rattle.listing.specs.declared.drive.Why.{Why}
+use Rattle.std.specs.Prelude.{Ok}
 use Rattle.listing.specs.declared.ask.Ask.{Ask}
 use Rattle.listing.proofs.RowSizes.{total_few}
 use Rattle.listing.proofs.Told.{drive_counted, drive_size, drive_asks, drive_full}
 
 module _ {last : Bool} {end : ℕ} {s : State} {b l : List ℕ} (i : InPlace end s b l) (c : Counted s) where
   wanted : {e : State} {m b' l' : List ℕ} {r : Ask} {why : Why} → Drives last (take end b) s l (record { why = why; state = e }) m
-      → Wants end e b m r b' l' why → Asked last l r
+      → Wants end e b m r b' l' why → Asked last l (Ok r)
   wanted {e = e} x (reads p k v) =
       let n = length-take-le end b i.buffer in
       let a = drive_asks x (rw n i.window) refl in
@@ -55,5 +56,5 @@ module _ {last : Bool} {end : ℕ} {s : State} {b l : List ℕ} (i : InPlace end
 
 pub asks_in_room : AsksInRoom
 unfolding AsksInRoom
-asks_in_room last end s b l r b' l' i c (asks j x y) = wanted i c x y
+asks_in_room last end s b l r b' l' i c (asks j x y q) = rw q (wanted i c x y)
 asks_in_room last end s b l r b' l' i c (strays j p k v) = absurd (j i)

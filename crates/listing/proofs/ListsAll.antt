@@ -1,5 +1,6 @@
 -- A program that does what it is asked is a run: its buffer holds a window of the input, by what is kept and what is read behind it.
 -- Assumes nothing.
+use Rattle.std.specs.Prelude.{Ok}
 use Prim.Native.Nat.{ℕ, ◌+◌, ◌-◌, ◌≤◌}
 use mathlib.Core.Path.{◌≡◌, refl, sym, ap, ◌∙◌, subst}
 use mathlib.Core.Bool.{Bool, false, false≢true}
@@ -65,9 +66,9 @@ record AskedLast (last : Bool) (end : ℕ) (st : State) (b l : List ℕ) (n : �
   laid : l' ≡ over_at to.put (total_of to) out
 
 module _ {last : Bool} {end : ℕ} {st : State} {b l b' l' : List ℕ} {n : ℕ} where
-  asked_read : {e : State} → Asks last end st b l (A.Read n e) b' l' → AskedRead last end st b l n e b' l'
+  asked_read : {e : State} → Asks last end st b l (Ok (A.Read n e)) b' l' → AskedRead last end st b l n e b' l'
   asked_read (strays i p k v) = let z : ◌≡◌ {A = ℕ} 0 1 = cc in absurd (omega arith)
-  asked_read {e} (asks {d = d} {m = m} i x y) = by y x
+  asked_read {e} (asks {d = d} {m = m} {ask = ask} i x y q) = let z : ask ≡ A.Read n e = cc in by (rw z at y) x
     where
       by : {why : Why} → Wants end d.state b m (A.Read n e) b' l' why → Drives last (take end b) st l d m → AskedRead last end st b l n e b' l'
       by (reads p k v) x = record { place = i; to = d; driven = rw v x; count = cc; state = cc; kept = k }
@@ -75,9 +76,9 @@ module _ {last : Bool} {end : ℕ} {st : State} {b l b' l' : List ℕ} {n : ℕ}
       by (lasts h p k v) x = let z : ◌≡◌ {A = ℕ} 0 1 = cc in absurd (omega arith)
       by (clears h p k v) x = let z : ◌≡◌ {A = ℕ} 0 1 = cc in absurd (omega arith)
 
-  asked_write : {e : State} → Asks last end st b l (A.Write n e) b' l' → AskedWrite last end st b l n e b' l'
+  asked_write : {e : State} → Asks last end st b l (Ok (A.Write n e)) b' l' → AskedWrite last end st b l n e b' l'
   asked_write (strays i p k v) = let z : ◌≡◌ {A = ℕ} 0 1 = cc in absurd (omega arith)
-  asked_write {e} (asks {d = d} {m = m} i x y) = by y x
+  asked_write {e} (asks {d = d} {m = m} {ask = ask} i x y q) = let z : ask ≡ A.Write n e = cc in by (rw z at y) x
     where
       by : {why : Why} → Wants end d.state b m (A.Write n e) b' l' why → Drives last (take end b) st l d m → AskedWrite last end st b l n e b' l'
       by (reads p k v) x = let z : ◌≡◌ {A = ℕ} 0 1 = cc in absurd (omega arith)
@@ -85,9 +86,9 @@ module _ {last : Bool} {end : ℕ} {st : State} {b l b' l' : List ℕ} {n : ℕ}
       by (lasts h p k v) x = let z : ◌≡◌ {A = ℕ} 0 1 = cc in absurd (omega arith)
       by (clears h p k v) x = record { to = d; driven = rw v x; count = cc; state = cc; buffer = k }
 
-  asked_last : Asks last end st b l (A.Last n) b' l' → AskedLast last end st b l n l'
+  asked_last : Asks last end st b l (Ok (A.Last n)) b' l' → AskedLast last end st b l n l'
   asked_last (strays i p k v) = let z : ◌≡◌ {A = ℕ} 0 1 = cc in absurd (omega arith)
-  asked_last (asks {d = d} {m = m} i x y) = by y x
+  asked_last (asks {d = d} {m = m} {ask = ask} i x y q) = let z : ask ≡ A.Last n = cc in by (rw z at y) x
     where
       by : {why : Why} → Wants end d.state b m (A.Last n) b' l' why → Drives last (take end b) st l (record { why = why; state = d.state }) m
           → AskedLast last end st b l n l'

@@ -1,20 +1,22 @@
 -- A line put into the output piece by piece, where there is room for all of it. Assumes nothing.
-use Prim.Native.Nat.{ℕ, zero, suc, ◌+◌, ◌-◌, ◌^◌, ◌<◌, ◌≤◌}
+use Prim.Native.Nat.{ℕ, zero, suc, ◌+◌, ◌-◌, ◌^◌, ◌<◌, ◌≤◌, min}
 use mathlib.Core.Path.{◌≡◌, refl, sym, ap, ◌∙◌}
 use mathlib.Core.List.{List, [], ◌∷◌, ◌++◌, append_assoc, append-nil}
 use native.Mathlib.Omega.{arith}
+use native.Mathlib.Decide.{ℕ_discrete}
 use lib.ListN.{length, take, drop, set, length-append}
-use lib.Seq.{take_at, length-take-le}
+use lib.Seq.{take_at, length-take-le, drop-drop}
 use mir.Syntax.{w64}
 use mir.Val.{Fits}
 use borrow.Author.Tests.{le-leb, lt-leb}
 use borrow.Rule.Slice.PartMut.{put_mid}
 use Rattle.text.specs.Answer.{says}
 use Rattle.text.specs.Over.{over, over_at, Writes}
-use Rattle.text.specs.declared.copy.Written.{Written}
-use Rattle.text.specs.declared.copy.Written.TheVariants.{Done, Short}
-use Rattle.text.proofs.Lists.{length_rest, rest_put, length_over_at, over_at_append}
-use Rattle.text.proofs.CopyLaws.{writes_fits}
+use Rattle.std.specs.Prelude.{Result, Ok, Err, IsOk}
+use Rattle.std.proofs.lemmas.Slice.{put_mid-paste}
+use Rattle.std.proofs.lemmas.List.Edits.{paste_all}
+use Rattle.text.specs.declared.copy.NoRoom.{NoRoom}
+use Rattle.text.proofs.Lists.{length_over_at, over_at_append}
 use Rattle.text.proofs.WrittenLaws.{follows_short, follows_done}
 use Rattle.decimal.specs.Shortest.{shortest}
 use Rattle.decimal.proofs.Shortest.{length_20}
@@ -23,8 +25,7 @@ use Rattle.listing.specs.Output.{numbers, row_bytes, total_bytes, one_more, read
 use Rattle.listing.specs.Paper.{refusal_number, row_paper}
 use Rattle.listing.specs.declared.turn.Refusal.{Refusal}
 use Rattle.listing.specs.declared.turn.Refusal.TheVariants as F
-use Rattle.listing.specs.declared.turn.Row.{Row}
-use Rattle.listing.specs.declared.turn.Row.TheVariants as R
+use Rattle.listing.specs.declared.turn.ReadRow.{ReadRow}
 use Rattle.listing.specs.declared.print.Totals.{Totals}
 
 -- ---- bytes laid behind the first ones
@@ -37,18 +38,31 @@ take_laid at vs l n h e =
 
 -- ---- bytes put from a place on
 
-module _ (at : ℕ) {s : List ℕ} (l : List ℕ) {ys : List ℕ} {r : Written} (w : Writes s (take (length l - at) (drop at l)) r ys) (h : at + length s ≤ length l) where
-  pub put_all : Put at s l (at + length s) (put_mid at (length l - at) l ys)
-  put_all =
-      let k = length_rest l at in
-      record { count = refl; within = h; bytes = rest_put at s l ys (writes_fits w (omega arith)) }
+pub put_all : (at : ℕ) {s ys : List ℕ} (l : List ℕ) → ys ≡ s → at + length s ≤ length l → Put at s l (at + length s) (put_mid at (at + length s - at) l ys)
+unfolding over_at over
+put_all at {s} {ys} l e h =
+    record {
+      count = refl;
+      within = h;
+      bytes =
+          put_mid-paste at (at + length s - at) l ys s (length s) e (omega arith) refl
+          ∙ paste_all l at s (length s) refl
+          ∙ rw (drop-drop (length s) at l);
+    }
 
 -- the digits, and then the space before them
-module _ (n at : ℕ) (l : List ℕ) {ys : List ℕ} {r : Written} (w : Writes (shortest n) (take (length l - (at + 1)) (drop (at + 1) l)) r ys) (h : at + length (spaced n) ≤ length l) where
-  pub number_none : r ≡ Short → ⊥
+module _ (n at : ℕ) (l : List ℕ) {ys : List ℕ} {r : Result ℕ NoRoom} (w : Writes (shortest n) (take (length l - (at + 1)) (drop (at + 1) l)) r ys) (h : at + length (spaced n) ≤ length l) where
+  number_none : {no : NoRoom} → r ≡ Err no → ⊥
   number_none = follows_short 32 at (shortest n) l w h
 
-  module _ {len : ℕ} (e : r ≡ Done len) where
+  pub number_there : IsOk r
+  number_there = by r refl
+    where
+      by : (x : Result ℕ NoRoom) → r ≡ x → IsOk x
+      by (Ok k) e = refl
+      by (Err x) e = absurd (number_none e)
+
+  module _ {len : ℕ} (e : r ≡ Ok len) where
     pub number_fits : length l < 2 ^ 64 → Fits w64 (at + 1 + len)
     number_fits f = let d = (follows_done 32 at (shortest n) l w h e).within in record { fits = omega arith }
 
@@ -84,25 +98,24 @@ unfolding numbers
 numbers_more n ns = refl
 
 -- all its pieces are put
-line_put : {at n : ℕ} {vs l l' : List ℕ} → Put at vs l n l' → Lays at vs l (Done n) l'
+line_put : {at n : ℕ} {vs l l' : List ℕ} → Put at vs l n l' → Lays at vs l (Ok n) l'
 line_put p = has_room p.count p.within p.bytes
 
-pub read_line : (columns infos samples : ℕ) {a b c d n at : ℕ} {l l₁ l₂ l₃ l₄ l₅ : List ℕ} → Put at (111 ∷ 107 ∷ []) l a l₁ → Put a (spaced columns) l₁ b l₂
-    → Put b (spaced infos) l₂ c l₃ → Put c (spaced samples) l₃ d l₄ → Put d (10 ∷ []) l₄ n l₅
-    → Lays at (row_bytes (says 0 (columns ∷ infos ∷ samples ∷ []))) l (Done n) l₅
-unfolding row_bytes
-read_line columns infos samples p q s t u =
-    rw (numbers_more columns, numbers_more infos, numbers_one samples) (line_put (put_append (put_append p (put_append q (put_append s t))) u))
+pub read_line : (row : ReadRow) {a b c d n at : ℕ} {l l₁ l₂ l₃ l₄ l₅ : List ℕ} → Put at (111 ∷ 107 ∷ []) l a l₁ → Put a (spaced row.columns) l₁ b l₂
+    → Put b (spaced row.infos) l₂ c l₃ → Put c (spaced row.samples) l₃ d l₄ → Put d (10 ∷ []) l₄ n l₅ → Lays at (row_bytes (row_paper (Ok row))) l (Ok n) l₅
+unfolding row_bytes row_paper
+read_line row p q s t u =
+    rw (numbers_more row.columns, numbers_more row.infos, numbers_one row.samples) (line_put (put_append (put_append p (put_append q (put_append s t))) u))
 
-pub refused_line : (number : ℕ) {a b n at : ℕ} {l l₁ l₂ l₃ : List ℕ} → 1 ≤ number → Put at (114 ∷ 101 ∷ 102 ∷ 117 ∷ 115 ∷ 101 ∷ 100 ∷ []) l a l₁
-    → Put a (spaced number) l₁ b l₂ → Put b (10 ∷ []) l₂ n l₃ → Lays at (row_bytes (says number [])) l (Done n) l₃
+put_refused : (number : ℕ) {a b n at : ℕ} {l l₁ l₂ l₃ : List ℕ} → 1 ≤ number → Put at (114 ∷ 101 ∷ 102 ∷ 117 ∷ 115 ∷ 101 ∷ 100 ∷ []) l a l₁
+    → Put a (spaced number) l₁ b l₂ → Put b (10 ∷ []) l₂ n l₃ → Lays at (row_bytes (says number [])) l (Ok n) l₃
 unfolding row_bytes
-refused_line zero h p q s = absurd (omega arith)
-refused_line (suc number) h p q s = rw (numbers_one (suc number)) (line_put (put_append (put_append p q) s))
+put_refused zero h p q s = absurd (omega arith)
+put_refused (suc number) h p q s = rw (numbers_one (suc number)) (line_put (put_append (put_append p q) s))
 
 pub total_line : (read refused : ℕ) {a b c d n at : ℕ} {l l₁ l₂ l₃ l₄ l₅ : List ℕ} → Put at (114 ∷ 101 ∷ 97 ∷ 100 ∷ []) l a l₁ → Put a (spaced read) l₁ b l₂
     → Put b (32 ∷ 114 ∷ 101 ∷ 102 ∷ 117 ∷ 115 ∷ 101 ∷ 100 ∷ []) l₂ c l₃ → Put c (spaced refused) l₃ d l₄ → Put d (10 ∷ []) l₄ n l₅
-    → Lays at (total_bytes read refused) l (Done n) l₅
+    → Lays at (total_bytes read refused) l (Ok n) l₅
 unfolding total_bytes
 total_line read refused p q s t u =
     rw (numbers_one read, numbers_one refused) (line_put (put_append (put_append (put_append p q) (put_append s t)) u))
@@ -131,40 +144,21 @@ unfolding total_bytes numbers
 total_size read refused = simp length-append (omega arith)
 
 -- no room for it
-pub read_lacks : (columns infos samples : ℕ) {at i j k room : ℕ} {l : List ℕ} → Sizes columns i → Sizes infos j → Sizes samples k → room ≡ length l - at
-    → room < 3 + i + j + k → Lays at (row_bytes (says 0 (columns ∷ infos ∷ samples ∷ []))) l Short l
-read_lacks columns infos samples x y z e h = no_room (omega (arith, read_size columns infos samples)) refl
+pub read_lacks : (row : ReadRow) {no : NoRoom} {at i j k room : ℕ} {l : List ℕ} → Sizes row.columns i → Sizes row.infos j → Sizes row.samples k → room ≡ length l - at
+    → room < 3 + i + j + k → Lays at (row_bytes (row_paper (Ok row))) l (Err no) l
+unfolding row_paper
+read_lacks row x y z e h = no_room (omega (arith, read_size row.columns row.infos row.samples)) refl
 
-pub refused_lacks : (number : ℕ) {at k room : ℕ} {l : List ℕ} → 1 ≤ number → Sizes number k → room ≡ length l - at → room < 8 + k
-    → Lays at (row_bytes (says number [])) l Short l
-refused_lacks zero h x e g = absurd (omega arith)
-refused_lacks (suc number) h x e g = no_room (omega (arith, refused_size number [])) refl
+lacks_refused : (number : ℕ) {no : NoRoom} {at k room : ℕ} {l : List ℕ} → 1 ≤ number → Sizes number k → room ≡ length l - at → room < 8 + k
+    → Lays at (row_bytes (says number [])) l (Err no) l
+lacks_refused zero h x e g = absurd (omega arith)
+lacks_refused (suc number) h x e g = no_room (omega (arith, refused_size number [])) refl
 
-pub total_lacks : (read refused : ℕ) {at i j room : ℕ} {l : List ℕ} → Sizes read i → Sizes refused j → room ≡ length l - at → room < 13 + i + j
-    → Lays at (total_bytes read refused) l Short l
+pub total_lacks : (read refused : ℕ) {no : NoRoom} {at i j room : ℕ} {l : List ℕ} → Sizes read i → Sizes refused j → room ≡ length l - at → room < 13 + i + j
+    → Lays at (total_bytes read refused) l (Err no) l
 total_lacks read refused x y e h = no_room (omega (arith, total_size read refused)) refl
 
 -- ---- a refusal's number
-
-pub number_empty : {w : Refusal} → w ≡ F.Empty → 2 ≡ refusal_number w
-unfolding refusal_number
-number_empty e = rw e
-
-pub number_fed : {w : Refusal} → w ≡ F.Fed → 3 ≡ refusal_number w
-unfolding refusal_number
-number_fed e = rw e
-
-pub number_cut : {w : Refusal} → w ≡ F.Cut → 4 ≡ refusal_number w
-unfolding refusal_number
-number_cut e = rw e
-
-pub number_not_utf8 : {w : Refusal} → w ≡ F.NotUtf8 → 5 ≡ refusal_number w
-unfolding refusal_number
-number_not_utf8 e = rw e
-
-pub number_long : {w : Refusal} → w ≡ F.Long → 22 ≡ refusal_number w
-unfolding refusal_number
-number_long e = rw e
 
 -- it is not 0
 number_some : (w : Refusal) → 1 ≤ refusal_number w
@@ -175,32 +169,34 @@ number_some F.Cut = omega arith
 number_some F.NotUtf8 = omega arith
 number_some F.Long = omega arith
 
-pub number_told : (w : Refusal) {n : ℕ} → n ≡ refusal_number w → 1 ≤ n
-number_told w e = rw e (number_some w)
+module _ (why : Refusal) {number : ℕ} (e : number ≡ refusal_number why) where
+  pub refused_line : {a b n at : ℕ} {l l₁ l₂ l₃ : List ℕ} → Put at (114 ∷ 101 ∷ 102 ∷ 117 ∷ 115 ∷ 101 ∷ 100 ∷ []) l a l₁
+      → Put a (spaced number) l₁ b l₂ → Put b (10 ∷ []) l₂ n l₃ → Lays at (row_bytes (row_paper (Err why))) l (Ok n) l₃
+  unfolding row_paper
+  refused_line p q s = put_refused (refusal_number why) (number_some why) p (rw e at q) s
+
+  pub refused_lacks : {no : NoRoom} {at k room : ℕ} {l : List ℕ} → Sizes number k → room ≡ length l - at → room < 8 + k
+      → Lays at (row_bytes (row_paper (Err why))) l (Err no) l
+  unfolding row_paper
+  refused_lacks x h g = lacks_refused (refusal_number why) (number_some why) (rw e at x) h g
 
 -- ---- a row
 
-pub row_read : {row : Row} {columns infos samples at : ℕ} {out out' : List ℕ} {r : Written} → row ≡ R.Read columns infos samples
-    → Lays at (row_bytes (says 0 (columns ∷ infos ∷ samples ∷ []))) out r out' → Lays at (row_bytes (row_paper row)) out r out'
-unfolding row_paper
-row_read e w = rw e w
-
-pub row_refused : {row : Row} {why : Refusal} {n at : ℕ} {out out' : List ℕ} {r : Written} → row ≡ R.Refused why → n ≡ refusal_number why
-    → Lays at (row_bytes (says n [])) out r out' → Lays at (row_bytes (row_paper row)) out r out'
-unfolding row_paper
-row_refused e m w = rw e (rw m at w)
+pub row_laid : {row other : Result ReadRow Refusal} {at : ℕ} {out out' : List ℕ} {r : Result ℕ NoRoom} → row ≡ other
+    → Lays at (row_bytes (row_paper other)) out r out' → Lays at (row_bytes (row_paper row)) out r out'
+row_laid e w = rw e w
 
 -- ---- the totals
 
-pub more_held : {n : ℕ} → 18446744073709551615 ≤ n → n ≡ one_more n
+pub more_counted : {n x : ℕ} → x ≡ min (n + 1) (2 ^ 64 - 1) → n < 2 ^ 64 → x ≡ one_more n
 unfolding one_more
-more_held h = rw (le-leb _ _ h)
+more_counted {n} e h =
+    elim (ℕ_discrete n 18446744073709551615) [
+      | yes z ↦ rw (le-leb 18446744073709551615 n (omega arith)) (omega arith)
+      | no z ↦ rw (lt-leb 18446744073709551615 n (omega arith)) (omega arith)
+    ]
 
-pub more_counted : {n : ℕ} → n < 18446744073709551615 → n + 1 ≡ one_more n
-unfolding one_more
-more_counted h = rw (lt-leb _ _ h)
-
-pub count_read : {t : Totals} {row : Row} {columns infos samples x : ℕ} → row ≡ R.Read columns infos samples → x ≡ one_more t.read
+pub count_read : {t : Totals} {row : Result ReadRow Refusal} {read : ReadRow} {x : ℕ} → row ≡ Ok read → x ≡ one_more t.read
     → Counts t (row_paper row) (record { read = x; refused = t.refused })
 unfolding row_paper read_after refused_after
 count_read e h = rw e (record { read = h; refused = refl })
@@ -210,21 +206,13 @@ unfolding read_after refused_after
 after_refused t zero x s h = absurd (omega arith)
 after_refused t (suc number) x s h = record { read = refl; refused = h }
 
-pub count_refused : {t : Totals} {row : Row} {why : Refusal} {x : ℕ} → row ≡ R.Refused why → x ≡ one_more t.refused
+pub count_refused : {t : Totals} {row : Result ReadRow Refusal} {why : Refusal} {x : ℕ} → row ≡ Err why → x ≡ one_more t.refused
     → Counts t (row_paper row) (record { read = t.read; refused = x })
 unfolding row_paper
 count_refused {t} {row} {why} {x} e h = rw e (after_refused t (refusal_number why) x (number_some why) h)
 
 pub ruleset laws = (
-  number_empty,
-  number_fed,
-  number_cut,
-  number_not_utf8,
-  number_long,
-  number_told,
-  row_read,
-  row_refused,
-  more_held,
+  row_laid,
   more_counted,
   count_read,
   count_refused,

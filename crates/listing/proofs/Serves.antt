@@ -22,6 +22,7 @@ use Rattle.listing.specs.declared.drive.State.{State}
 use Rattle.listing.specs.declared.drive.Why.{Why}
 use Rattle.listing.specs.declared.drive.Why.TheVariants as W
 use Rattle.listing.specs.declared.drive.Driven.{Driven}
+use Rattle.std.specs.Prelude.{Ok}
 use Rattle.listing.specs.declared.ask.Ask.{Ask}
 use Rattle.listing.specs.declared.ask.Ask.TheVariants as A
 use Rattle.listing.proofs.Runs as runs
@@ -192,7 +193,7 @@ module _ (s : List ℕ) (p : Stand) (y : Ready s p) (f g : ℕ) (k : Marked p f 
     row_less h = let n = size in omega (arith, onward.within, onward.row h, y.holds.within, in_window)
 
     does : {r : Ask} {b' l'' : List ℕ} {why : Why} → d.why ≡ why → Wants p.end d.state p.buffer m r b' l'' why
-        → Asks p.last p.end p.state p.buffer p.out r b' l''
+        → Asks p.last p.end p.state p.buffer p.out (Ok r) b' l''
     does e z = asked p.end p.buffer x y.place.buffer y.place.window y.place.output (wanted e z)
 
     after_read : d.why ≡ W.More → From s p
@@ -242,7 +243,7 @@ module _ (s : List ℕ) (p : Stand) (y : Ready s p) (f g : ℕ) (k : Marked p f 
                 omega (arith, z refl, q refl a.0, a.1, y.room, within, y.holds.within, runs.rank_most d.state.phase)
             by (suc f) h z q = omega (arith, less, within)
 
-    after_write : 0 < d.state.put → Asks p.last p.end p.state p.buffer p.out (A.Write d.state.put (written_out d.state)) p.buffer m → From s p
+    after_write : 0 < d.state.put → Asks p.last p.end p.state p.buffer p.out (Ok (A.Write d.state.put (written_out d.state))) p.buffer m → From s p
     after_write h w = by (dec_lt (runs.left s d.state.phase (p.base + d.state.at)) (left_of s p))
       where
         to : Stand

@@ -1,8 +1,9 @@
 -- The line at a place is the one that is found there; each way through a turn is then the definition's clause. Assumes nothing.
 use Prim.Native.Nat.{ℕ, ◌+◌, ◌-◌, ◌<◌, ◌≤◌}
 use mathlib.Core.Path.{◌≡◌, refl, sym, ap, ◌∙◌}
-use mathlib.Core.Bool.{Bool, true, false, ◌||◌}
+use mathlib.Core.Bool.{Bool, true, false, not, ◌||◌}
 use mathlib.Core.List.{List, [], ◌∷◌, ◌++◌}
+use Rattle.std.specs.Prelude.{Ok, Err, IsOk}
 use native.Mathlib.Omega.{arith}
 use lib.ListN.{length, get_or, take, drop, drop_of_length-le, length-drop, take-append-drop}
 use lib.Seq.{drop-drop, take-append-le, length-take-le}
@@ -19,8 +20,8 @@ use Rattle.record.specs.declared.ending.Ending.{Ending}
 use Rattle.record.specs.declared.ending.Ending.TheVariants as E
 use Rattle.line.specs.Line.{Line, line, line_of, read_answer}
 use Rattle.line.specs.Promises.{FindsLine}
-use Rattle.line.specs.declared.extent.Lined.{Lined}
-use Rattle.line.specs.declared.extent.Lined.TheVariants as L
+use Rattle.line.specs.declared.extent.Extent.{Extent}
+use Rattle.line.specs.Paper.{Lined}
 use Rattle.line.proofs.LineLaws.{AtFeed, none, one, at_feed}
 use Rattle.line.proofs.Extents.{found, beyond}
 use Rattle.listing.specs.Listing.{size_of, longest, begins_hash}
@@ -31,34 +32,41 @@ use Rattle.listing.proofs.LineLaws.{past_line, size_feed, size_after, whole_afte
 use Rattle.listing.specs.declared.turn.Phase.{Phase}
 use Rattle.listing.specs.declared.turn.Phase.TheVariants as P
 use Rattle.listing.specs.declared.turn.Reach.{Reach}
-use Rattle.listing.specs.declared.turn.Row.TheVariants as W
 use Rattle.listing.specs.declared.turn.Refusal.TheVariants as F
 use Rattle.listing.specs.declared.turn.Turn.{Turn}
 use Rattle.listing.specs.declared.turn.Turn.TheVariants as T
 
 -- ---- where a line ends
 
-module _ (w : List ℕ) (at : ℕ) {x : Lined} (f : FindsLine w at x) where
-  found_ends : {end next : ℕ} {e : Ending} {fed : Bool} → x ≡ L.At end e next → ((t rest : List ℕ) → is_whole false (line t (ending_of e) rest) ≡ fed) → Ends w at next fed
-  unfolding size_of
-  found_ends q k =
-      let g = found w at f q in
-      record { size = rw g.is (omega (arith, g.past)); within = g.within; whole = rw g.is (k g.text g.rest) }
+module _ (w : List ℕ) (at : ℕ) (x : Lined) (f : FindsLine w at x) where
+  pub line_there : at ≤ length w → IsOk x
+  line_there h = by x refl
+    where
+      by : (z : Lined) → x ≡ z → IsOk z
+      by (Ok y) q = refl
+      by (Err e) q = absurd (let l = beyond w at f q in omega arith)
 
-  pub reach_open : {end next : ℕ} {e : Ending} → x ≡ L.At end e next → e ≡ E.Nothing → Reaches w at (record { end = next; fed = false })
-  unfolding is_whole
-  reach_open q z = found_ends q (λ t rest. rw z)
+  module _ {y : Extent} (q : x ≡ Ok y) where
+    found_ends : {fed : Bool} → ((t rest : List ℕ) → is_whole false (line t (ending_of y.ending) rest) ≡ fed) → Ends w at y.next fed
+    unfolding size_of
+    found_ends k =
+        let g = found w at f q in
+        record { size = rw g.is (omega (arith, g.past)); within = g.within; whole = rw g.is (k g.text g.rest) }
 
-  pub reach_feed : {end next : ℕ} {e : Ending} → x ≡ L.At end e next → e ≡ E.Feed → Reaches w at (record { end = next; fed = true })
-  unfolding is_whole
-  reach_feed q z = found_ends q (λ t rest. rw z)
+    -- by whether it is ended by the end of the input
+    module _ {unfed : Bool} where
+      pub reach_open : y.ending ≡ E.Nothing → unfed ≡ true → Reaches w at (record { end = y.next; fed = not unfed })
+      unfolding is_whole
+      reach_open z o = rw o (found_ends (λ t rest. rw z))
 
-  pub reach_return : {end next : ℕ} {e : Ending} → x ≡ L.At end e next → e ≡ E.ReturnFeed → Reaches w at (record { end = next; fed = true })
-  unfolding is_whole
-  reach_return q z = found_ends q (λ t rest. rw z)
-
-  pub reach_beyond : at ≤ length w → x ≡ L.Beyond → Reaches w at (record { end = at; fed = false })
-  reach_beyond h q = absurd (let l = beyond w at f q in omega arith)
+      pub reach_fed : (y.ending ≡ E.Nothing → ⊥) → unfed ≡ false → Reaches w at (record { end = y.next; fed = not unfed })
+      unfolding is_whole
+      reach_fed z o = rw o (found_ends (λ t rest. by y.ending z t rest))
+        where
+          by : (e : Ending) → (e ≡ E.Nothing → ⊥) → (t rest : List ℕ) → is_whole false (line t (ending_of e) rest) ≡ true
+          by E.Nothing z t rest = absurd (z refl)
+          by E.Feed z t rest = refl
+          by E.ReturnFeed z t rest = refl
 
 -- where no LF stands between two places, the lines at both end alike
 module _ (w : List ℕ) (from at : ℕ) (h : from ≤ at) (l : at ≤ length w) (f : Free 10 (take (at - from) (drop from w))) where
@@ -98,12 +106,6 @@ pub reach_known : {w : List ℕ} {at : ℕ} {x : Reach} → Known w at x → at 
 reach_known k h = k h
 
 -- ---- whether it is whole
-
-pub whole_fed : {fed : Bool} (last : Bool) → fed ≡ true → true ≡ (fed || last)
-whole_fed last e = rw e
-
-pub whole_last : {fed : Bool} (last : Bool) → fed ≡ false → last ≡ (fed || last)
-whole_last last e = rw e
 
 whole_or : (last : Bool) (l : Line) → is_whole last l ≡ (is_whole false l || last)
 unfolding is_whole
@@ -178,13 +180,14 @@ module _ (w : List ℕ) (last : Bool) (at : ℕ) where
 
 -- ---- a line that is too long
 
-pub long_whole : {whole : Bool} (next : ℕ) → whole ≡ true → turn_paper (T.Found (W.Refused F.Long) P.Lines next) ≡ gives (says 22 []) (pick whole P.Lines P.Rest) next
-unfolding turn_paper row_paper refusal_number
-long_whole next e = rw e
+module _ {whole : Bool} (next : ℕ) where
+  pub long_whole : whole ≡ true → turn_paper (T.Found (Err F.Long) P.Lines next) ≡ gives (says 22 []) (pick whole P.Lines P.Rest) next
+  unfolding turn_paper row_paper refusal_number
+  long_whole e = rw e
 
-pub long_open : {whole : Bool} (next : ℕ) → whole ≡ false → turn_paper (T.Found (W.Refused F.Long) P.Rest next) ≡ gives (says 22 []) (pick whole P.Lines P.Rest) next
-unfolding turn_paper row_paper refusal_number
-long_open next e = rw e
+  pub long_open : whole ≡ false → turn_paper (T.Found (Err F.Long) P.Rest next) ≡ gives (says 22 []) (pick whole P.Lines P.Rest) next
+  unfolding turn_paper row_paper refusal_number
+  long_open e = rw e
 
 -- ---- a turn
 
@@ -206,4 +209,4 @@ module _ (last : Bool) (w : List ℕ) (at : ℕ) {phase : Phase} (r : Turn) (h :
   turn_rest q e = rw (le-ltb (length w) at h, q) e
 
 pub ruleset laws =
-    (reach_known, whole_fed, whole_last, pass_whole, pass_none, pass_some, end_after, read_long, read_line, read_more, lead_last, lead_none, lead_hash, lead_other, long_whole, long_open, turn_lead, turn_comment, turn_lines, turn_rest)
+    (reach_known, pass_whole, pass_none, pass_some, end_after, read_long, read_line, read_more, lead_last, lead_none, lead_hash, lead_other, long_whole, long_open, turn_lead, turn_comment, turn_lines, turn_rest)

@@ -1,5 +1,5 @@
 -- What a program that lists is to do next (docs/RULES.md, "The program vcflist"). Assumes nothing.
-use Rattle.std.specs.Prelude.{ℕ, ◌+◌, ◌-◌, ◌<◌, ◌≤◌, ◌≡◌, Bool, List, length, take, drop}
+use Rattle.std.specs.Prelude.{ℕ, ◌+◌, ◌-◌, ◌<◌, ◌≤◌, ◌≡◌, Bool, List, length, take, drop, Result, Ok, Err}
 use Rattle.text.specs.Over.{over, over_at}
 use Rattle.listing.specs.Output.{total_bytes}
 use Rattle.listing.specs.Drive.{Drives}
@@ -8,6 +8,7 @@ use Rattle.listing.specs.declared.drive.Why.{Why}
 use Rattle.listing.specs.declared.drive.Why.TheVariants as W
 use Rattle.listing.specs.declared.drive.Driven.{Driven}
 use Rattle.listing.specs.declared.ask.Ask.{Ask}
+use Rattle.listing.specs.declared.ask.Beyond.{Beyond}
 use Rattle.listing.specs.declared.ask.Ask.TheVariants as A
 
 -- the same place of the input, at the start of another window
@@ -45,7 +46,7 @@ pub data Wants (end : ℕ) (e : State) (b m : List ℕ) (r : Ask) (b' l' : List 
   clears : length m < last_filled e → r ≡ A.Write e.put (written_out e) → b' ≡ b → l' ≡ m → Wants end e b m r b' l' W.Done
 
 -- what is asked for from the state s on; 6 where the places are not in order
-pub data Asks (last : Bool) (end : ℕ) (s : State) (b l : List ℕ) (r : Ask) (b' l' : List ℕ) : Type 0 where
-  asks : {d : Driven} {m : List ℕ} → InPlace end s b l → Drives last (take end b) s l d m → Wants end d.state b m r b' l' d.why
-      → Asks last end s b l r b' l'
-  strays : (InPlace end s b l → ⊥) → r ≡ A.Beyond → b' ≡ b → l' ≡ l → Asks last end s b l r b' l'
+pub data Asks (last : Bool) (end : ℕ) (s : State) (b l : List ℕ) (r : Result Ask Beyond) (b' l' : List ℕ) : Type 0 where
+  asks : {d : Driven} {m : List ℕ} {ask : Ask} → InPlace end s b l → Drives last (take end b) s l d m → Wants end d.state b m ask b' l' d.why
+      → r ≡ Ok ask → Asks last end s b l r b' l'
+  strays : (InPlace end s b l → ⊥) → r ≡ Err (record {}) → b' ≡ b → l' ≡ l → Asks last end s b l r b' l'

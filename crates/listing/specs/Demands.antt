@@ -1,6 +1,6 @@
 -- What is asked of any turn over windows of an input, as a function on lists (docs/RULES.md, "The program vcflist";
 -- docs/STATEMENTS.md). Assumes nothing.
-use Rattle.std.specs.Prelude.{ℕ, ◌+◌, ◌-◌, ◌<◌, ◌≤◌, ◌≡◌, Bool, true, false, ◌⊎◌, List, [], ◌∷◌, ◌++◌, length, take, drop}
+use Rattle.std.specs.Prelude.{ℕ, ◌+◌, ◌-◌, ◌<◌, ◌≤◌, ◌≡◌, Bool, true, false, ◌⊎◌, List, [], ◌∷◌, ◌++◌, length, take, drop, Result, Ok, Err}
 use Rattle.text.specs.Answer.{Answer}
 use Rattle.listing.specs.Output.{row_bytes, output_of, printed_from}
 use Rattle.listing.specs.Listing.{longest, Listing}
@@ -13,6 +13,7 @@ use Rattle.listing.specs.declared.drive.State.{State}
 use Rattle.listing.specs.declared.drive.Why.TheVariants as W
 use Rattle.listing.specs.declared.drive.Driven.{Driven}
 use Rattle.listing.specs.declared.ask.Ask.{Ask}
+use Rattle.listing.specs.declared.ask.Beyond.{Beyond}
 use Rattle.listing.specs.declared.ask.Ask.TheVariants as A
 
 -- ---- the listing itself
@@ -139,12 +140,12 @@ pub record ReadsOn (s : List ℕ) (past n : ℕ) (b v : List ℕ) (last : Bool) 
 -- a program that does what it is asked. Of the input s its buffer b holds `end` bytes from the place `base` on; with the state st, and l in
 -- its output, it writes these bytes in all
 pub data Program (s : List ℕ) : ℕ → Bool → ℕ → State → List ℕ → List ℕ → List ℕ → Type 0 where
-  reads : {base end n : ℕ} {last last' : Bool} {st e : State} {b b' b'' v l l' bytes : List ℕ} → Asks last end st b l (A.Read n e) b' l'
+  reads : {base end n : ℕ} {last last' : Bool} {st e : State} {b b' b'' v l l' bytes : List ℕ} → Asks last end st b l (Ok (A.Read n e)) b' l'
       → ReadsOn s (base + end) n b' v last' b'' → Program s (base + (end - n)) last' (n + length v) e b'' l' bytes
       → Program s base last end st b l bytes
-  writes : {base end n : ℕ} {last : Bool} {st e : State} {b b' l l' bytes : List ℕ} → Asks last end st b l (A.Write n e) b' l'
+  writes : {base end n : ℕ} {last : Bool} {st e : State} {b b' l l' bytes : List ℕ} → Asks last end st b l (Ok (A.Write n e)) b' l'
       → Program s base last end e b' l' bytes → Program s base last end st b l (take n l' ++ bytes)
-  lasts : {base end n : ℕ} {last : Bool} {st : State} {b b' l l' : List ℕ} → Asks last end st b l (A.Last n) b' l'
+  lasts : {base end n : ℕ} {last : Bool} {st : State} {b b' l l' : List ℕ} → Asks last end st b l (Ok (A.Last n)) b' l'
       → Program s base last end st b l (take n l')
 
 -- begun with nothing read, it writes the listing's output
@@ -159,13 +160,13 @@ pub record Counted (s : State) : Type 0 where
 
 -- what is asked for can be done, of places that are in order: never 6; to read more only where more can come, behind at most 65,536 bytes;
 -- to write only where fewer than 96 bytes were left in the output
-pub record Asked (last : Bool) (l : List ℕ) (r : Ask) : Type 0 where
-  pub inside : r ≡ A.Beyond → ⊥
-  pub reads : (n : ℕ) (e : State) → r ≡ A.Read n e → (last ≡ false) × (n ≤ longest)
-  pub writes : (n : ℕ) (e : State) → r ≡ A.Write n e → length l < n + longest_row
+pub record Asked (last : Bool) (l : List ℕ) (r : Result Ask Beyond) : Type 0 where
+  pub inside : r ≡ Err (record {}) → ⊥
+  pub reads : (n : ℕ) (e : State) → r ≡ Ok (A.Read n e) → (last ≡ false) × (n ≤ longest)
+  pub writes : (n : ℕ) (e : State) → r ≡ Ok (A.Write n e) → length l < n + longest_row
 
 unfoldable pub AsksInRoom : Type 0
-AsksInRoom = (last : Bool) (end : ℕ) (s : State) (b l : List ℕ) (r : Ask) (b' l' : List ℕ) → InPlace end s b l → Counted s → Asks last end s b l r b' l'
+AsksInRoom = (last : Bool) (end : ℕ) (s : State) (b l : List ℕ) (r : Result Ask Beyond) (b' l' : List ℕ) → InPlace end s b l → Counted s → Asks last end s b l r b' l'
     → Asked last l r
 
 -- so every input is listed to its end, whatever its size, in a buffer of more than 65,536 bytes and an output of 96 or more

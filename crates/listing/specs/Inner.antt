@@ -1,9 +1,8 @@
 -- What the private functions of this crate promise each other. Assumes nothing.
-use Rattle.std.specs.Prelude.{ℕ, ◌+◌, ◌-◌, ◌<◌, ◌≤◌, ◌≡◌, Bool, false, List, ◌∷◌, length, drop}
+use Rattle.std.specs.Prelude.{ℕ, ◌+◌, ◌-◌, ◌<◌, ◌≤◌, ◌≡◌, Bool, false, List, ◌∷◌, length, drop, Result, Ok, Err}
 use Rattle.text.specs.Answer.{Answer, says}
 use Rattle.text.specs.Over.{over_at}
-use Rattle.text.specs.declared.copy.Written.{Written}
-use Rattle.text.specs.declared.copy.Written.TheVariants.{Done, Short}
+use Rattle.text.specs.declared.copy.NoRoom.{NoRoom}
 use Rattle.decimal.specs.Shortest.{shortest}
 use Rattle.record.specs.Paper.{record_values}
 use Rattle.record.specs.declared.place.Record.{Record}
@@ -22,8 +21,6 @@ use Rattle.listing.specs.declared.drive.State.{State}
 use Rattle.listing.specs.declared.drive.Why.{Why}
 use Rattle.listing.specs.declared.drive.Why.TheVariants as W
 use Rattle.listing.specs.declared.drive.Driven.{Driven}
-use Rattle.listing.specs.declared.drive.Taken.{Taken}
-use Rattle.listing.specs.declared.drive.Taken.TheVariants as K
 
 -- the line at a place ends at `next`, which is in the window; an LF ends it, or not
 pub record Ends (w : List ℕ) (at next : ℕ) (fed : Bool) : Type 0 where
@@ -60,9 +57,9 @@ pub record Put (at : ℕ) (s l : List ℕ) (n : ℕ) (l' : List ℕ) : Type 0 wh
   pub bytes : l' ≡ over_at at s l
 
 -- bytes laid behind the first `at` of an output l, which holds n of them then; or no room for them
-pub data Lays (at : ℕ) (vs l : List ℕ) : Written → List ℕ → Type 0 where
-  has_room : {n : ℕ} {l' : List ℕ} → n ≡ at + length vs → n ≤ length l → l' ≡ over_at at vs l → Lays at vs l (Done n) l'
-  no_room : {l' : List ℕ} → length l < at + length vs → l' ≡ l → Lays at vs l Short l'
+pub data Lays (at : ℕ) (vs l : List ℕ) : Result ℕ NoRoom → List ℕ → Type 0 where
+  has_room : {n : ℕ} {l' : List ℕ} → n ≡ at + length vs → n ≤ length l → l' ≡ over_at at vs l → Lays at vs l (Ok n) l'
+  no_room : {no : NoRoom} {l' : List ℕ} → length l < at + length vs → l' ≡ l → Lays at vs l (Err no) l'
 
 -- the bytes of a buffer from one place up to another moved to its front
 pub record Keeps (from end : ℕ) (b : List ℕ) (n : ℕ) (b' : List ℕ) : Type 0 where
@@ -75,11 +72,11 @@ pub record Counts (t : Totals) (a : Answer) (r : Totals) : Type 0 where
   pub refused : r.refused ≡ refused_after t.refused a
 
 -- one turn from the state s, with l in the output: to the next state, its row laid behind what the output held; or why none is taken
-pub data Takes (last : Bool) (w : List ℕ) (s : State) (l : List ℕ) : Taken → List ℕ → Type 0 where
-  goes : {then : Phase} {next : ℕ} {l' : List ℕ} → turn_of last w s ≡ on then next → l' ≡ l → Takes last w s l (K.On (passed s then next)) l'
+pub data Takes (last : Bool) (w : List ℕ) (s : State) (l : List ℕ) : Result State Why → List ℕ → Type 0 where
+  goes : {then : Phase} {next : ℕ} {l' : List ℕ} → turn_of last w s ≡ on then next → l' ≡ l → Takes last w s l (Ok (passed s then next)) l'
   lays : {r : Answer} {then : Phase} {next : ℕ} {l' : List ℕ} → turn_of last w s ≡ gives r then next → filled s r ≤ length l
-      → l' ≡ over_at s.put (row_bytes r) l → Takes last w s l (K.On (printed s r then next)) l'
-  stays : {why : Why} {l' : List ℕ} → Stops last w (length l) s why → l' ≡ l → Takes last w s l (K.Stop why) l'
+      → l' ≡ over_at s.put (row_bytes r) l → Takes last w s l (Ok (printed s r then next)) l'
+  stays : {why : Why} {l' : List ℕ} → Stops last w (length l) s why → l' ≡ l → Takes last w s l (Err why) l'
 
 -- turns over the first `end` bytes of the buffer b stop at a place in them
 pub record Stopped (end : ℕ) (d : Driven) (b : List ℕ) : Type 0 where

@@ -1,9 +1,8 @@
 -- What a turn answers on paper (docs/RULES.md, "Numbers answered"). Assumes nothing.
-use Rattle.std.specs.Prelude.{ℕ, [], ◌∷◌}
+use Rattle.std.specs.Prelude.{ℕ, [], ◌∷◌, Result, Ok, Err}
 use Rattle.text.specs.Answer.{Answer, says}
 use Rattle.listing.specs.Turn.{Move, beyond, more, ended, on, gives}
-use Rattle.listing.specs.declared.turn.Row.{Row}
-use Rattle.listing.specs.declared.turn.Row.TheVariants as R
+use Rattle.listing.specs.declared.turn.ReadRow.{ReadRow}
 use Rattle.listing.specs.declared.turn.Turn.{Turn}
 use Rattle.listing.specs.declared.turn.Turn.TheVariants as T
 use Rattle.listing.specs.declared.turn.Refusal.{Refusal}
@@ -17,9 +16,9 @@ refusal_number F.Cut = 4
 refusal_number F.NotUtf8 = 5
 refusal_number F.Long = 22
 
-unfoldable pub row_paper : Row → Answer
-row_paper (R.Read columns infos samples) = says 0 (columns ∷ infos ∷ samples ∷ [])
-row_paper (R.Refused why) = says (refusal_number why) []
+unfoldable pub row_paper : Result ReadRow Refusal → Answer
+row_paper (Ok row) = says 0 (row.columns ∷ row.infos ∷ row.samples ∷ [])
+row_paper (Err why) = says (refusal_number why) []
 
 unfoldable pub turn_paper : Turn → Move
 turn_paper T.Beyond = beyond

@@ -8,11 +8,6 @@ pub(crate) fn keep_rest(buffer: &mut [u8], from: usize, end: usize) -> usize
     requires end_in_bounds { end ≤ length buffer.old }
     ensures { Keeps from end buffer.old result buffer.new }
 {
-    let len = end - from;
-    let mut i = 0;
-    while i < len {
-        buffer[i] = buffer[from + i];
-        i += 1;
-    }
-    len
+    buffer.copy_within(from..end, 0);
+    end - from
 }

@@ -5,16 +5,16 @@ ghost use Rattle.text.specs.Answer.{says};
 ghost use Rattle.line.specs.Line.{line_of, read_answer};
 ghost use Rattle.listing.specs.Listing.{columns_of, infos_in, counts_of};
 ghost use Rattle.listing.specs.Turn.{pass_move, lead_move, line_move, read_move, gives};
-ghost use Rattle.listing.specs.Paper.{row_paper, turn_paper};
-ghost use Rattle.listing.specs.Inner.{Reaches, ReadAt, TakesTurn};
+ghost use Rattle.listing.specs.Paper.{refusal_number, row_paper, turn_paper};
+ghost use Rattle.listing.specs.Inner.{Reaches, Known, ReadAt, TakesTurn};
 ghost use Rattle.listing.specs.declared.turn.Phase.TheVariants.{Lines, Rest};
 
-use fields::field::{Text, field};
+use fields::field::field;
 use info::count::count as count_infos;
-use line::extent::{Lined, line_at};
-use line::read::{Read, read_line};
+use line::extent::line_at;
+use line::read::{Refusal as Unread, read_line};
 use record::ending::Ending;
-use record::place::{Name, Record, place_of};
+use record::place::{Name, Record};
 use samples::columns::count as count_samples;
 
 const LONGEST: usize = 65536;
@@ -32,8 +32,8 @@ pub enum Phase {
     Rest,
 }
 
-// Why there is no line to read at a place.
-#[derive(Clone, Copy)]
+// Why a line is refused.
+#[derive(Clone, Copy, Debug, PartialEq, Eq)]
 pub enum Refusal {
     // 2
     Empty,
@@ -47,12 +47,27 @@ pub enum Refusal {
     Long,
 }
 
-// What is printed of a read.
+impl Refusal {
+    #[tactic(auto, unfolding(crate::specs::Paper::refusal_number))]
+    pub(crate) fn number(self) -> u64
+        ensures { result ≡ refusal_number self }
+    {
+        match self {
+            Refusal::Empty => 2,
+            Refusal::Fed => 3,
+            Refusal::Cut => 4,
+            Refusal::NotUtf8 => 5,
+            Refusal::Long => 22,
+        }
+    }
+}
+
+// What is printed of a line that was read: how many columns it has, its INFO count, and how many samples.
 #[derive(Clone, Copy)]
-pub enum Row {
-    // 0: how many columns the line has, its INFO count, and how many samples.
-    Read(usize, usize, usize),
-    Refused(Refusal),
+pub struct ReadRow {
+    pub columns: usize,
+    pub infos: usize,
+    pub samples: usize,
 }
 
 // What a turn does. Where it goes on, the next phase and place are given.
@@ -67,7 +82,7 @@ pub enum Turn {
     // Nothing to print.
     On(Phase, usize),
     // A row to print.
-    Found(Row, Phase, usize),
+    Found(Result<ReadRow, Refusal>, Phase, usize),
 }
 
 // How far the line at a place reaches in the window: past its LF, or to the window's end.
@@ -77,32 +92,37 @@ pub(crate) struct Reach {
     pub(crate) fed: bool,
 }
 
-// Looks for the line's end.
-pub(crate) fn reach_from(w: &[u8], at: usize) -> Reach
-    requires { at ≤ length w.now }
-    ensures { Reaches w.now at result }
-{
-    match line_at(w, at) {
-        Lined::At(_, ending, end) => match ending {
-            Ending::Nothing => Reach { end, fed: false },
-            Ending::Feed => Reach { end, fed: true },
-            Ending::ReturnFeed => Reach { end, fed: true },
-        },
-        Lined::Beyond => Reach {
-            end: at,
-            fed: false,
-        },
+impl Reach {
+    // Looks for the end of the line at a place.
+    fn of(w: &[u8], at: usize) -> Reach
+        requires { at ≤ length w.now }
+        ensures { Reaches w.now at result }
+    {
+        let line = line_at(w, at).unwrap();
+        Reach {
+            end: line.next,
+            fed: !matches!(line.ending, Ending::Nothing),
+        }
     }
-}
 
-// Whether a line is whole: an LF ends it, or the window is all that is left of the input.
-fn is_whole(fed: bool, last: bool) -> bool
-    ensures { result ≡ (fed || last) }
-{
-    if fed {
-        return true;
+    // How far the line at a place further on reaches: its LF is looked for only where this one's end is passed.
+    pub(crate) fn moved(self, w: &[u8], at: usize) -> Reach
+        requires at_in_bounds { at ≤ length w.now }
+        requires known { Known w.now at self }
+        ensures { Reaches w.now at result }
+    {
+        if at < self.end {
+            return self;
+        }
+        Reach::of(w, at)
     }
-    last
+
+    // Whether the line is whole: an LF ends it, or the window is all that is left of the input.
+    fn is_whole(self, last: bool) -> bool
+        ensures { result ≡ (self.fed || last) }
+    {
+        self.fed || last
+    }
 }
 
 // Passes over the rest of a line.
@@ -110,21 +130,18 @@ fn pass(w: &[u8], last: bool, at: usize, reach: Reach, within: Phase, after: Pha
     requires { Reaches w.now at reach }
     ensures { turn_paper result ≡ pass_move last within after at (line_of (drop at w.now)) }
 {
-    let end = reach.end;
-    let whole = is_whole(reach.fed, last);
-    if whole {
-        return Turn::On(after, end);
+    if reach.is_whole(last) {
+        return Turn::On(after, reach.end);
     }
-    if end == at {
+    if reach.end == at {
         return Turn::More;
     }
-    Turn::On(within, end)
+    Turn::On(within, reach.end)
 }
 
 // At the start of a line, where only leading lines came before.
 fn lead(w: &[u8], last: bool, at: usize, reach: Reach) -> Turn
-    requires at_in_bounds { at ≤ length w.now }
-    requires reaches { Reaches w.now at reach }
+    requires { Reaches w.now at reach }
     ensures { turn_paper result ≡ lead_move last at (drop at w.now) }
 {
     if at == w.len() {
@@ -144,15 +161,9 @@ fn infos_of(w: &[u8], line: Record, at: usize, next: usize) -> usize
     requires { ReadAt w.now at next line }
     ensures { result ≡ infos_in (columns_of (line_of (drop at w.now))) }
 {
-    let text = field(w, line, Name::Info);
-    match text {
-        Text::At(range) => {
-            let start = range.start;
-            let len = range.len;
-            count_infos(&w[start..start + len])
-        }
-        Text::Absent => 0,
-        Text::Beyond => 0,
+    match field(w, line, Name::Info) {
+        Ok(Some(range)) => count_infos(&w[range.start..range.start + range.len]),
+        Ok(None) | Err(_) => 0,
     }
 }
 
@@ -161,23 +172,23 @@ fn samples_of(w: &[u8], line: Record, at: usize, next: usize) -> usize
     requires { ReadAt w.now at next line }
     ensures { result ≡ length (drop 9 (columns_of (line_of (drop at w.now)))) }
 {
-    let range = place_of(line, Name::Samples);
-    let start = range.start;
-    let len = range.len;
-    count_samples(&w[start..start + len])
+    let range = line.place(Name::Samples);
+    count_samples(&w[range.start..range.start + range.len])
 }
 
 // The row of a line that was read.
-fn row_of(w: &[u8], line: Record, at: usize, next: usize) -> Row
+fn row_of(w: &[u8], line: Record, at: usize, next: usize) -> ReadRow
     requires { ReadAt w.now at next line }
-    ensures { row_paper result ≡ says 0 (counts_of (columns_of (line_of (drop at w.now)))) }
+    ensures { row_paper (Ok result) ≡ says 0 (counts_of (columns_of (line_of (drop at w.now)))) }
 {
     let infos = infos_of(w, line, at, next);
     let samples = samples_of(w, line, at, next);
-    if samples == 0 {
-        return Row::Read(8, infos, 0);
+    let columns = if samples == 0 { 8 } else { 9 + samples };
+    ReadRow {
+        columns,
+        infos,
+        samples,
     }
-    Row::Read(9 + samples, infos, samples)
 }
 
 // Reads the line at a place, which is whole.
@@ -185,15 +196,14 @@ fn read_whole(w: &[u8], at: usize) -> Turn
     requires { at ≤ length w.now }
     ensures { turn_paper result ≡ read_move (line_of (drop at w.now)) (read_answer w.now at) }
 {
-    let read = read_line(w, at);
-    match read {
-        Read::Line(line, next) => { Turn::Found(row_of(w, line, at, next), Phase::Lines, next) }
-        Read::End(_) => Turn::End,
-        Read::Empty(next) => Turn::Found(Row::Refused(Refusal::Empty), Phase::Lines, next),
-        Read::Fed(next) => Turn::Found(Row::Refused(Refusal::Fed), Phase::Lines, next),
-        Read::Cut(next) => Turn::Found(Row::Refused(Refusal::Cut), Phase::Lines, next),
-        Read::NotUtf8(next) => Turn::Found(Row::Refused(Refusal::NotUtf8), Phase::Lines, next),
-        Read::Beyond(_) => Turn::Beyond,
+    match read_line(w, at) {
+        Ok((line, next)) => Turn::Found(Ok(row_of(w, line, at, next)), Phase::Lines, next),
+        Err(Unread::End(_)) => Turn::End,
+        Err(Unread::Empty(next)) => Turn::Found(Err(Refusal::Empty), Phase::Lines, next),
+        Err(Unread::Fed(next)) => Turn::Found(Err(Refusal::Fed), Phase::Lines, next),
+        Err(Unread::Cut(next)) => Turn::Found(Err(Refusal::Cut), Phase::Lines, next),
+        Err(Unread::NotUtf8(next)) => Turn::Found(Err(Refusal::NotUtf8), Phase::Lines, next),
+        Err(Unread::Beyond(_)) => Turn::Beyond,
     }
 }
 
@@ -201,22 +211,18 @@ fn read_whole(w: &[u8], at: usize) -> Turn
 fn too_long(whole: bool, next: usize) -> Turn
     ensures { turn_paper result ≡ gives (says 22 []) (pick whole Lines Rest) next }
 {
-    if whole {
-        return Turn::Found(Row::Refused(Refusal::Long), Phase::Lines, next);
-    }
-    Turn::Found(Row::Refused(Refusal::Long), Phase::Rest, next)
+    let then = if whole { Phase::Lines } else { Phase::Rest };
+    Turn::Found(Err(Refusal::Long), then, next)
 }
 
 // Reads the line at a place.
 fn read_at(w: &[u8], last: bool, at: usize, reach: Reach) -> Turn
-    requires at_in_bounds { at ≤ length w.now }
-    requires reaches { Reaches w.now at reach }
+    requires { Reaches w.now at reach }
     ensures { turn_paper result ≡ line_move last w.now at (line_of (drop at w.now)) }
 {
-    let end = reach.end;
-    let whole = is_whole(reach.fed, last);
-    if end - at > LONGEST {
-        return too_long(whole, end);
+    let whole = reach.is_whole(last);
+    if reach.end - at > LONGEST {
+        return too_long(whole, reach.end);
     }
     if whole {
         return read_whole(w, at);
@@ -227,8 +233,7 @@ fn read_at(w: &[u8], last: bool, at: usize, reach: Reach) -> Turn
 // One turn from a place of the window, where it is known how far the line there reaches; `last` says that the window is all that
 // is left of the input.
 pub(crate) fn turn_at(w: &[u8], last: bool, phase: Phase, at: usize, reach: Reach) -> Turn
-    requires at_in_bounds { at ≤ length w.now }
-    requires reaches { Reaches w.now at reach }
+    requires { Reaches w.now at reach }
     ensures { TakesTurn w.now last phase at result }
 {
     match phase {

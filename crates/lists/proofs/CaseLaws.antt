@@ -2,50 +2,51 @@
 use Prim.Native.Nat.{ℕ}
 use mathlib.Core.Path.{◌≡◌}
 use mathlib.Core.List.{[], ◌∷◌}
+use Rattle.std.specs.Prelude.{Result, Ok, Err}
 use Rattle.text.specs.Answer.{says}
 use Rattle.lists.specs.Kind.{invalid_of}
 use Rattle.lists.specs.Paper.{verdict_paper, write_paper}
 use Rattle.lists.specs.declared.write.Kind.{Kind}
-use Rattle.lists.specs.declared.write.Verdict.{Verdict}
-use Rattle.lists.specs.declared.write.Verdict.TheVariants as J
-use Rattle.lists.specs.declared.write.Write.{Write}
-use Rattle.lists.specs.declared.write.Write.TheVariants as W
+use Rattle.lists.specs.declared.write.Fault.{Fault}
+use Rattle.lists.specs.declared.write.Fault.TheVariants as F
+use Rattle.lists.specs.declared.write.WriteError.{WriteError}
+use Rattle.lists.specs.declared.write.WriteError.TheVariants as W
 
-module _ (kind : Kind) {x : Verdict} where
-  pub verdict_fine : x ≡ J.Fine → verdict_paper kind x ≡ says 0 []
+module _ (kind : Kind) {x : Result Unit Fault} where
+  pub verdict_fine : x ≡ Ok tt → verdict_paper kind x ≡ says 0 []
   unfolding verdict_paper
   verdict_fine e = rw e
 
-  pub verdict_broken : x ≡ J.NotUtf8 → verdict_paper kind x ≡ says 5 []
+  pub verdict_broken : x ≡ Err F.NotUtf8 → verdict_paper kind x ≡ says 5 []
   unfolding verdict_paper
   verdict_broken e = rw e
 
-  pub verdict_invalid : x ≡ J.Invalid → verdict_paper kind x ≡ says (invalid_of kind) []
+  pub verdict_invalid : x ≡ Err F.Invalid → verdict_paper kind x ≡ says (invalid_of kind) []
   unfolding verdict_paper
   verdict_invalid e = rw e
 
-module _ (kind : Kind) {x : Write} where
-  pub write_done : {n : ℕ} → x ≡ W.Done n → write_paper kind x ≡ says 0 (n ∷ [])
+module _ (kind : Kind) {x : Result ℕ WriteError} where
+  pub write_done : {n : ℕ} → x ≡ Ok n → write_paper kind x ≡ says 0 (n ∷ [])
   unfolding write_paper
   write_done e = rw e
 
-  pub write_broken : {n : ℕ} → x ≡ W.NotUtf8 n → write_paper kind x ≡ says 5 (n ∷ [])
+  pub write_broken : {n : ℕ} → x ≡ Err (W.NotUtf8 n) → write_paper kind x ≡ says 5 (n ∷ [])
   unfolding write_paper
   write_broken e = rw e
 
-  pub write_beyond : x ≡ W.Beyond → write_paper kind x ≡ says 6 []
+  pub write_beyond : x ≡ Err W.Beyond → write_paper kind x ≡ says 6 []
   unfolding write_paper
   write_beyond e = rw e
 
-  pub write_invalid : {n : ℕ} → x ≡ W.Invalid n → write_paper kind x ≡ says (invalid_of kind) (n ∷ [])
+  pub write_invalid : {n : ℕ} → x ≡ Err (W.Invalid n) → write_paper kind x ≡ says (invalid_of kind) (n ∷ [])
   unfolding write_paper
   write_invalid e = rw e
 
-  pub write_wrong : x ≡ W.Wrong → write_paper kind x ≡ says 16 []
+  pub write_wrong : x ≡ Err W.Wrong → write_paper kind x ≡ says 16 []
   unfolding write_paper
   write_wrong e = rw e
 
-  pub write_short : x ≡ W.Short → write_paper kind x ≡ says 17 []
+  pub write_short : x ≡ Err W.Short → write_paper kind x ≡ says 17 []
   unfolding write_paper
   write_short e = rw e
 

@@ -1,6 +1,6 @@
 -- What is asked of any judge of an entry, of any writer of a list and of any count of ALT, as functions on lists (docs/RULES.md,
 -- "Genotypes", "Filters and ALT", "One list, one spelling"; docs/STATEMENTS.md). Assumes nothing.
-use Rattle.std.specs.Prelude.{ℕ, ◌+◌, ◌<◌, ◌≤◌, ◌≡◌, true, false, ◌↔◌, List, [], ◌∷◌, ◌++◌, length, get_or, take, drop}
+use Rattle.std.specs.Prelude.{ℕ, ◌+◌, ◌<◌, ◌≤◌, ◌≡◌, true, false, ◌↔◌, List, [], ◌∷◌, ◌++◌, length, get_or, take, drop, Result}
 use Rattle.text.specs.Pick.{pick}
 use Rattle.text.specs.Answer.{Answer, says, number_of}
 use Rattle.text.specs.Same.{same}
@@ -17,7 +17,7 @@ use Rattle.lists.specs.Paper.{write_paper}
 use Rattle.lists.specs.Write.{list_text, entries_answer, WritesListAt}
 use Rattle.lists.specs.declared.write.Kind.{Kind}
 use Rattle.lists.specs.declared.write.Kind.TheVariants as K
-use Rattle.lists.specs.declared.write.Write.{Write}
+use Rattle.lists.specs.declared.write.WriteError.{WriteError}
 
 -- ---- valid entries
 
@@ -182,14 +182,14 @@ Spellings = (write : Writer) → Meets write → OneFilters write × OneAlts wri
 -- where the ends are in order, `write_filters` and `write_alts` answer and leave what the writer does with the entries that they stand for;
 -- else 16, behind 6, and the output is left as it was
 pub record EntriesWriter : Type 0 where
-  pub rises : (kind : Kind) (t ends out : List ℕ) (at : ℕ) (r : Write) (out' : List ℕ) → rising 0 ends (length t) ≡ true → WritesListAt kind t ends out at r out'
+  pub rises : (kind : Kind) (t ends out : List ℕ) (at : ℕ) (r : Result ℕ WriteError) (out' : List ℕ) → rising 0 ends (length t) ≡ true → WritesListAt kind t ends out at r out'
       → (write_paper kind r ≡ (writer kind (entry_list t ends) out at).answer) × (out' ≡ (writer kind (entry_list t ends) out at).output)
-  pub falls : (kind : Kind) (t ends out : List ℕ) (at : ℕ) (r : Write) (out' : List ℕ) → rising 0 ends (length t) ≡ false → WritesListAt kind t ends out at r out'
+  pub falls : (kind : Kind) (t ends out : List ℕ) (at : ℕ) (r : Result ℕ WriteError) (out' : List ℕ) → rising 0 ends (length t) ≡ false → WritesListAt kind t ends out at r out'
       → (write_paper kind r ≡ placed at out (says 16 [])) × (out' ≡ out)
 
 -- one of them, by its contract, answered 0 and n, and left out'
 pub record Wrote (kind : Kind) (t ends out : List ℕ) (at n : ℕ) (out' : List ℕ) : Type 0 where
-  pub answer : Write
+  pub answer : Result ℕ WriteError
   pub writes : WritesListAt kind t ends out at answer out'
   pub done : write_paper kind answer ≡ says 0 (n ∷ [])
 

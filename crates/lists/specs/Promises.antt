@@ -1,5 +1,5 @@
 -- The promise of each public function of this crate, by its name, and that each determines the outcome. Assumes nothing.
-use Rattle.std.specs.Prelude.{ℕ, ◌≡◌, List}
+use Rattle.std.specs.Prelude.{ℕ, ◌≡◌, List, Result}
 use Rattle.text.specs.Outcome.{OneAnswer, OneOutcome}
 use Rattle.lists.specs.AlternateBases.{alt_count}
 use Rattle.lists.specs.Judge.{entry_answer}
@@ -7,12 +7,12 @@ use Rattle.lists.specs.Paper.{verdict_paper}
 use Rattle.lists.specs.Write.{WritesListAt}
 use Rattle.lists.specs.declared.write.Kind.{Kind}
 use Rattle.lists.specs.declared.write.Kind.TheVariants as K
-use Rattle.lists.specs.declared.write.Verdict.{Verdict}
+use Rattle.lists.specs.declared.write.Fault.{Fault}
 
 abbrev pub CountsAlts : List ℕ → ℕ → Type 0
 CountsAlts column r = r ≡ alt_count column
 
-abbrev pub JudgesEntry : Kind → List ℕ → Verdict → Type 0
+abbrev pub JudgesEntry : Kind → List ℕ → Result Unit Fault → Type 0
 JudgesEntry kind t r = verdict_paper kind r ≡ entry_answer kind t
 
 pub record Determined : Type 0 where

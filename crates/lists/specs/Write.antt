@@ -1,6 +1,6 @@
 -- What a writer of filters or ALT entries answers, and what it leaves in the output (docs/RULES.md, "Filters and ALT").
 -- Assumes nothing.
-use Rattle.std.specs.Prelude.{ℕ, ◌+◌, ◌≡◌, List, [], ◌∷◌, drop, eqb}
+use Rattle.std.specs.Prelude.{ℕ, ◌+◌, ◌≡◌, List, [], ◌∷◌, drop, eqb, Result}
 use Rattle.text.specs.Pick.{pick}
 use Rattle.text.specs.Answer.{Answer, number_of}
 use Rattle.text.specs.Over.{laid_at}
@@ -12,7 +12,7 @@ use Rattle.lists.specs.Kind.{separator_of}
 use Rattle.lists.specs.Judge.{entry_answer}
 use Rattle.lists.specs.Paper.{write_paper}
 use Rattle.lists.specs.declared.write.Kind.{Kind}
-use Rattle.lists.specs.declared.write.Write.{Write}
+use Rattle.lists.specs.declared.write.WriteError.{WriteError}
 
 -- ---- the text
 
@@ -46,6 +46,6 @@ write_answer kind t ends out at = placed at out (list_answer kind t ends (drop a
 abbrev pub list_left : Kind → List ℕ → List ℕ → List ℕ → ℕ → List ℕ
 list_left kind t ends out at = laid_at (write_answer kind t ends out at) at (list_text kind (entry_list t ends)) out
 
-pub record WritesListAt (kind : Kind) (t ends out : List ℕ) (at : ℕ) (r : Write) (out' : List ℕ) : Type 0 where
+pub record WritesListAt (kind : Kind) (t ends out : List ℕ) (at : ℕ) (r : Result ℕ WriteError) (out' : List ℕ) : Type 0 where
   pub answer : write_paper kind r ≡ write_answer kind t ends out at
   pub bytes : out' ≡ list_left kind t ends out at

@@ -72,20 +72,16 @@ zeros_fit m = omega (arith, trailing_le 64 m)
 -- ---- the mask of a place
 
 module _ (a b : ℕ) (s : List ℕ) (at : ℕ) where
-  pub mask_beyond : length s < at → 0 ≡ mask_at a b s at
+  pub mask_short : length s - at < 64 → 0 ≡ mask_at a b s at
   unfolding mask_at
-  mask_beyond h = rw (lt-leb (at + 64) (length s) (omega arith))
-
-  pub mask_short : at ≤ length s → length s - at < 64 → 0 ≡ mask_at a b s at
-  unfolding mask_at
-  mask_short h l = rw (lt-leb (at + 64) (length s) (omega arith))
+  mask_short l = rw (lt-leb (at + 64) (length s) (omega arith))
 
   mask_whole : at + 64 ≤ length s → mask_at a b s at ≡ mask_of a b (take 64 (drop at s))
   unfolding mask_at
   mask_whole h = rw (le-leb (at + 64) (length s) h)
 
-  pub mask_full : {r : ℕ} → at ≤ length s → 64 ≤ length s - at → r ≡ mask_of a b (take 64 (drop at s)) → r ≡ mask_at a b s at
-  mask_full h l e = e ∙ sym (mask_whole (omega arith))
+  pub mask_full : {r : ℕ} → 64 ≤ length s - at → r ≡ mask_of a b (take 64 (drop at s)) → r ≡ mask_at a b s at
+  mask_full l e = e ∙ sym (mask_whole (omega arith))
 
 -- ---- its lowest bit
 
@@ -309,4 +305,4 @@ left_even {a} {b} {s} {i} {m} h e n = hit_neither a b s i (by (ℕ_discrete (hit
     by (yes y) = absurd (n (first ∙ y))
     by (no y) = omega (arith, hit_most a b (get_or s i 0))
 
-pub ruleset laws = (hit_first, hit_second, hit_none, zeros_fit, mask_beyond, mask_short, mask_full)
+pub ruleset laws = (hit_first, hit_second, hit_none, zeros_fit, mask_short, mask_full)

@@ -5,23 +5,11 @@ ghost use Rattle.masks.specs.Mask.{hit, mask_of};
 ghost use Rattle.masks.specs.Inner.{eight_of, sum_of, Light, Lights};
 ghost use Rattle.masks.specs.Promises.{MasksBlock, FindsLow, ClearsLow};
 
-fn wide(x: u8) -> u64
-    ensures { result ≡ x }
-{
-    x as u64
-}
-
 // The weight of a byte that is a or b, and 0 of any other.
 fn kept(a: u8, b: u8, x: u8, w: u8) -> u8
     ensures { result ≡ hit a b x * w }
 {
-    if x == a {
-        return w;
-    }
-    if x == b {
-        return w;
-    }
-    0
+    if x == a || x == b { w } else { 0 }
 }
 
 // The sum of eight weights.
@@ -30,7 +18,7 @@ fn eight(t: &[u8], i: usize) -> u64
     ensures value { result ≡ eight_of t.now i }
     ensures upper_bound { result ≤ 255 }
 {
-    wide(t[i] + t[i + 1] + t[i + 2] + t[i + 3] + t[i + 4] + t[i + 5] + t[i + 6] + t[i + 7])
+    u64::from(t[i] + t[i + 1] + t[i + 2] + t[i + 3] + t[i + 4] + t[i + 5] + t[i + 6] + t[i + 7])
 }
 
 // Eight such sums, as the bytes of a number.
@@ -60,10 +48,8 @@ fn block_mask(s: &[u8], a: u8, b: u8, at: usize) -> u64
     ensures { result ≡ mask_of a b (take 64 (drop at s.now)) }
 {
     let mut t = WEIGHTS;
-    let mut l = 0;
-    while l < 64 {
+    for l in 0..64 {
         t[l] = kept(a, b, s[at + l], t[l]);
-        l += 1;
     }
     sum(&t)
 }
@@ -72,10 +58,7 @@ fn block_mask(s: &[u8], a: u8, b: u8, at: usize) -> u64
 pub fn mask(s: &[u8], a: u8, b: u8, at: usize) -> u64
     ensures { MasksBlock a b s.now at result }
 {
-    if at > s.len() {
-        return 0;
-    }
-    if s.len() - at < 64 {
+    if s.len().saturating_sub(at) < 64 {
         return 0;
     }
     block_mask(s, a, b, at)
@@ -85,15 +68,12 @@ pub fn mask(s: &[u8], a: u8, b: u8, at: usize) -> u64
 pub fn low(m: u64) -> usize
     ensures { FindsLow m result }
 {
-    u64::trailing_zeros(m) as usize
+    m.trailing_zeros() as usize
 }
 
 // The bits but the lowest that is set.
 pub fn rest(m: u64) -> u64
     ensures { ClearsLow m result }
 {
-    if m == 0 {
-        return 0;
-    }
-    m & (m - 1)
+    if m == 0 { 0 } else { m & (m - 1) }
 }

@@ -1,25 +1,28 @@
 -- The genotype of a number: its last allele sought, and the rest of it written. Assumes nothing.
 use Prim.Native.Nat.{ℕ, zero, suc, ◌+◌, ◌-◌, ◌<◌, ◌≤◌}
 use mathlib.Core.Path.{◌≡◌, refl, sym, ap, ◌∙◌}
-use mathlib.Core.Bool.{Bool, true, false, and-false}
+use mathlib.Core.Bool.{true, false, and-false}
 use mathlib.Core.List.{List, [], ◌∷◌, ◌++◌, append_assoc}
 use native.Mathlib.Omega.{arith}
 use native.Mathlib.Numerals.{add-one}
 use lib.ListN.{length, get_or, drop, set, length-set, length-append}
 use lib.Seq.{get_or-append-add}
 use lib.Dec.{leb, ltb}
-use borrow.Author.Tests.{le-leb, lt-leb, lt-ltb, le-ltb, not-true, not-false}
+use borrow.Author.Tests.{le-leb, lt-leb, lt-ltb, le-ltb}
+use Rattle.std.specs.Prelude.{Ok, Err}
 use Rattle.text.specs.Over.{over}
 use Rattle.text.proofs.Lists.{over_nil}
 use Rattle.numbering.specs.Ordering.{followed, ordering}
 use Rattle.numbering.specs.Closed.{how_many}
 use Rattle.numbering.specs.Answers.{limits, genotype_answer, is_there}
+use Rattle.numbering.specs.Inner.{ShapeOf}
+use Rattle.numbering.specs.declared.shape.Shape.{Shape}
 use Rattle.numbering.specs.Promises.{PlacesGenotype}
 use Rattle.numbering.specs.Paper.{filled_paper}
-use Rattle.numbering.specs.declared.genotype.Filled.TheVariants as F
+use Rattle.numbering.specs.declared.genotype.FillError.TheVariants as F
 use Rattle.numbering.proofs.OrderLaws.{count_none, count_empty, count_more, length_ordering, get_d_followed, listed, rises_ploidy}
 use Rattle.numbering.proofs.Demands.{fewer_at}
-use Rattle.numbering.proofs.LimitLaws.{limited_few, limited_alleles}
+use Rattle.numbering.proofs.LimitLaws.{Counted, counted}
 use Rattle.numbering.proofs.StoreLaws.{stored}
 
 -- ---- the last allele
@@ -126,32 +129,35 @@ put_none i p n l e h = by p e i h
 
 -- ---- the answer
 
-module _ (i p n : ℕ) (l : List ℕ) {r : Bool} (e : r ≡ limits p n) where
-  pub place_limits : r ≡ false → PlacesGenotype i p n l F.Wrong l
+module _ (i p n : ℕ) (l : List ℕ) where
+  pub place_none : limits p n ≡ false → PlacesGenotype i p n l (Err F.NoGenotype) l
   unfolding filled_paper genotype_answer
-  place_limits t = let f : limits p n ≡ false = sym e ∙ t in record { answer = rw f; row = rw f }
+  place_none f = record { answer = rw f; row = rw f }
 
-  module _ {c : ℕ} (d : c ≡ how_many p n) (t : r ≡ true) where
-    pub place_past : c ≤ i → PlacesGenotype i p n l F.Wrong l
+  module _ {s : Shape} (v : ShapeOf p n s) {c : ℕ} (d : c ≡ how_many s.ploidy s.alleles) where
+    k : Counted p n c
+    k = counted v d
+
+    pub place_past : c ≤ i → PlacesGenotype i p n l (Err F.NoGenotype) l
     unfolding filled_paper genotype_answer
-    place_past h = let f : ltb i (length (ordering p n)) ≡ false = le-ltb i (length (ordering p n)) (let k = length_ordering p n in omega arith) in record { answer = rw (f, and-false); row = rw (f, and-false) }
+    place_past h =
+        let f : ltb i (length (ordering p n)) ≡ false = le-ltb i (length (ordering p n)) (let f = k.is in let m = length_ordering p n in omega arith) in
+        record { answer = rw (f, and-false); row = rw (f, and-false) }
 
     module _ (h : i < c) where
       good : is_there i p n ≡ true
       good =
-          let f : limits p n ≡ true = sym e ∙ t in
-          let g : ltb i (length (ordering p n)) ≡ true = lt-ltb i (length (ordering p n)) (let k = length_ordering p n in omega arith) in
-          rw (f, g)
+          let g : ltb i (length (ordering p n)) ≡ true = lt-ltb i (length (ordering p n)) (let f = k.is in let m = length_ordering p n in omega arith) in
+          rw (k.within, g)
 
-      pub place_short : length l < p → PlacesGenotype i p n l F.Short l
+      pub place_short : length l < s.ploidy → PlacesGenotype i p n l (Err F.Short) l
       unfolding filled_paper genotype_answer
-      place_short w = let f : leb p (length l) ≡ false = lt-leb _ _ w in record { answer = rw (good, f); row = rw (good, f) }
+      place_short w = let f : leb p (length l) ≡ false = lt-leb _ _ (rw v.ploidy at w) in record { answer = rw (good, f); row = rw (good, f) }
 
-      pub place_done : {l' : List ℕ} → p ≤ length l → l' ≡ over (get_or (ordering p n) i []) l → PlacesGenotype i p n l (F.Done p) l'
+      pub place_done : {l' : List ℕ} → s.ploidy ≤ length l → l' ≡ over (get_or (ordering s.ploidy s.alleles) i []) l → PlacesGenotype i p n l (Ok p) l'
       unfolding filled_paper genotype_answer
-      place_done w o = let f : leb p (length l) ≡ true = le-leb _ _ w in record { answer = rw (good, f); row = rw (good, f) o }
+      place_done w o =
+          let f : leb p (length l) ≡ true = le-leb _ _ (rw v.ploidy at w) in
+          record { answer = rw (good, f); row = rw (good, f) (rw (v.ploidy, v.alleles) at o) }
 
-      pub place_under : i < how_many p n
-      place_under = omega arith
-
-pub ruleset laws = (seek_first, seek_more, seek_less, seek_turn, seek_within, seek_low, seek_under, rest_under, put_more, put_room, put_none, place_limits, place_past, place_short, place_done, limited_few, limited_alleles, not-true, not-false)
+pub ruleset laws = (seek_first, seek_more, seek_less, seek_turn, seek_within, seek_low, seek_under, rest_under, put_more, put_room, put_none, place_past, place_short, place_done)

@@ -1,31 +1,18 @@
 -- The limits of ploidy and allele count, and the counts within them. Assumes nothing.
-use Prim.Native.Nat.{ℕ, ◌<◌, ◌≤◌}
+use Prim.Native.Nat.{ℕ, ◌≤◌}
 use mathlib.Core.Path.{◌≡◌, refl, sym, ◌∙◌}
-use mathlib.Core.Bool.{Bool, true, false, ◌&&◌, and-false, and-eq-true_iff}
+use mathlib.Core.Bool.{Bool, true, false, ◌&&◌, and-eq-true_iff}
 use lib.Dec.{leb}
+use Rattle.std.specs.Prelude.{Ok, Err}
 use borrow.Author.Tests.{le-leb, lt-leb, leb-true, not-true, not-false}
 use Rattle.numbering.specs.Closed.{how_many}
 use Rattle.numbering.specs.Demands.{Limits}
+use Rattle.numbering.specs.Inner.{ShapeOf}
+use Rattle.numbering.specs.declared.shape.Shape.{Shape}
 use Rattle.numbering.specs.Answers.{limits, count_answer}
 use Rattle.numbering.specs.Paper.{number_paper}
-use Rattle.numbering.specs.declared.counts.Numbered.TheVariants as N
+use Rattle.numbering.specs.declared.counts.NoGenotype.{NoGenotype}
 use Rattle.numbering.proofs.OrderLaws.{length_ordering}
-
-pub limits_no_ploidy : (p n : ℕ) → p < 1 → false ≡ limits p n
-unfolding limits
-limits_no_ploidy p n h = rw (lt-leb 1 p h)
-
-pub limits_high_ploidy : (p n : ℕ) → 8 < p → false ≡ limits p n
-unfolding limits
-limits_high_ploidy p n h = rw (lt-leb p 8 h, and-false)
-
-pub limits_no_allele : (p n : ℕ) → n < 1 → false ≡ limits p n
-unfolding limits
-limits_no_allele p n h = rw (lt-leb 1 n h, and-false)
-
-pub limits_last : (p n : ℕ) → 1 ≤ p → p ≤ 8 → 1 ≤ n → leb n 64 ≡ limits p n
-unfolding limits
-limits_last p n a b c = rw (le-leb 1 p a, le-leb p 8 b, le-leb 1 n c)
 
 -- what the limits say
 pub limited : {p n : ℕ} {r : Bool} → r ≡ limits p n → r ≡ true → Limits p n
@@ -48,21 +35,36 @@ limits_no {p} {n} z = by (limits p n) refl
     by false e = e
 
 module _ (p n : ℕ) {r : Bool} (e : r ≡ limits p n) where
-  pub limited_one : r ≡ true → 0 < p
-  limited_one t = (limited e t).one
-
   pub limited_few : r ≡ true → p ≤ 8
   limited_few t = (limited e t).eight
 
   pub limited_alleles : r ≡ true → n ≤ 64
   limited_alleles t = (limited e t).most
 
-  pub count_wrong : r ≡ false → number_paper N.Wrong ≡ count_answer p n
-  unfolding number_paper count_answer
-  count_wrong t = let f : limits p n ≡ false = sym e ∙ t in rw f
+  pub limits_refuse : r ≡ false → limits p n ≡ false
+  limits_refuse t = sym e ∙ t
 
-  pub count_right : {c : ℕ} → r ≡ true → c ≡ how_many p n → number_paper (N.Is c) ≡ count_answer p n
-  unfolding number_paper count_answer
-  count_right t d = let f : limits p n ≡ true = sym e ∙ t in rw (f, d, length_ordering p n)
+  pub limits_shape : {s : Shape} → r ≡ true → s.ploidy ≡ p → s.alleles ≡ n → ShapeOf p n s
+  limits_shape t x y = record { within = sym e ∙ t; ploidy = x; alleles = y }
 
-pub ruleset laws = (limits_no_ploidy, limits_high_ploidy, limits_no_allele, limits_last, limited_few, limited_alleles, count_wrong, count_right, not-true, not-false)
+-- ---- a count
+
+pub count_none : (p n : ℕ) {no : NoGenotype} → limits p n ≡ false → number_paper (Err no) ≡ count_answer p n
+unfolding number_paper count_answer
+count_none p n f = rw f
+
+-- the count of a shape
+pub record Counted (p n c : ℕ) : Type 0 where
+  pub within : limits p n ≡ true
+  pub limits : Limits p n
+  pub is : c ≡ how_many p n
+
+module _ {p n c : ℕ} {s : Shape} (g : ShapeOf p n s) (d : c ≡ how_many s.ploidy s.alleles) where
+  pub counted : Counted p n c
+  counted = record { within = g.within; limits = limited (sym g.within) refl; is = rw (g.ploidy, g.alleles) at d }
+
+  pub count_some : number_paper (Ok c) ≡ count_answer p n
+  unfolding number_paper count_answer
+  count_some = let k = counted in rw (g.within, k.is, length_ordering p n)
+
+pub ruleset laws = (limited_few, limited_alleles, limits_refuse, limits_shape, count_some, not-true, not-false)

@@ -6,51 +6,28 @@ use mathlib.Core.List.{List, [], ◌∷◌, ◌++◌, append_assoc, append-nil, 
 use native.Mathlib.Omega.{arith}
 use native.Mathlib.Numerals.{add-one}
 use native.Mathlib.Nat.{mul-le-mul_left}
-use lib.ListN.{length, get_or, take, drop, set, length-set, length-append, drop_of_length-le}
-use lib.Seq.{length-take-le, sets, sets-eq, drop-drop}
+use lib.ListN.{length, take, drop, set, length-set, length-append, drop_of_length-le}
+use lib.Seq.{length-take-le, drop-drop}
 use lib.Dec.{leb}
-use borrow.Author.Tests.{le-leb, lt-leb, not-true, not-false}
-use Rattle.text.specs.Over.{over, over_at}
-use Rattle.text.proofs.Lists.{here, over_at_nil, over_at_append, length_over_at}
+use borrow.Author.Tests.{le-leb, lt-leb}
+use Rattle.std.specs.Prelude.{Ok, Err}
+use Rattle.text.specs.Over.{over_at}
+use Rattle.text.proofs.Lists.{part_put, over_at_nil, over_at_append, length_over_at}
 use Rattle.numbering.specs.Ordering.{followed, ordering}
 use Rattle.numbering.specs.Closed.{how_many}
 use Rattle.numbering.specs.Answers.{limits, list_answer}
+use Rattle.numbering.specs.Demands.{Limits}
 use Rattle.numbering.specs.Promises.{ListsAll}
-use Rattle.numbering.specs.Inner.{spread, block, BlockFits, Listed}
+use Rattle.numbering.specs.declared.shape.Shape.{Shape}
+use Rattle.numbering.specs.Inner.{ShapeOf, spread, block, BlockFits, Listed}
 use Rattle.numbering.specs.Paper.{filled_paper}
-use Rattle.numbering.specs.declared.genotype.Filled.TheVariants as F
+use Rattle.numbering.specs.declared.genotype.FillError.TheVariants as F
 use Rattle.numbering.proofs.OrderLaws.{length_ordering, listed, rises_ploidy}
 use Rattle.numbering.proofs.Demands.{added_to}
 use Rattle.numbering.proofs.CountLaws.{count_small}
 use Rattle.numbering.proofs.StoreLaws.{stored}
 use Rattle.numbering.proofs.FlatLaws.{length_flat}
-use Rattle.numbering.proofs.LimitLaws.{limited, limited_one, limited_few, limited_alleles}
-
--- ---- one genotype
-
-pub record Copying (cur row₀ row : List ℕ) (at i : ℕ) : Type 0 where
-  pub within : i ≤ length cur
-  pub long : length row ≡ length row₀
-  pub same : sets row (at + i) (drop i cur) ≡ sets row₀ at cur
-
-pub copy_first : {cur row : List ℕ} {at : ℕ} → Copying cur row row at 0
-copy_first {cur} {row} {at} = let e : at + 0 ≡ at = omega arith in record { within = zero-le; long = refl; same = rw e }
-
-module _ {cur row₀ row : List ℕ} {at i : ℕ} (g : Copying cur row₀ row at i) (room : at + length cur ≤ length row₀) where
-  pub copy_room : i < length cur → at + i < length row
-  copy_room h = let l = g.long in omega arith
-
-  pub copy_turn : i < length cur → Copying cur row₀ (set row (at + i) (get_or cur i 0)) at (i + 1)
-  copy_turn h =
-      let e : at + (i + 1) ≡ suc (at + i) = omega arith in
-      record { within = omega arith; long = simp length-set g.long; same = rw e (rw (here cur i h) at g.same) }
-
-  pub copy_end : length cur ≤ i → at + i ≡ at + length cur
-  copy_end h = let w = g.within in omega arith
-
-  pub copy_past : length cur ≤ i → row ≡ over_at at cur row₀
-  unfolding over_at over
-  copy_past h = rw (drop_of_length-le cur h) at g.same ∙ sets-eq cur row₀ at room ∙ rw (drop-drop (length cur) at row₀) (append_assoc (take at row₀) cur _)
+use Rattle.numbering.proofs.LimitLaws.{Counted, counted, limited}
 
 -- ---- blocks
 
@@ -172,12 +149,6 @@ module _ {p n : ℕ} {cur₀ row₀ : List ℕ} {at a : ℕ} {cur row : List ℕ
   pub go_past : n ≤ a → Listed p n cur₀ row₀ at next cur row
   go_past h = let w = g.within in let e : a ≡ n = omega arith in subst (λ (k : ℕ). Listed p k cur₀ row₀ at next cur row) e g.done
 
-  pub go_size : length cur ≡ length cur₀
-  go_size = g.done.size
-
-  pub go_long : length row ≡ length row₀
-  go_long = g.done.long
-
 -- ---- ploidy 1
 
 -- no allele is left: one genotype
@@ -216,41 +187,59 @@ block_all p n x h = rw (drop_of_length-le (take p x) {i = p} (let l = length-tak
 pub scratch_length : (p : ℕ) (x : List ℕ) → p ≤ length x → p ≡ length (take p x)
 scratch_length p x h = sym (length-take-le p x h)
 
-module _ (p n : ℕ) {r : Bool} (e : r ≡ limits p n) where
-  pub list_limits : (l : List ℕ) → r ≡ false → ListsAll p n l F.Wrong l
+-- no count times its ploidy passes 64 bits
+limits_product : {p n c : ℕ} → Limits p n → c ≡ how_many p n → c * p < 2 ^ 64
+limits_product {p} {n} {c} m e = product_small c p (let b = count_small p n m.eight m.most in omega arith) m.eight
+
+pub list_product : (p n : ℕ) {r : Bool} → r ≡ limits p n → {c : ℕ} → r ≡ true → c ≡ how_many p n → c * p < 2 ^ 64
+list_product p n e t d = limits_product (limited e t) d
+
+module _ (p n : ℕ) where
+  pub list_none : (l : List ℕ) → limits p n ≡ false → ListsAll p n l (Err F.NoGenotype) l
   unfolding filled_paper list_answer
-  list_limits l t = let f : limits p n ≡ false = sym e ∙ t in record { answer = rw f; row = rw f }
+  list_none l f = record { answer = rw f; row = rw f }
 
-  module _ {c : ℕ} (t : r ≡ true) (d : c ≡ how_many p n) where
-    yes_limits : limits p n ≡ true
-    yes_limits = sym e ∙ t
+  module _ {s : Shape} (g : ShapeOf p n s) {c : ℕ} (d : c ≡ how_many s.ploidy s.alleles) where
+    k : Counted p n c
+    k = counted g d
 
-    pub list_product : c * p < 2 ^ 64
-    list_product = let m = limited e t in product_small c p (let b = count_small p n m.eight m.most in omega arith) m.eight
+    pub list_some : 0 < s.ploidy
+    list_some = rw g.ploidy k.limits.one
+
+    pub shape_product : c * p < 2 ^ 64
+    shape_product = limits_product k.limits k.is
 
     room : c * p ≡ length (flatten (ordering p n))
-    room = ap (λ (k : ℕ). k * p) d ∙ sym (length_all p n)
+    room = ap (λ (j : ℕ). j * p) k.is ∙ sym (length_all p n)
 
     module _ (l : List ℕ) where
-      pub list_short : length l < c * p → ListsAll p n l F.Short l
+      pub list_short : length l < c * p → ListsAll p n l (Err F.Short) l
       unfolding filled_paper list_answer
       list_short h =
           let f : leb (length (flatten (ordering p n))) (length l) ≡ false = lt-leb (length (flatten (ordering p n))) (length l) (let m = room in omega arith) in
-          record { answer = rw (yes_limits, f); row = rw (yes_limits, f) }
+          record { answer = rw (k.within, f); row = rw (k.within, f) }
 
-      module _ (h : c * p ≤ length l) (x : List ℕ) (w : p ≤ length x) where
-        pub list_room : BlockFits p n (take p x) l 0
-        list_room =
+      module _ (h : c * p ≤ length l) (x : List ℕ) (w : s.ploidy ≤ length x) where
+        long : p ≤ length x
+        long = rw g.ploidy at w
+
+        fits : BlockFits p n (take p x) l 0
+        fits =
             let m = room in
-            let k = length-take-le p x w in
-            let b = ap length (block_all p n x w) in
+            let z = long in
+            let k = length-take-le p x long in
+            let b = ap length (block_all p n x long) in
             record { ploidy = omega arith; room = omega arith }
 
-        pub list_done : {v : ℕ} {x' l' : List ℕ} → Listed p n (take p x) l 0 v x' l' → ListsAll p n l (F.Done c) l'
-        unfolding filled_paper list_answer over_at
-        list_done g =
-            let f : leb (length (flatten (ordering p n))) (length l) ≡ true = le-leb (length (flatten (ordering p n))) (length l) (let m = room in omega arith) in
-            let k : c ≡ length (ordering p n) = d ∙ sym (length_ordering p n) in
-            record { answer = rw (yes_limits, f, k); row = rw (yes_limits, f) (g.rows ∙ rw (block_all p n x w)) }
+        pub list_room : BlockFits s.ploidy s.alleles (take s.ploidy x) l 0
+        list_room = rw (g.ploidy, g.alleles) fits
 
-pub ruleset laws = (copy_first, copy_room, copy_turn, copy_end, copy_past, go_first, go_store, go_room, go_turn, go_past, first_room, first_turn, base_room, base_listed, scratch_length, list_limits, list_product, list_short, list_room, list_done, limited_one, limited_few, limited_alleles, not-true, not-false)
+        pub list_done : {v : ℕ} {x' l' : List ℕ} → Listed s.ploidy s.alleles (take s.ploidy x) l 0 v x' l' → ListsAll p n l (Ok c) l'
+        unfolding filled_paper list_answer over_at
+        list_done {v} {x'} {l'} f =
+            let y : Listed p n (take p x) l 0 v x' l' = rw (g.ploidy, g.alleles) at f in
+            let f : leb (length (flatten (ordering p n))) (length l) ≡ true = le-leb (length (flatten (ordering p n))) (length l) (let m = room in omega arith) in
+            let e : c ≡ length (ordering p n) = k.is ∙ sym (length_ordering p n) in
+            record { answer = rw (k.within, f, e); row = rw (k.within, f) (y.rows ∙ rw (block_all p n x long)) }
+
+pub ruleset laws = (part_put, go_first, go_store, go_room, go_turn, go_past, first_room, first_turn, base_room, base_listed, scratch_length, list_some, shape_product, list_short, list_room, list_done)

@@ -2,13 +2,14 @@
 use Prim.Native.Nat.{ℕ, zero, suc, ◌+◌, ◌-◌, ◌^◌, ◌<◌, ◌≤◌, zero-le}
 use mathlib.Core.Path.{◌≡◌, refl, sym, ap, ◌∙◌}
 use mathlib.Core.Bool.{Bool, true, false, ◌&&◌, and-false, and-eq-true_iff, false≢true, not}
-use mathlib.Core.Logic.{◌↔◌}
+use mathlib.Core.Logic.{◌↔◌, ◌⊎◌, inl, inr}
 use mathlib.Core.List.{List, [], ◌∷◌}
 use native.Mathlib.Omega.{arith}
 use lib.ListN.{length, get_or, take, drop, drop_of_length-le}
 use lib.Seq.{take-suc, length-take-le, get_or-take, take_all}
 use lib.Dec.{leb, ltb}
 use borrow.Author.Tests.{le-leb, lt-leb, leb-true, lt-ltb, le-ltb, ltb-true, not-true, not-false}
+use Rattle.std.specs.Prelude.{Ok, Err}
 use Rattle.text.specs.Pick.{pick}
 use Rattle.text.specs.Answer.{says}
 use Rattle.text.specs.First.{first_where}
@@ -20,7 +21,7 @@ use Rattle.numbering.specs.Demands.{Genotype, Limits}
 use Rattle.numbering.specs.Answers.{limits, indexed, number_answer}
 use Rattle.numbering.specs.Inner.{never_falls, is_genotype}
 use Rattle.numbering.specs.Paper.{number_paper}
-use Rattle.numbering.specs.declared.counts.Numbered.TheVariants as N
+use Rattle.numbering.specs.declared.counts.NoGenotype.{NoGenotype}
 use Rattle.numbering.proofs.OrderLaws.{genotype_stands, number_none, number_snoc}
 use Rattle.numbering.proofs.CountLaws.{count_small}
 use Rattle.numbering.proofs.LimitLaws.{limited, limits_yes}
@@ -41,13 +42,10 @@ module _ {n : ℕ} {g : List ℕ} {low i : ℕ} (j : Judging n g low i) where
     judge_here : never_falls low n (get_or g i 0 ∷ drop (i + 1) g) ≡ never_falls 0 n g
     judge_here = rw (here g i h) at j.same
 
-    pub judge_falls : get_or g i 0 < low → false ≡ never_falls 0 n g
+    pub judge_wrong : (get_or g i 0 < low) ⊎ ((low ≤ get_or g i 0) × (n ≤ get_or g i 0)) → false ≡ never_falls 0 n g
     unfolding never_falls
-    judge_falls l = rw (← judge_here, lt-leb _ _ l)
-
-    pub judge_high : n ≤ get_or g i 0 → false ≡ never_falls 0 n g
-    unfolding never_falls
-    judge_high l = rw (← judge_here, le-ltb _ _ l, and-false)
+    judge_wrong (inl l) = rw (← judge_here, lt-leb _ _ l)
+    judge_wrong (inr l) = rw (← judge_here, le-ltb _ _ l.1, and-false)
 
     pub judge_turn : low ≤ get_or g i 0 → get_or g i 0 < n → Judging n g (get_or g i 0) (i + 1)
     unfolding never_falls
@@ -168,13 +166,13 @@ answer_wrong n g z = by (limits (length g) n) refl
 -- ---- the test
 
 module _ (n : ℕ) (g : List ℕ) {r : Bool} (e : r ≡ limits (length g) n) where
-  pub genotype_limits : not r ≡ true → false ≡ is_genotype n g
+  pub genotype_limits : r ≡ false → r ≡ is_genotype n g
   unfolding is_genotype
-  genotype_limits t = let f : limits (length g) n ≡ false = sym e ∙ not-true r t in rw f
+  genotype_limits t = let f : limits (length g) n ≡ false = sym e ∙ t in rw (t, f)
 
-  pub genotype_falls : {s : Bool} → not r ≡ false → s ≡ never_falls 0 n g → s ≡ is_genotype n g
+  pub genotype_falls : {s : Bool} → r ≡ true → s ≡ never_falls 0 n g → s ≡ is_genotype n g
   unfolding is_genotype
-  genotype_falls t d = let f : limits (length g) n ≡ true = sym e ∙ not-false r t in rw f d
+  genotype_falls t d = let f : limits (length g) n ≡ true = sym e ∙ t in rw f d
 
 -- what it tells
 pub record Tested (n : ℕ) (g : List ℕ) : Type 0 where
@@ -192,7 +190,7 @@ unfolding is_genotype
 untested n g e l f = let k : (limits (length g) n && never_falls 0 n g) ≡ true = rw (limits_yes l, (never_falls_is n g).1 f) in false≢true (sym e ∙ k)
 
 module _ (n : ℕ) (g : List ℕ) {r : Bool} (e : r ≡ is_genotype n g) where
-  pub number_wrong : not r ≡ true → number_paper N.Wrong ≡ number_answer n g
+  pub number_wrong : {no : NoGenotype} → not r ≡ true → number_paper (Err no) ≡ number_answer n g
   unfolding number_paper
   number_wrong t = sym (answer_wrong n g (untested n g (sym e ∙ not-true r t)))
 
@@ -209,10 +207,10 @@ module _ (n : ℕ) (g : List ℕ) {r : Bool} (e : r ≡ is_genotype n g) where
         let m = told.limits.most in
         record { ploidy = refl; below = λ i h. (let z = k.below i h in omega arith); order = k.order }
 
-    pub number_right : {v : ℕ} → v ≡ closed_sum (take (length g) g) → number_paper (N.Is v) ≡ number_answer n g
+    pub number_right : {v : ℕ} → v ≡ closed_sum (take (length g) g) → number_paper (Ok v) ≡ number_answer n g
     unfolding number_paper
     number_right {v} w =
         let x : v ≡ closed_sum g = w ∙ ap closed_sum (take_all (length g) g (omega arith)) in
         rw x (sym (answer_is n g (limits_yes told.limits) told.genotype))
 
-pub ruleset laws = (judge_first, judge_falls, judge_high, judge_turn, judge_past, number_last, number_more, number_fits, number_zero, genotype_limits, genotype_falls, number_wrong, number_short, number_genotype, number_right)
+pub ruleset laws = (judge_first, judge_wrong, judge_turn, judge_past, number_last, number_more, number_fits, number_zero, genotype_limits, genotype_falls, number_wrong, number_short, number_genotype, number_right)

@@ -1,8 +1,20 @@
 -- What the private functions of this crate promise each other. Assumes nothing.
-use Rattle.std.specs.Prelude.{ℕ, ◌+◌, ◌≤◌, ◌≡◌, Bool, true, ◌&&◌, List, [], ◌∷◌, ◌++◌, length, drop, leb, ltb}
+use Rattle.std.specs.Prelude.{ℕ, ◌+◌, ◌≤◌, ◌≡◌, Bool, true, false, ◌&&◌, Result, Ok, Err, List, [], ◌∷◌, ◌++◌, length, drop, leb, ltb}
 use Rattle.text.specs.Over.{over_at}
 use Rattle.numbering.specs.Ordering.{ordering}
 use Rattle.numbering.specs.Answers.{limits}
+use Rattle.numbering.specs.declared.counts.NoGenotype.{NoGenotype}
+use Rattle.numbering.specs.declared.shape.Shape.{Shape}
+
+-- within the limits the shape is of this ploidy and these alleles
+pub record ShapeOf (p n : ℕ) (s : Shape) : Type 0 where
+  pub within : limits p n ≡ true
+  pub ploidy : s.ploidy ≡ p
+  pub alleles : s.alleles ≡ n
+
+abbrev pub Shapes : ℕ → ℕ → Result Shape NoGenotype → Type 0
+Shapes p n (Ok s) = ShapeOf p n s
+Shapes p n (Err e) = limits p n ≡ false
 
 -- alleles that never fall, from low on, each one of the n
 unfoldable pub never_falls : ℕ → ℕ → List ℕ → Bool

@@ -4,8 +4,8 @@ ghost use Rattle.text.specs.Over.{over_at};
 ghost use Rattle.numbering.specs.Promises.{ListsAll};
 ghost use Rattle.numbering.specs.Inner.{BlockFits, Listed};
 
-use crate::counts::{count, within_limits};
-use crate::genotype::Filled;
+use crate::genotype::FillError;
+use crate::shape::Shape;
 
 // Writes a genotype from the place `at` on, and returns the place past it.
 fn put_one(current: &[u64], row: &mut [u64], at: usize) -> usize
@@ -13,12 +13,9 @@ fn put_one(current: &[u64], row: &mut [u64], at: usize) -> usize
     ensures value { result ≡ at + length current.now }
     ensures row_after { row.new ≡ over_at at current.now row.old }
 {
-    let mut i = 0;
-    while i < current.len() {
-        row[at + i] = current[i];
-        i += 1;
-    }
-    at + i
+    let end = at + current.len();
+    row[at..end].copy_from_slice(current);
+    end
 }
 
 // Writes from the place `at` on each allele in turn, followed by what stands behind it in `current`, and returns the place past them.
@@ -27,11 +24,9 @@ fn put_first(alleles: usize, current: &mut [u64], row: &mut [u64], at: usize) ->
     ensures { Listed 1 alleles current.old row.old at result current.new row.new }
 {
     let mut next = at;
-    let mut a = 0;
-    while a < alleles {
+    for a in 0..alleles {
         current[0] = a as u64;
         next = put_one(current, row, next);
-        a += 1;
     }
     next
 }
@@ -40,7 +35,6 @@ fn put_first(alleles: usize, current: &mut [u64], row: &mut [u64], at: usize) ->
 // and by what stands behind it in `current`. Returns the place past them.
 fn put_all(ploidy: usize, alleles: usize, current: &mut [u64], row: &mut [u64], at: usize) -> usize
     requires ploidy_nonzero { 0 < ploidy }
-    requires alleles_bound { alleles ≤ 64 }
     requires block_fits { BlockFits ploidy alleles current.old row.old at }
     ensures { Listed ploidy alleles current.old row.old at result current.new row.new }
 {
@@ -48,29 +42,29 @@ fn put_all(ploidy: usize, alleles: usize, current: &mut [u64], row: &mut [u64], 
         return put_first(alleles, current, row, at);
     }
     let mut next = at;
-    let mut a = 0;
-    while a < alleles {
+    for a in 0..alleles {
         current[ploidy - 1] = a as u64;
         next = put_all(ploidy - 1, a + 1, current, row, next);
-        a += 1;
     }
     next
 }
 
-// Writes all genotypes of a ploidy over so many alleles at the start of a row, one after the other.
-pub fn list_all(ploidy: u64, alleles: u64, row: &mut [u64]) -> Filled
+// Writes all genotypes of a ploidy over so many alleles at the start of a row, one after the other, and answers how many there are.
+pub fn list_all(ploidy: u64, alleles: u64, row: &mut [u64]) -> Result<u64, FillError>
     ensures { ListsAll ploidy alleles row.old result row.new }
 {
-    if !within_limits(ploidy, alleles) {
-        return Filled::Wrong;
-    }
-    let p = ploidy as usize;
-    let n = alleles as usize;
-    let many = count(p, n);
+    let shape = Shape::new(ploidy, alleles)?;
+    let many = shape.count();
     if many * ploidy > row.len() as u64 {
-        return Filled::Short;
+        return Err(FillError::Short);
     }
     let mut current = [0u64; 8];
-    put_all(p, n, &mut current[..p], row, 0);
-    Filled::Done(many)
+    put_all(
+        shape.ploidy,
+        shape.alleles,
+        &mut current[..shape.ploidy],
+        row,
+        0,
+    );
+    Ok(many)
 }

@@ -5,24 +5,19 @@ ghost use Rattle.numbering.specs.Demands.{Genotype};
 ghost use Rattle.numbering.specs.Inner.{never_falls, is_genotype};
 ghost use Rattle.numbering.specs.Promises.{NumbersGenotype};
 
-use crate::counts::{Numbered, count, within_limits};
+use crate::counts::{NoGenotype, within_limits};
+use crate::shape::Shape;
 
 // Whether the alleles never fall, and are each one of so many.
 fn never_falls(genotype: &[u64], alleles: u64) -> bool
     ensures { result ≡ never_falls 0 alleles genotype.now }
 {
     let mut low = 0;
-    let mut i = 0;
-    while i < genotype.len() {
-        let k = genotype[i];
-        if k < low {
-            return false;
-        }
-        if k >= alleles {
+    for &k in genotype {
+        if k < low || k >= alleles {
             return false;
         }
         low = k;
-        i += 1;
     }
     true
 }
@@ -31,10 +26,7 @@ fn never_falls(genotype: &[u64], alleles: u64) -> bool
 fn is_genotype(genotype: &[u64], alleles: u64) -> bool
     ensures { result ≡ is_genotype alleles genotype.now }
 {
-    if !within_limits(genotype.len() as u64, alleles) {
-        return false;
-    }
-    never_falls(genotype, alleles)
+    within_limits(genotype.len() as u64, alleles) && never_falls(genotype, alleles)
 }
 
 // The number of the first alleles: that of one allele less, and the count of the genotypes whose last allele is lower.
@@ -47,16 +39,19 @@ fn number_to(genotype: &[u64], ploidy: usize) -> u64
     if ploidy == 0 {
         return 0;
     }
-    let last = genotype[ploidy - 1];
-    number_to(genotype, ploidy - 1) + count(ploidy, last as usize)
+    let below = Shape {
+        ploidy,
+        alleles: genotype[ploidy - 1] as usize,
+    };
+    number_to(genotype, ploidy - 1) + below.count()
 }
 
 // The number of a genotype, its index in the order of all genotypes of its ploidy.
-pub fn number_of(genotype: &[u64], alleles: u64) -> Numbered
+pub fn number_of(genotype: &[u64], alleles: u64) -> Result<u64, NoGenotype>
     ensures { NumbersGenotype genotype.now alleles result }
 {
     if !is_genotype(genotype, alleles) {
-        return Numbered::Wrong;
+        return Err(NoGenotype);
     }
-    Numbered::Is(number_to(genotype, genotype.len()))
+    Ok(number_to(genotype, genotype.len()))
 }

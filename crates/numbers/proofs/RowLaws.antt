@@ -11,11 +11,11 @@ use mir.Syntax.{w64}
 use mir.Val.{Fits}
 use borrow.Author.Tests.{le-leb, lt-leb, leb-true, lt-ltb}
 use borrow.Rule.Slice.PartMut.{put_mid}
+use Rattle.std.specs.Prelude.{Result, Ok, Err}
 use Rattle.text.specs.Pick.{pick}
 use Rattle.text.specs.Answer.{says, number_of}
 use Rattle.text.specs.Over.{over, over_at, room_answer, Writes}
-use Rattle.text.specs.declared.copy.Written.{Written}
-use Rattle.text.specs.declared.copy.Written.TheVariants.{Done, Short}
+use Rattle.text.specs.declared.copy.NoRoom.{NoRoom}
 use Rattle.text.proofs.Lists.{here, rest_all, rest_put, rest_back, length_over, length_over_at, take_over, over_append, over_at_nil, over_at_append, over_at_one}
 use Rattle.text.proofs.CopyLaws.{room_fits, room_lacks, room_done}
 use Rattle.text.proofs.WrittenLaws.{writes_done, writes_short, follows_short, follows_done}
@@ -25,8 +25,7 @@ use Rattle.numbering.specs.Ordering.{ordering}
 use Rattle.numbering.specs.Demands.{Limits}
 use Rattle.numbering.specs.Answers.{is_there}
 use Rattle.numbering.specs.Promises.{PlacesGenotype}
-use Rattle.numbering.specs.declared.genotype.Filled.{Filled}
-use Rattle.numbering.specs.declared.genotype.Filled.TheVariants as F
+use Rattle.numbering.specs.declared.genotype.FillError.{FillError}
 use Rattle.numbering.proofs.OrderLaws.{length_ordering, listed, rises_ploidy, rises_genotype}
 use Rattle.numbering.proofs.CountLaws.{count_small}
 use Rattle.numbering.proofs.LimitLaws.{limits_yes}
@@ -34,17 +33,22 @@ use Rattle.numbering.proofs.ToldLaws.{Placed, place_told, place_refused}
 use Rattle.numbers.specs.Table.{later_text, genotype_text, row_text, line_of, row_answer, PutsRow}
 use Rattle.numbers.specs.Paper.{row_paper}
 use Rattle.numbers.specs.Inner.{behind, Puts, Starts, LineFits}
-use Rattle.numbers.specs.declared.row.Row.{Row}
-use Rattle.numbers.specs.declared.row.Row.TheVariants as R
+use Rattle.numbers.specs.declared.row.RowError.{RowError}
+use Rattle.numbers.specs.declared.row.RowError.TheVariants as R
+
+-- ---- a number
+
+pub printed : {vs l l' : List ℕ} {r : Result ℕ NoRoom} {len : ℕ} → Writes vs l r l' → r ≡ Ok len → len ≤ length l
+printed w e = let d = writes_done w e in let c = d.count in let m = d.room in omega arith
 
 -- ---- a byte, and a number behind it
 
-module _ (b n at : ℕ) (l : List ℕ) {ys : List ℕ} {r : Written} (w : Writes (shortest n) (take (length l - (at + 1)) (drop (at + 1) l)) r ys)
+module _ (b n at : ℕ) (l : List ℕ) {ys : List ℕ} {r : Result ℕ NoRoom} (w : Writes (shortest n) (take (length l - (at + 1)) (drop (at + 1) l)) r ys)
     (h : at + length (b ∷ shortest n) ≤ length l) where
-  pub number_none : r ≡ Short → ⊥
+  pub number_none : {no : NoRoom} → r ≡ Err no → ⊥
   number_none = follows_short b at (shortest n) l w h
 
-  module _ {len : ℕ} (e : r ≡ Done len) where
+  module _ {len : ℕ} (e : r ≡ Ok len) where
     pub number_fits : length l < 2 ^ 64 → Fits w64 (at + 1 + len)
     number_fits f = let d = (follows_done b at (shortest n) l w h e).within in record { fits = omega arith }
 
@@ -120,11 +124,11 @@ row_parts i (k ∷ g) h = refl
 row_size : (i : ℕ) (g : List ℕ) → 0 < length g → length (row_text i g) ≡ length (shortest i) + (length (behind 9 g) + 1)
 row_size i g h = ap length (row_parts i g h) ∙ length-append (shortest i) _ ∙ ap (λ (n : ℕ). length (shortest i) + n) (length-append (behind 9 g) (10 ∷ []))
 
-module _ {i : ℕ} {g l l₁ : List ℕ} {r : Written} (f : LineFits i g l) (w : Writes (shortest i) l r l₁) where
-  pub line_none : r ≡ Short → ⊥
+module _ {i : ℕ} {g l l₁ : List ℕ} {r : Result ℕ NoRoom} (f : LineFits i g l) (w : Writes (shortest i) l r l₁) where
+  pub line_none : {no : NoRoom} → r ≡ Err no → ⊥
   line_none e = let s = row_size i g f.some in let a = (writes_short w e).room in let b = f.room in omega arith
 
-  module _ {len : ℕ} (e : r ≡ Done len) where
+  module _ {len : ℕ} (e : r ≡ Ok len) where
     line_len : length l₁ ≡ length l
     line_len = let d = writes_done w e in ap length d.bytes ∙ length_over (shortest i) l d.room
 
@@ -189,7 +193,7 @@ abbrev pub eight : List ℕ
 eight = 0 ∷ 0 ∷ 0 ∷ 0 ∷ 0 ∷ 0 ∷ 0 ∷ 0 ∷ []
 
 -- the genotype was written
-module _ (i p n : ℕ) {x : Filled} {l : List ℕ} (w : PlacesGenotype i p n eight x l) {v : ℕ} (e : x ≡ F.Done v) where
+module _ (i p n : ℕ) {x : Result ℕ FillError} {l : List ℕ} (w : PlacesGenotype i p n eight x l) {v : ℕ} (e : x ≡ Ok v) where
   abbrev g : List ℕ
   g = get_or (ordering p n) i []
 
@@ -225,11 +229,11 @@ module _ (i p n : ℕ) {x : Filled} {l : List ℕ} (w : PlacesGenotype i p n eig
     pub made_long : len ≤ length line'
     made_long = let z = q.within in let s = q.size in let k = ap length q.bytes ∙ length_over (row_text i (take p l)) line (omega arith) in omega arith
 
-    module _ (at : ℕ) (out : List ℕ) (h : at ≤ length out) {ys : List ℕ} {r : Written} (u : Writes (take len line') (take (length out - at) (drop at out)) r ys) where
+    module _ (at : ℕ) (out : List ℕ) (h : at ≤ length out) {ys : List ℕ} {r : Result ℕ NoRoom} (u : Writes (take len line') (take (length out - at) (drop at out)) r ys) where
       lined : Writes (line_of i p n) (take (length out - at) (drop at out)) r ys
       lined = rw row_made at u
 
-      pub row_put : {k : ℕ} → r ≡ Done k → PutsRow i p n out at (R.Put k) (put_mid at (length out - at) out ys)
+      pub row_put : {k : ℕ} → r ≡ Ok k → PutsRow i p n out at (Ok k) (put_mid at (length out - at) out ys)
       unfolding row_paper row_answer
       row_put {k} e =
           let f = le-leb at (length out) h in
@@ -239,7 +243,7 @@ module _ (i p n : ℕ) {x : Filled} {l : List ℕ} (w : PlacesGenotype i p n eig
           let a = room_fits (line_of i p n) (drop at out) (let z = d.room in omega arith) in
           record { answer = rw (f, t, a, d.count); bytes = rw (f, t, a) (rest_put at (line_of i p n) out ys d.bytes) }
 
-      pub row_full : r ≡ Short → PutsRow i p n out at R.Full (put_mid at (length out - at) out ys)
+      pub row_full : {no : NoRoom} → r ≡ Err no → PutsRow i p n out at (Err R.Full) (put_mid at (length out - at) out ys)
       unfolding row_paper row_answer
       row_full e =
           let f = le-leb at (length out) h in
@@ -252,21 +256,21 @@ module _ (i p n : ℕ) {x : Filled} {l : List ℕ} (w : PlacesGenotype i p n eig
 -- ---- no line
 
 module _ (i p n at : ℕ) (out : List ℕ) where
-  pub row_beyond : length out < at → PutsRow i p n out at R.Beyond out
+  pub row_beyond : length out < at → PutsRow i p n out at (Err R.Beyond) out
   unfolding row_paper row_answer
   row_beyond h = let e = lt-leb at (length out) h in record { answer = rw e; bytes = rw e }
 
-  pub row_wrong : {x : Filled} {l : List ℕ} → at ≤ length out → PlacesGenotype i p n eight x l → ((v : ℕ) → x ≡ F.Done v → ⊥) → PutsRow i p n out at R.Wrong out
+  pub row_wrong : {x : Result ℕ FillError} {l : List ℕ} {r : FillError} → at ≤ length out → PlacesGenotype i p n eight x l → x ≡ Err r → PutsRow i p n out at (Err R.NoGenotype) out
   unfolding row_paper row_answer
-  row_wrong h w o =
+  row_wrong h w q =
       let f = le-leb at (length out) h in
-      let e = place_refused i p n eight w (omega arith) o in
+      let e = place_refused i p n eight w (omega arith) (λ v z. let y = sym z ∙ q in cc) in
       record { answer = rw (f, e); bytes = rw (f, e) }
 
 -- ---- what an answer tells
 
 -- a line that was put has room
-row_room : (i p n at : ℕ) (out : List ℕ) {x : Row} {out' : List ℕ} {k : ℕ} → PutsRow i p n out at x out' → x ≡ R.Put k → at + k ≤ length out
+row_room : (i p n at : ℕ) (out : List ℕ) {x : Result ℕ RowError} {out' : List ℕ} {k : ℕ} → PutsRow i p n out at x out' → x ≡ Ok k → at + k ≤ length out
 unfolding row_paper row_answer
 row_room i p n at out {x} {out'} {k} w e = by (leb at (length out)) refl (is_there i p n) (rw e at w.answer)
   where
@@ -293,7 +297,7 @@ row_done i p n at out m h r =
 
 -- ---- lines gathered in an output of 65,536 bytes
 
-module _ (i p n at : ℕ) {out : List ℕ} {x : Row} {out' : List ℕ} {k : ℕ} (w : PutsRow i p n out at x out') (e : x ≡ R.Put k) (l : length out ≡ 65536) where
+module _ (i p n at : ℕ) {out : List ℕ} {x : Result ℕ RowError} {out' : List ℕ} {k : ℕ} (w : PutsRow i p n out at x out') (e : x ≡ Ok k) (l : length out ≡ 65536) where
   pub more_room : at + k ≤ 65536
   more_room = let r = row_room i p n at out w e in omega arith
 

@@ -1,5 +1,6 @@
 -- What the program's two arguments ask for (docs/RULES.md, "The program numbering"). Assumes nothing.
 use Rattle.std.specs.Prelude.{ℕ, ◌≡◌, Bool, false, not, ◌&&◌, ◌||◌, List, [], ◌∷◌, length}
+use Rattle.std.specs.Prelude as Maybe
 use Rattle.std.proofs.Math.Option.{Option, some, none}
 use Rattle.text.specs.Pick.{pick}
 use Rattle.text.specs.Answer.{Answer, says}
@@ -38,5 +39,5 @@ one_answer (some n) empty = says 23 []
 unfoldable pub ask_answer : List ℕ → List ℕ → Answer
 ask_answer s t = pick (has_mark t) (one_answer (value_of s) (reading_of t)) (all_answer (value_of s) (value_of t))
 
-abbrev pub Asks : List ℕ → List ℕ → Ask → Type 0
+abbrev pub Asks : List ℕ → List ℕ → Maybe.Option Ask → Type 0
 Asks s t r = ask_paper r ≡ ask_answer s t

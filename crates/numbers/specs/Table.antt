@@ -1,5 +1,5 @@
 -- What the program prints (docs/RULES.md, "The program numbering"). Assumes nothing.
-use Rattle.std.specs.Prelude.{ℕ, ◌≡◌, List, [], ◌∷◌, ◌++◌, get_or, drop}
+use Rattle.std.specs.Prelude.{ℕ, ◌≡◌, List, [], ◌∷◌, ◌++◌, get_or, drop, Result}
 use Rattle.text.specs.Pick.{pick}
 use Rattle.text.specs.Answer.{Answer, says}
 use Rattle.text.specs.Over.{room_answer, laid_at}
@@ -8,7 +8,7 @@ use Rattle.decimal.specs.Shortest.{shortest}
 use Rattle.numbering.specs.Ordering.{ordering}
 use Rattle.numbering.specs.Answers.{is_there}
 use Rattle.numbers.specs.Paper.{row_paper}
-use Rattle.numbers.specs.declared.row.Row.{Row}
+use Rattle.numbers.specs.declared.row.RowError.{RowError}
 
 -- each of these alleles behind a `/`
 unfoldable pub later_text : List ℕ → List ℕ
@@ -36,6 +36,6 @@ unfoldable pub row_answer : ℕ → ℕ → ℕ → List ℕ → ℕ → Answer
 unfolding line_of
 row_answer i p n out at = placed at out (pick (is_there i p n) (room_answer (line_of i p n) (drop at out)) (says 23 []))
 
-pub record PutsRow (i p n : ℕ) (out : List ℕ) (at : ℕ) (r : Row) (out' : List ℕ) : Type 0 where
+pub record PutsRow (i p n : ℕ) (out : List ℕ) (at : ℕ) (r : Result ℕ RowError) (out' : List ℕ) : Type 0 where
   pub answer : row_paper r ≡ row_answer i p n out at
   pub bytes : out' ≡ laid_at (row_answer i p n out at) at (line_of i p n) out

@@ -6,82 +6,66 @@ ghost use Rattle.numbering.specs.Answers.{number_answer};
 ghost use Rattle.numbers.specs.Paper.{ask_paper};
 ghost use Rattle.numbers.specs.Ask.{has_mark, all_answer, one_answer, Asks};
 
-use decimal::read::{Number, read_decimal};
-use genotype::read::{Read, read_genotype};
-use numbering::counts::{Numbered, count_of};
+use decimal::read::read_decimal;
+use genotype::read::read_genotype;
+use numbering::counts::count_of;
 use numbering::number::number_of;
 use pieces::count::count_byte;
 
-// The answer of `asked`.
+// What is asked for, both with the number 0; where nothing of this is, the number is 23.
 #[derive(Clone, Copy)]
 pub enum Ask {
-    // 0: all genotypes. The ploidy, the allele count, and how many there are.
+    // All genotypes: the ploidy, the allele count, and how many there are.
     All(u64, u64, u64),
-    // 0: the number of one.
+    // The number of one.
     One(u64),
-    // 23: nothing of this.
-    Wrong,
 }
 
 // Whether a text holds a `/` or a `|`.
 fn has_mark(t: &[u8]) -> bool
     ensures { result ≡ has_mark t.now }
 {
-    if count_byte(t, b'/') > 0 {
-        return true;
-    }
-    count_byte(t, b'|') > 0
+    count_byte(t, b'/') > 0 || count_byte(t, b'|') > 0
 }
 
 // All genotypes of a ploidy over so many alleles.
-fn ask_all(ploidy: u64, alleles: u64) -> Ask
+fn ask_all(ploidy: u64, alleles: u64) -> Option<Ask>
     ensures { ask_paper result ≡ all_answer (some ploidy) (some alleles) }
 {
-    match count_of(ploidy, alleles) {
-        Numbered::Is(count) => Ask::All(ploidy, alleles, count),
-        Numbered::Wrong => Ask::Wrong,
-    }
+    let count = count_of(ploidy, alleles).ok()?;
+    Some(Ask::All(ploidy, alleles, count))
 }
 
 // The number of one genotype.
-fn ask_number(alleles: u64, genotype: &[u64]) -> Ask
+fn ask_number(alleles: u64, genotype: &[u64]) -> Option<Ask>
     ensures { ask_paper result ≡ number_answer alleles genotype.now }
 {
-    match number_of(genotype, alleles) {
-        Numbered::Is(number) => Ask::One(number),
-        Numbered::Wrong => Ask::Wrong,
-    }
+    let number = number_of(genotype, alleles).ok()?;
+    Some(Ask::One(number))
 }
 
 // The same of a genotype text. More than eight alleles have no number.
-fn ask_one(alleles: u64, text: &[u8]) -> Ask
+fn ask_one(alleles: u64, text: &[u8]) -> Option<Ask>
     ensures { ask_paper result ≡ one_answer (some alleles) (reading_of text.now) }
 {
     let mut numbers = [0u64; 8];
     let mut missing = [0u8; 8];
     let mut phased = [0u8; 8];
-    let read = read_genotype(text, &mut numbers, &mut missing, &mut phased);
-    let Read::Done(n) = read else {
-        return Ask::Wrong;
-    };
+    let n = read_genotype(text, &mut numbers, &mut missing, &mut phased).ok()?;
     if count_byte(&missing[..n], 1) > 0 {
-        return Ask::Wrong;
+        return None;
     }
     ask_number(alleles, &numbers[..n])
 }
 
 // What two arguments ask for: a ploidy and an allele count, or an allele count and a genotype with a mark.
-pub fn asked(first: &[u8], second: &[u8]) -> Ask
+pub fn asked(first: &[u8], second: &[u8]) -> Option<Ask>
     ensures { Asks first.now second.now result }
 {
-    let Number::Value(n) = read_decimal(first) else {
-        return Ask::Wrong;
-    };
+    let n = read_decimal(first).ok()?;
     if has_mark(second) {
         return ask_one(n, second);
     }
-    match read_decimal(second) {
-        Number::Value(alleles) => ask_all(n, alleles),
-        Number::Bad(_) => Ask::Wrong,
-    }
+    let alleles = read_decimal(second).ok()?;
+    ask_all(n, alleles)
 }

@@ -20,28 +20,24 @@ fn say_usage<E: Eprint>(rt: &E) -> io::Result<()> {
 }
 
 // What the arguments ask for. There are to be two, and none is cut short.
-fn read_arguments<E: Env>(rt: &E) -> Ask {
+fn read_arguments<E: Env>(rt: &E) -> Option<Ask> {
     let mut first = [0u8; LONGEST];
-    let Ok(first_len) = rt.arg(1, &mut first) else {
-        return Ask::Wrong;
-    };
+    let first_len = rt.arg(1, &mut first).ok()?;
     let mut second = [0u8; LONGEST];
-    let Ok(second_len) = rt.arg(2, &mut second) else {
-        return Ask::Wrong;
-    };
+    let second_len = rt.arg(2, &mut second).ok()?;
     let mut third = [0u8; LONGEST];
     let Err(FillError::NotPresent) = rt.arg(3, &mut third) else {
-        return Ask::Wrong;
+        return None;
     };
     asked(&first[..first_len], &second[..second_len])
 }
 
 fn main(rt: HostRuntime) -> io::Result<()> {
     match read_arguments(&rt) {
-        Ask::All(ploidy, alleles, count) => {
+        Some(Ask::All(ploidy, alleles, count)) => {
             print::print_all(&mut rt.stdout(), ploidy, alleles, count)
         }
-        Ask::One(number) => print::print_one(&mut rt.stdout(), number),
-        Ask::Wrong => say_usage(&rt),
+        Some(Ask::One(number)) => print::print_one(&mut rt.stdout(), number),
+        None => say_usage(&rt),
     }
 }

@@ -1,24 +1,31 @@
 // A line of the table: the number of a genotype, a tab, the genotype, LF.
-ghost use Rattle.std.specs.Prelude.{◌∷◌, ◌+◌, ◌≤◌, length};
+ghost use Rattle.std.specs.Prelude.{◌≡◌, ◌∷◌, ◌+◌, ◌≤◌, length};
 ghost use Rattle.decimal.specs.Shortest.{shortest};
 ghost use Rattle.numbers.specs.Table.{row_text, PutsRow};
 ghost use Rattle.numbers.specs.Inner.{behind, Puts, Starts, LineFits};
+ghost use Rattle.numbers.specs.declared.row.RowError.TheVariants.{Full};
 
 use decimal::print::print_decimal;
-use numbering::genotype::{Filled, genotype_of};
-use text::copy::{Written, copy};
+use numbering::genotype::genotype_of;
+use text::copy::{NoRoom, copy};
 
-// The answer of `put_row`.
-#[derive(Clone, Copy)]
-pub enum Row {
-    // 0: so many bytes were put.
-    Put(usize),
+// Why no line is put.
+#[derive(Clone, Copy, Debug, PartialEq, Eq)]
+pub enum RowError {
     // 6: the place lies beyond the output.
     Beyond,
     // 23: there is no such genotype.
-    Wrong,
+    NoGenotype,
     // 17: the output has no room for the line.
     Full,
+}
+
+impl From<NoRoom> for RowError {
+    ghost from_gives = { λ _ e. e ≡ Full };
+
+    fn from(_e: NoRoom) -> RowError {
+        RowError::Full
+    }
 }
 
 // Puts a byte and a number from the place `at` on, and returns the place past them.
@@ -29,8 +36,8 @@ fn put_number(b: u8, n: u64, line: &mut [u8], at: usize) -> usize
     let written = print_decimal(n, &mut line[at + 1..]);
     line[at] = b;
     match written {
-        Written::Done(len) => at + 1 + len,
-        Written::Short => at,
+        Ok(len) => at + 1 + len,
+        Err(_) => at,
     }
 }
 
@@ -41,11 +48,9 @@ fn put_genotype(genotype: &[u64], line: &mut [u8], at: usize) -> usize
 {
     let mut next = at;
     let mut mark = b'\t';
-    let mut k = 0;
-    while k < genotype.len() {
-        next = put_number(mark, genotype[k], line, next);
+    for &k in genotype {
+        next = put_number(mark, k, line, next);
         mark = b'/';
-        k += 1;
     }
     next
 }
@@ -55,33 +60,33 @@ fn put_line(number: u64, genotype: &[u64], line: &mut [u8]) -> usize
     requires { LineFits number genotype.now line.old }
     ensures { Starts (row_text number genotype.now) line.old result line.new }
 {
-    match print_decimal(number, line) {
-        Written::Done(len) => {
-            let end = put_genotype(genotype, line, len);
-            line[end] = b'\n';
-            end + 1
-        }
-        Written::Short => 0,
-    }
+    let Ok(len) = print_decimal(number, line) else {
+        return 0;
+    };
+    let end = put_genotype(genotype, line, len);
+    line[end] = b'\n';
+    end + 1
 }
 
-// Puts the line of a genotype, asked by its number, into the output from the place `at` on. It is made apart, so that a refusal
-// writes nothing.
-pub fn put_row(number: u64, ploidy: u64, alleles: u64, out: &mut [u8], at: usize) -> Row
+// Puts the line of a genotype, asked by its number, into the output from the place `at` on, and answers how many bytes it has. It is
+// made apart, so that a refusal writes nothing.
+pub fn put_row(
+    number: u64,
+    ploidy: u64,
+    alleles: u64,
+    out: &mut [u8],
+    at: usize,
+) -> Result<usize, RowError>
     ensures { PutsRow number ploidy alleles out.old at result out.new }
 {
     if at > out.len() {
-        return Row::Beyond;
+        return Err(RowError::Beyond);
     }
     let mut genotype = [0u64; 8];
-    let filled = genotype_of(number, ploidy, alleles, &mut genotype);
-    let Filled::Done(_) = filled else {
-        return Row::Wrong;
+    let Ok(_) = genotype_of(number, ploidy, alleles, &mut genotype) else {
+        return Err(RowError::NoGenotype);
     };
     let mut line = [0u8; 64];
     let len = put_line(number, &genotype[..ploidy as usize], &mut line);
-    match copy(&line[..len], &mut out[at..]) {
-        Written::Done(n) => Row::Put(n),
-        Written::Short => Row::Full,
-    }
+    Ok(copy(&line[..len], &mut out[at..])?)
 }

@@ -1,3 +1,1 @@
-pub mod ReadLaws
-pub mod WriteLaws
 pub mod Determined

@@ -8,9 +8,10 @@ use native.Mathlib.Nat.{add-zero}
 use lib.ListN.{length, get_or, drop, length-drop, take}
 use lib.Seq.{get_or-drop}
 use lib.Dec.{eqb}
-use borrow.Author.Tests.{ne_eqb, eqb-false}
+use borrow.Author.Tests.{eq-eqb, ne_eqb, eqb-false}
+use Rattle.std.specs.Int.{from_bool}
 use Rattle.text.specs.Pick.{pick}
-use Rattle.text.specs.Flags.{Neither, Each, Tells}
+use Rattle.text.specs.Flags.{OneIf, Neither, Each, Tells}
 use Rattle.text.proofs.Lists.{here}
 use Rattle.pieces.specs.Before.{before_either}
 use Rattle.pieces.specs.Inner.{Quiet, quiet_length, Seeking}
@@ -103,6 +104,10 @@ quiet_over a b s i (suc k) h f =
 
 -- ---- the blocks
 
+-- a test's answer as a number
+pub one_from : {b c r : ℕ} → r ≡ from_bool (eqb b c) → OneIf b c r
+one_from {b} {c} e = record { same = λ p. e ∙ rw (eq-eqb b c p); other = λ n. e ∙ rw (ne_eqb b c n) }
+
 -- the first of the two from i on is the first from `at` on
 pub record Passing (a b : ℕ) (s : List ℕ) (at i : ℕ) : Type 0 where
   pub within : i ≤ length s
@@ -138,4 +143,4 @@ quiet_to {a} {b} {s} {at} {r} h f e =
         let z : at + (k - at) ≡ k = omega arith in
         rw (get_or-drop, z) at (quiet_none a b (drop at s) (k - at) (omega arith))
 
-pub ruleset laws = (seek_start, pass_first, pass_turn, pass_end)
+pub ruleset laws = (one_from, seek_start, pass_first, pass_turn, pass_end)

@@ -5,34 +5,35 @@ use mathlib.Core.List.{[], ◌∷◌}
 use Rattle.text.specs.Answer.{says}
 use Rattle.text.specs.declared.range.Range.{Range}
 use Rattle.pieces.specs.Paper.{step_paper, nth_paper}
-use Rattle.pieces.specs.declared.step.Step.{Step}
-use Rattle.pieces.specs.declared.step.Step.TheVariants as S
-use Rattle.pieces.specs.declared.nth.Nth.{Nth}
-use Rattle.pieces.specs.declared.nth.Nth.TheVariants as T
+use Rattle.std.specs.Prelude.{Result, Ok, Err, Option, Some, None}
+use Rattle.pieces.specs.declared.step.Piece.{Piece}
+use Rattle.pieces.specs.declared.step.Piece.TheVariants.{More, Last}
+use Rattle.pieces.specs.declared.step.NoPiece.{NoPiece}
+use Rattle.pieces.specs.declared.step.NoPiece.TheVariants.{Nothing, Beyond}
 
-module _ {x : Step} where
-  pub step_more : {r : Range} {next : ℕ} → x ≡ S.More r next → step_paper x ≡ says 0 (r.start ∷ r.len ∷ next ∷ [])
+module _ {x : Result Piece NoPiece} where
+  pub step_more : {r : Range} {next : ℕ} → x ≡ Ok (More r next) → step_paper x ≡ says 0 (r.start ∷ r.len ∷ next ∷ [])
   unfolding step_paper
   step_more e = rw e
 
-  pub step_last : {r : Range} → x ≡ S.Last r → step_paper x ≡ says 0 (r.start ∷ r.len ∷ [])
+  pub step_last : {r : Range} → x ≡ Ok (Last r) → step_paper x ≡ says 0 (r.start ∷ r.len ∷ [])
   unfolding step_paper
   step_last e = rw e
 
-  pub step_nothing : x ≡ S.Nothing → step_paper x ≡ says 10 []
+  pub step_nothing : x ≡ Err Nothing → step_paper x ≡ says 10 []
   unfolding step_paper
   step_nothing e = rw e
 
-  pub step_beyond : x ≡ S.Beyond → step_paper x ≡ says 6 []
+  pub step_beyond : x ≡ Err Beyond → step_paper x ≡ says 6 []
   unfolding step_paper
   step_beyond e = rw e
 
-module _ {x : Nth} where
-  pub nth_at : {r : Range} → x ≡ T.At r → nth_paper x ≡ says 0 (r.start ∷ r.len ∷ [])
+module _ {x : Option Range} where
+  pub nth_at : {r : Range} → x ≡ Some r → nth_paper x ≡ says 0 (r.start ∷ r.len ∷ [])
   unfolding nth_paper
   nth_at e = rw e
 
-  pub nth_nothing : x ≡ T.Nothing → nth_paper x ≡ says 10 []
+  pub nth_nothing : x ≡ None → nth_paper x ≡ says 10 []
   unfolding nth_paper
   nth_nothing e = rw e
 

@@ -2,13 +2,13 @@
 use Prim.Native.Nat.{ℕ, ◌+◌, ◌-◌, ◌<◌, ◌≤◌, suc}
 use mathlib.Core.Path.{◌≡◌, refl, sym, ◌∙◌}
 use mathlib.Core.List.{List, [], ◌∷◌}
-use mathlib.Core.Bool.{true, false}
+use mathlib.Core.Bool.{Bool, true, false}
 use native.Mathlib.Omega.{arith}
 use native.Mathlib.Decide.{ℕ_discrete}
 use native.Mathlib.Nat.{zero-add, le_refl}
 use lib.ListN.{length, get_or, drop, drop_of_length-le}
 use lib.Dec.{eqb}
-use borrow.Author.Tests.{eq-eqb, ne_eqb, eqb-true}
+use borrow.Author.Tests.{eq-eqb, ne_eqb, eqb-true, eqb-false}
 use Rattle.text.specs.Flags.{OneIf}
 use Rattle.text.proofs.Lists.{here}
 use Rattle.pieces.specs.Pieces.{count_of, lacks, pieces}
@@ -144,10 +144,11 @@ module _ {b : ℕ} {s : List ℕ} {n i : ℕ} (g : Counting b s 0 (length s) n i
 
 -- ---- counting pieces
 
-pub count_empty : (b : ℕ) (s : List ℕ) → length s ≡ 0 → 0 ≡ length (pieces b s)
-count_empty b s h = rw (pieces_none b s h)
+module _ (b : ℕ) (s : List ℕ) {r : Bool} (e : r ≡ eqb (length s) 0) where
+  pub count_empty : r ≡ true → 0 ≡ length (pieces b s)
+  count_empty q = rw (pieces_none b s (eqb-true _ _ (sym e ∙ q)))
 
-pub count_some : (b : ℕ) (s : List ℕ) {k : ℕ} → (length s ≡ 0 → ⊥) → k ≡ count_of b s → k + 1 ≡ length (pieces b s)
-count_some b s n e = rw (e, pieces_some b s (omega arith)) (sym (split_count b s))
+  pub count_some : {k : ℕ} → r ≡ false → k ≡ count_of b s → k + 1 ≡ length (pieces b s)
+  count_some q c = let n = eqb-false (length s) 0 (sym e ∙ q) in rw (c, pieces_some b s (omega arith)) (sym (split_count b s))
 
 pub ruleset laws = (count_first, count_turn, count_fits, count_past, part_short, part_turn, rest_short, rest_last, count_empty, count_some)

@@ -11,9 +11,10 @@ use Rattle.text.specs.Range.{range_at}
 use Rattle.pieces.specs.Pieces.{split, step_answer}
 use Rattle.pieces.specs.Paper.{step_paper}
 use Rattle.pieces.specs.Demands.{start_in, Stepper, Visits, OneWalk}
-use Rattle.pieces.specs.declared.step.Step.TheVariants as S
 use Rattle.pieces.proofs.StepLaws.{step_tells}
 use Rattle.pieces.proofs.Demands.{visits, one_walk}
+use Rattle.std.specs.Prelude.{Ok}
+use Rattle.pieces.specs.declared.step.Piece.TheVariants.{Last}
 
 -- where piece n of some text starts
 pub past_the_end : (step : Stepper) (b : ℕ) (t : List ℕ) (n len : ℕ) → 0 < length t → n < length (split b t)
@@ -22,5 +23,5 @@ unfolding Visits OneWalk step_paper
 past_the_end step b t n len h l e p claim =
     let start = start_in (split b t) n in
     let same = rw zero-add at (one_walk step step_answer b t 0 (split b t) (claim b t h) (visits b t h) n l) in
-    let tells = step_tells b t start (S.Last (range_at start len)) (sym e ∙ same) in
+    let tells = step_tells b t start (Ok (Last (range_at start len))) (sym e ∙ same) in
     omega (arith, tells.end)

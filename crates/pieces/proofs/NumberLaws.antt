@@ -15,10 +15,9 @@ use Rattle.pieces.specs.Pieces.{pieces, joined}
 use Rattle.pieces.specs.Nth.{nth_in, nth_answer}
 use Rattle.pieces.specs.Paper.{nth_paper}
 use Rattle.pieces.specs.Demands.{start_in}
-use Rattle.pieces.specs.declared.nth.Nth.{Nth}
-use Rattle.pieces.specs.declared.nth.Nth.TheVariants as T
 use Rattle.pieces.proofs.PaperLaws.{nth_paper_injective}
 use Rattle.pieces.proofs.PieceLaws.{split_joined, joined_one, joined_more, pieces_none, pieces_some}
+use Rattle.std.specs.Prelude.{Option, Some, None}
 
 -- ---- the pieces by number
 
@@ -99,21 +98,21 @@ pub record Found (b : ℕ) (t : List ℕ) (n : ℕ) (r : Range) : Type 0 where
   pub piece : cut r t ≡ get_or (pieces b t) n []
 
 -- what each answer tells
-abbrev pub NthTells : ℕ → List ℕ → ℕ → Nth → Type 0
-NthTells b t n (T.At r) = Found b t n r
-NthTells b t n T.Nothing = length (pieces b t) ≤ n
+abbrev pub NthTells : ℕ → List ℕ → ℕ → Option Range → Type 0
+NthTells b t n (Some r) = Found b t n r
+NthTells b t n None = length (pieces b t) ≤ n
 
-pub nth_tells : (b : ℕ) (t : List ℕ) (n : ℕ) (x : Nth) → nth_paper x ≡ nth_answer b t n → NthTells b t n x
+pub nth_tells : (b : ℕ) (t : List ℕ) (n : ℕ) (x : Option Range) → nth_paper x ≡ nth_answer b t n → NthTells b t n x
 unfolding nth_paper
 nth_tells b t n x e = by (dec_le (length (pieces b t)) n)
   where
     -- x is y, where y has that paper too
-    is : (y : Nth) → nth_paper y ≡ nth_answer b t n → NthTells b t n y → NthTells b t n x
+    is : (y : Option Range) → nth_paper y ≡ nth_answer b t n → NthTells b t n y → NthTells b t n x
     is y f d = rw (nth_paper_injective x y (e ∙ sym f)) d
 
     by : Dec (length (pieces b t) ≤ n) → NthTells b t n x
-    by (yes h) = is T.Nothing (sym (answer_past b t n h)) h
+    by (yes h) = is None (sym (answer_past b t n h)) h
     by (no h) =
         let l : n < length (pieces b t) = omega arith in
-        is (T.At (record { start = start_in (pieces b t) n; len = length (get_or (pieces b t) n []) })) (sym (answer_place b t n l))
+        is (Some (record { start = start_in (pieces b t) n; len = length (get_or (pieces b t) n []) })) (sym (answer_place b t n l))
         (record { within = piece_within b t n l; some = l; piece = cut_is _ _ t ∙ piece_cuts b t n l })

@@ -5,12 +5,10 @@ use mathlib.Core.List.{List, [], ◌∷◌, ◌++◌, append-nil}
 use mathlib.Core.Bool.{Bool, true, false}
 use native.Mathlib.Omega.{arith}
 use native.Mathlib.Nat.{add_assoc}
-use types.Run.{OneOf, miss}
-use denote.Enum.Declared.{tag_of}
 use lib.ListN.{length, take, drop, length-append, length-drop}
 use lib.Seq.{take-append_seam, take-length, drop-append-add, drop-drop}
-use lib.Dec.{leb}
-use borrow.Author.Tests.{le-leb, lt-leb, leb-true, leb-false, eq-eqb, ne_eqb}
+use lib.Dec.{eqb, leb}
+use borrow.Author.Tests.{le-leb, lt-leb, leb-true, leb-false, eq-eqb, ne_eqb, eqb-true, eqb-false}
 use Rattle.text.specs.Answer.{says}
 use Rattle.text.specs.Range.{cut}
 use Rattle.text.specs.declared.range.Range.{Range}
@@ -19,12 +17,14 @@ use Rattle.pieces.specs.Inner.{quiet_length}
 use Rattle.pieces.specs.Pieces.{split, joined, piece_answer, inner_answer, step_answer}
 use Rattle.pieces.specs.Demands.{Free}
 use Rattle.pieces.specs.Paper.{step_paper}
-use Rattle.pieces.specs.declared.step.Step.{Step}
-use Rattle.pieces.specs.declared.step.Step.TheVariants as S
-use Rattle.pieces.specs.contracts.step.Step.{the_type}
 use Rattle.pieces.proofs.PaperLaws.{step_paper_injective}
 use Rattle.pieces.proofs.BlockLaws.{quiet_cons, quiet_none_left}
 use Rattle.pieces.proofs.PieceLaws.{free_head, free_tail, first_free, split_nil, one_text_lem, more_text, more_rest}
+use Rattle.std.specs.Prelude.{Result, Ok, Err}
+use Rattle.pieces.specs.declared.step.Piece.{Piece}
+use Rattle.pieces.specs.declared.step.Piece.TheVariants.{More, Last}
+use Rattle.pieces.specs.declared.step.NoPiece.{NoPiece}
+use Rattle.pieces.specs.declared.step.NoPiece.TheVariants.{Nothing, Beyond}
 
 -- ---- the first piece
 
@@ -93,17 +93,17 @@ step_none b (a ∷ s) at h n = absurd (omega arith)
 
 -- ---- each way through the step
 
-pub finds_beyond : (b : ℕ) (t : List ℕ) (at : ℕ) → length t < at → step_paper S.Beyond ≡ step_answer b t at
+pub finds_beyond : (b : ℕ) (t : List ℕ) (at : ℕ) → length t < at → step_paper (Err Beyond) ≡ step_answer b t at
 unfolding step_paper step_answer
 finds_beyond b t at h = rw (lt-leb _ _ h)
 
-pub finds_nothing : (b : ℕ) (t : List ℕ) (at : ℕ) → at ≤ length t → length t ≡ 0 → step_paper S.Nothing ≡ step_answer b t at
+pub finds_nothing : (b : ℕ) (t : List ℕ) (at : ℕ) → at ≤ length t → length t ≡ 0 → step_paper (Err Nothing) ≡ step_answer b t at
 unfolding step_paper
 finds_nothing b t at h n = sym (step_none b t at h n)
 
 module _ (b : ℕ) (t : List ℕ) (at : ℕ) {end : ℕ} (h : at ≤ length t) (n : length t ≡ 0 → ⊥)
     (e : end ≡ at + quiet_length b b (drop at t)) where
-  pub finds_last : end ≡ length t → step_paper (S.Last (record { start = at; len = end - at })) ≡ step_answer b t at
+  pub finds_last : end ≡ length t → step_paper (Ok (Last (record { start = at; len = end - at }))) ≡ step_answer b t at
   unfolding step_paper
   finds_last f = by (split b (drop at t)) refl
     where
@@ -118,7 +118,7 @@ module _ (b : ℕ) (t : List ℕ) (at : ℕ) {end : ℕ} (h : at ≤ length t) (
           let w = next_within b t at s in
           absurd (omega arith)
 
-  pub finds_more : (end ≡ length t → ⊥) → step_paper (S.More (record { start = at; len = end - at }) (end + 1)) ≡ step_answer b t at
+  pub finds_more : (end ≡ length t → ⊥) → step_paper (Ok (More (record { start = at; len = end - at }) (end + 1))) ≡ step_answer b t at
   unfolding step_paper
   finds_more f = by (split b (drop at t)) refl
     where
@@ -154,11 +154,11 @@ pub final_fits : {b at : ℕ} {t : List ℕ} {r : Range} → Final b t at r → 
 final_fits f = let u = f.start in let v = f.end in omega arith
 
 -- what each answer of a step tells
-abbrev pub StepTells : ℕ → List ℕ → ℕ → Step → Type 0
-StepTells b t at (S.More r next) = Further b t at r next
-StepTells b t at (S.Last r) = Final b t at r
-StepTells b t at S.Nothing = length t ≡ 0
-StepTells b t at S.Beyond = length t < at
+abbrev pub StepTells : ℕ → List ℕ → ℕ → Result Piece NoPiece → Type 0
+StepTells b t at (Ok (More r next)) = Further b t at r next
+StepTells b t at (Ok (Last r)) = Final b t at r
+StepTells b t at (Err Nothing) = length t ≡ 0
+StepTells b t at (Err Beyond) = length t < at
 
 module _ (b : ℕ) (t : List ℕ) (at : ℕ) {p : List ℕ} where
   more_tells : {q : List ℕ} {ps : List (List ℕ)} → split b (drop at t) ≡ p ∷ q ∷ ps → Further b t at (record { start = at; len = length p }) (at + length p + 1)
@@ -176,34 +176,38 @@ module _ (b : ℕ) (t : List ℕ) (at : ℕ) {p : List ℕ} where
       record { start = refl; end = omega arith; some = n; pieces = rw (cut_is at (length p) t, first_taken b t at [] e) e }
 
 -- an answer tells what the definition, whose paper it has, says
-pub step_tells : (b : ℕ) (t : List ℕ) (at : ℕ) (x : Step) → step_paper x ≡ step_answer b t at → StepTells b t at x
+pub step_tells : (b : ℕ) (t : List ℕ) (at : ℕ) (x : Result Piece NoPiece) → step_paper x ≡ step_answer b t at → StepTells b t at x
 unfolding step_paper
 step_tells b t at x e = placed (leb at (length t)) refl
   where
     -- x is y, where y has that paper too
-    is : (y : Step) → step_paper y ≡ step_answer b t at → StepTells b t at y → StepTells b t at x
+    is : (y : Result Piece NoPiece) → step_paper y ≡ step_answer b t at → StepTells b t at y → StepTells b t at x
     is y f d = rw (step_paper_injective x y (e ∙ sym f)) d
 
     some : at ≤ length t → 0 < length t → (ps : List (List ℕ)) → split b (drop at t) ≡ ps → StepTells b t at x
     some h n [] f = absurd (split_nil b _ f)
-    some h n (p ∷ []) f = is (S.Last (record { start = at; len = length p })) (sym (step_last b t at h n f)) (last_tells b t at h n f)
+    some h n (p ∷ []) f = is (Ok (Last (record { start = at; len = length p }))) (sym (step_last b t at h n f)) (last_tells b t at h n f)
     some h n (p ∷ q ∷ ps) f =
-        is (S.More (record { start = at; len = length p }) (at + length p + 1)) (sym (step_more b t at f)) (more_tells b t at f)
+        is (Ok (More (record { start = at; len = length p }) (at + length p + 1))) (sym (step_more b t at f)) (more_tells b t at f)
 
     within : at ≤ length t → (n : ℕ) → length t ≡ n → StepTells b t at x
-    within h zero n = is S.Nothing (finds_nothing b t at h n) n
+    within h zero n = is (Err Nothing) (finds_nothing b t at h n) n
     within h (suc k) n = some h (omega arith) (split b (drop at t)) refl
 
     placed : (c : Bool) → leb at (length t) ≡ c → StepTells b t at x
     placed true h = within (leb-true _ _ h) (length t) refl
-    placed false h = let l = leb-false _ _ h in is S.Beyond (finds_beyond b t at l) l
+    placed false h = let l = leb-false _ _ h in is (Err Beyond) (finds_beyond b t at l) l
 
--- neither a piece nor the last one, at a place of the text: it is empty
-pub rest_tells : (b : ℕ) (t : List ℕ) (at : ℕ) (x : Step) → step_paper x ≡ step_answer b t at → at ≤ length t → OneOf (2 ∷ 3 ∷ []) (tag_of the_type x)
-    → length t ≡ 0
-rest_tells b t at (S.More r next) e w h = absurd (miss (2 ∷ 3 ∷ []) 0 tt h)
-rest_tells b t at (S.Last r) e w h = absurd (miss (2 ∷ 3 ∷ []) 1 tt h)
-rest_tells b t at S.Nothing e w h = step_tells b t at S.Nothing e
-rest_tells b t at S.Beyond e w h = absurd (let f = step_tells b t at S.Beyond e in omega arith)
+-- no piece, at a place of the text: it is empty
+pub rest_tells : (b : ℕ) (t : List ℕ) (at : ℕ) (x : NoPiece) → step_paper (Err x) ≡ step_answer b t at → at ≤ length t → length t ≡ 0
+rest_tells b t at Nothing e w = step_tells b t at (Err Nothing) e
+rest_tells b t at Beyond e w = absurd (let f = step_tells b t at (Err Beyond) e in omega arith)
 
-pub ruleset laws = (finds_beyond, finds_nothing, finds_last, finds_more)
+-- by the test for an empty text
+pub finds_empty : (b : ℕ) (t : List ℕ) (at : ℕ) {r : Bool} → at ≤ length t → r ≡ eqb (length t) 0 → r ≡ true → step_paper (Err Nothing) ≡ step_answer b t at
+finds_empty b t at h e q = finds_nothing b t at h (eqb-true _ _ (sym e ∙ q))
+
+pub some_text : (t : List ℕ) {r : Bool} → r ≡ eqb (length t) 0 → r ≡ false → length t ≡ 0 → ⊥
+some_text t e q = eqb-false _ _ (sym e ∙ q)
+
+pub ruleset laws = (finds_beyond, finds_empty, some_text, finds_last, finds_more)

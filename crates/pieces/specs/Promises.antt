@@ -5,8 +5,10 @@ use Rattle.pieces.specs.Paper.{step_paper, nth_paper}
 use Rattle.pieces.specs.Pieces.{pieces, count_of, step_answer}
 use Rattle.pieces.specs.Nth.{nth_answer}
 use Rattle.pieces.specs.Inner.{near_end, quiet_length}
-use Rattle.pieces.specs.declared.step.Step.{Step}
-use Rattle.pieces.specs.declared.nth.Nth.{Nth}
+use Rattle.std.specs.Prelude.{Result, Option}
+use Rattle.text.specs.declared.range.Range.{Range}
+use Rattle.pieces.specs.declared.step.Piece.{Piece}
+use Rattle.pieces.specs.declared.step.NoPiece.{NoPiece}
 
 abbrev pub CountsByte : ℕ → List ℕ → ℕ → Type 0
 CountsByte b s r = r ≡ count_of b s
@@ -20,10 +22,10 @@ EndsNear from len r = r ≡ near_end from len
 abbrev pub FindsEither : ℕ → ℕ → List ℕ → ℕ → ℕ → Type 0
 FindsEither a b s from r = r ≡ from + quiet_length a b (drop from s)
 
-abbrev pub FindsPiece : ℕ → List ℕ → ℕ → Step → Type 0
+abbrev pub FindsPiece : ℕ → List ℕ → ℕ → Result Piece NoPiece → Type 0
 FindsPiece separator s at r = step_paper r ≡ step_answer separator s at
 
-abbrev pub FindsNth : ℕ → List ℕ → ℕ → Nth → Type 0
+abbrev pub FindsNth : ℕ → List ℕ → ℕ → Option Range → Type 0
 FindsNth separator s n r = nth_paper r ≡ nth_answer separator s n
 
 pub record Determined : Type 0 where

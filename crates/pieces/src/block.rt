@@ -1,14 +1,7 @@
 // Passing over bytes by blocks of 64, each gone through to its end, so that it can be compared as a whole.
 ghost use Rattle.std.specs.Prelude.{◌+◌, ◌≤◌, length};
-ghost use Rattle.text.specs.Flags.{OneIf, Neither, Tells};
+ghost use Rattle.text.specs.Flags.{Neither, Tells};
 ghost use Rattle.pieces.specs.Inner.{Seeking};
-
-// 1 where the two bytes are equal, else 0.
-pub(crate) fn one_if(a: u8, b: u8) -> u8
-    ensures { OneIf a b result }
-{
-    if a == b { 1 } else { 0 }
-}
 
 // Whether none of the 64 bytes from the place `at` on is a or b.
 fn is_quiet(s: &[u8], a: u8, b: u8, at: usize) -> bool
@@ -16,11 +9,9 @@ fn is_quiet(s: &[u8], a: u8, b: u8, at: usize) -> bool
     ensures { Tells (Neither a b) s.now at result }
 {
     let mut hits = 0;
-    let mut i = 0;
-    while i < 64 {
+    for i in 0..64 {
         let x = s[at + i];
-        hits = hits | one_if(x, a) | one_if(x, b);
-        i += 1;
+        hits = hits | u8::from(x == a) | u8::from(x == b);
     }
     hits == 0
 }
@@ -32,13 +23,10 @@ pub(crate) fn past_quiet(s: &[u8], a: u8, b: u8, at: usize) -> usize
     if at > s.len() {
         return at;
     }
+    // Kept: where the blocks end is the answer, which a chain over chunks would have to add up again.
     let mut i = at;
-    while s.len() - i >= 64 {
-        if is_quiet(s, a, b, i) {
-            i += 64;
-        } else {
-            return i;
-        }
+    while s.len() - i >= 64 && is_quiet(s, a, b, i) {
+        i += 64;
     }
     i
 }

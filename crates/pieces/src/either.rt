@@ -8,10 +8,7 @@ use crate::block::past_quiet;
 pub fn near_end(from: usize, len: usize) -> usize
     ensures { EndsNear from len result }
 {
-    if from > len {
-        return len;
-    }
-    if len - from < 32 {
+    if len.saturating_sub(from) < 32 {
         return len;
     }
     from + 32
@@ -21,16 +18,11 @@ pub fn near_end(from: usize, len: usize) -> usize
 pub fn find_either(s: &[u8], a: u8, b: u8, from: usize) -> usize
     ensures { FindsEither a b s.now from result }
 {
-    let mut i = past_quiet(s, a, b, from);
-    while i < s.len() {
-        let x = s[i];
-        if x == a {
+    let near = past_quiet(s, a, b, from);
+    for i in near..s.len() {
+        if s[i] == a || s[i] == b {
             return i;
         }
-        if x == b {
-            return i;
-        }
-        i += 1;
     }
-    i
+    near.max(s.len())
 }

@@ -5,13 +5,18 @@ ghost use Rattle.pieces.specs.Promises.{FindsEither, FindsPiece};
 use crate::either::{find_either, near_end};
 use text::range::Range;
 
-// What a step from a place finds.
+// A piece of a text, and whether another follows.
 #[derive(Clone, Copy)]
-pub enum Step {
+pub enum Piece {
     // 0: a piece that a separator ends, and the place past that separator.
     More(Range, usize),
     // 0: the last piece.
     Last(Range),
+}
+
+// Why no piece starts at a place.
+#[derive(Clone, Copy, Debug, PartialEq, Eq)]
+pub enum NoPiece {
     // 10: the text is empty and holds no piece.
     Nothing,
     // 6: the place lies beyond the text.
@@ -24,25 +29,23 @@ fn piece_end(s: &[u8], separator: u8, from: usize) -> usize
     ensures { FindsEither separator separator s.now from result }
 {
     let near = near_end(from, s.len());
-    let mut i = from;
-    while i < near {
+    for i in from..near {
         if s[i] == separator {
             return i;
         }
-        i += 1;
     }
-    find_either(s, separator, separator, i)
+    find_either(s, separator, separator, near)
 }
 
 // The piece that starts at the place `at`.
-pub fn piece_at(s: &[u8], separator: u8, at: usize) -> Step
+pub fn piece_at(s: &[u8], separator: u8, at: usize) -> Result<Piece, NoPiece>
     ensures { FindsPiece separator s.now at result }
 {
     if at > s.len() {
-        return Step::Beyond;
+        return Err(NoPiece::Beyond);
     }
-    if s.len() == 0 {
-        return Step::Nothing;
+    if s.is_empty() {
+        return Err(NoPiece::Nothing);
     }
     let end = piece_end(s, separator, at);
     let range = Range {
@@ -50,8 +53,8 @@ pub fn piece_at(s: &[u8], separator: u8, at: usize) -> Step
         len: end - at,
     };
     if end == s.len() {
-        Step::Last(range)
+        Ok(Piece::Last(range))
     } else {
-        Step::More(range, end + 1)
+        Ok(Piece::More(range, end + 1))
     }
 }

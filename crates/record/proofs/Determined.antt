@@ -47,10 +47,10 @@ form_injective r r' p q = made_is (p, q) ∙ record_back r'
 pub determined : Determined
 determined =
     record {
-      ending_size = λ ending r r' p q. p ∙ sym q;
-      ending_by = λ n r r' p q. ending_injective r r' (p ∙ sym q);
-      place_of = λ line name r r' p q. p ∙ sym q;
-      ending_of = λ line r r' p q. p ∙ sym q;
-      numbers_of = λ line r r' p q. p ∙ sym q;
-      make_record = λ ending numbers r r' p q. form_injective r r' (p.0 ∙ sym q.0) (p.1 ∙ sym q.1);
+      size = λ ending r r' p q. p ∙ sym q;
+      by_size = λ n r r' p q. ending_injective r r' (p ∙ sym q);
+      place = λ line name r r' p q. p ∙ sym q;
+      ending = λ line r r' p q. p ∙ sym q;
+      numbers = λ line r r' p q. p ∙ sym q;
+      new = λ ending numbers r r' p q. form_injective r r' (p.0 ∙ sym q.0) (p.1 ∙ sym q.1);
     }

@@ -28,9 +28,9 @@ abbrev pub MakesRecord : Ending → List ℕ → Record → Type 0
 MakesRecord ending numbers r = (r.ending ≡ ending) × (record_numbers r ≡ numbers)
 
 pub record Determined : Type 0 where
-  pub ending_size : (ending : Ending) → OneAnswer (SizesEnding ending)
-  pub ending_by : (n : ℕ) → OneAnswer (NamesEnding n)
-  pub place_of : (line : Record) (name : Name) → OneAnswer (GivesPlace line name)
-  pub ending_of : (line : Record) → OneAnswer (GivesEnding line)
-  pub numbers_of : (line : Record) → OneAnswer (GivesNumbers line)
-  pub make_record : (ending : Ending) (numbers : List ℕ) → OneAnswer (MakesRecord ending numbers)
+  pub size : (ending : Ending) → OneAnswer (SizesEnding ending)
+  pub by_size : (n : ℕ) → OneAnswer (NamesEnding n)
+  pub place : (line : Record) (name : Name) → OneAnswer (GivesPlace line name)
+  pub ending : (line : Record) → OneAnswer (GivesEnding line)
+  pub numbers : (line : Record) → OneAnswer (GivesNumbers line)
+  pub new : (ending : Ending) (numbers : List ℕ) → OneAnswer (MakesRecord ending numbers)

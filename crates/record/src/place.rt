@@ -8,7 +8,7 @@ use text::range::Range;
 
 // A line's record: how it ended, where its text starts, where each of its first nine fields ends, and where its text ends. Each
 // field starts past one tab after the end before it. Without FORMAT the ninth end is INFO's, and no tab is passed. Others ask for
-// its ending by `ending_of` and for a field's place by `place_of`.
+// its ending by `ending` and for a field's place by `place`.
 #[derive(Clone, Copy)]
 pub struct Record {
     pub(crate) ending: Ending,
@@ -70,83 +70,81 @@ fn past_tab(before: usize, end: usize) -> Range
     if end <= before {
         return no_place();
     }
-    let start = before + 1;
-    Range {
-        start,
-        len: end - start,
+    span_of(before + 1, end)
+}
+
+impl Record {
+    // The record with an ending and these numbers, whatever they are.
+    pub fn new(ending: Ending, numbers: [usize; 11]) -> Record
+        ensures { MakesRecord ending numbers result }
+    {
+        Record {
+            ending,
+            start: numbers[0],
+            chrom: numbers[1],
+            pos: numbers[2],
+            id: numbers[3],
+            reference: numbers[4],
+            alt: numbers[5],
+            qual: numbers[6],
+            filter: numbers[7],
+            info: numbers[8],
+            format: numbers[9],
+            end: numbers[10],
+        }
     }
-}
 
-// The place of FORMAT, or of the samples.
-fn past_info(line: Record, before: usize, end: usize) -> Range
-    ensures { result ≡ span (passed line before) end }
-{
-    if line.format == line.info {
-        return span_of(before, end);
+    // The place of a field of the record's line, a `.` as it stands.
+    pub fn place(self, name: Name) -> Range
+        ensures { GivesPlace self name result }
+    {
+        match name {
+            Name::Chrom => span_of(self.start, self.chrom),
+            Name::Pos => past_tab(self.chrom, self.pos),
+            Name::Id => past_tab(self.pos, self.id),
+            Name::Reference => past_tab(self.id, self.reference),
+            Name::Alt => past_tab(self.reference, self.alt),
+            Name::Qual => past_tab(self.alt, self.qual),
+            Name::Filter => past_tab(self.qual, self.filter),
+            Name::Info => past_tab(self.filter, self.info),
+            Name::Format => self.past_info(self.info, self.format),
+            Name::Samples => self.past_info(self.format, self.end),
+        }
     }
-    past_tab(before, end)
-}
 
-// The place of a field of the record's line, a `.` as it stands.
-pub fn place_of(line: Record, name: Name) -> Range
-    ensures { GivesPlace line name result }
-{
-    match name {
-        Name::Chrom => span_of(line.start, line.chrom),
-        Name::Pos => past_tab(line.chrom, line.pos),
-        Name::Id => past_tab(line.pos, line.id),
-        Name::Reference => past_tab(line.id, line.reference),
-        Name::Alt => past_tab(line.reference, line.alt),
-        Name::Qual => past_tab(line.alt, line.qual),
-        Name::Filter => past_tab(line.qual, line.filter),
-        Name::Info => past_tab(line.filter, line.info),
-        Name::Format => past_info(line, line.info, line.format),
-        Name::Samples => past_info(line, line.format, line.end),
+    // The place of FORMAT, or of the samples.
+    fn past_info(self, before: usize, end: usize) -> Range
+        ensures { result ≡ span (passed self before) end }
+    {
+        if self.format == self.info {
+            return span_of(before, end);
+        }
+        past_tab(before, end)
     }
-}
 
-// How the record's line ended.
-pub fn ending_of(line: Record) -> Ending
-    ensures { GivesEnding line result }
-{
-    line.ending
-}
+    // How the record's line ended.
+    pub fn ending(self) -> Ending
+        ensures { GivesEnding self result }
+    {
+        self.ending
+    }
 
-// The numbers of a record: where its line's text starts, where each of the first nine fields ends, and where the text ends.
-pub fn numbers_of(line: Record) -> [usize; 11]
-    ensures { GivesNumbers line result }
-{
-    [
-        line.start,
-        line.chrom,
-        line.pos,
-        line.id,
-        line.reference,
-        line.alt,
-        line.qual,
-        line.filter,
-        line.info,
-        line.format,
-        line.end,
-    ]
-}
-
-// The record with an ending and these numbers, whatever they are.
-pub fn make_record(ending: Ending, numbers: [usize; 11]) -> Record
-    ensures { MakesRecord ending numbers result }
-{
-    Record {
-        ending,
-        start: numbers[0],
-        chrom: numbers[1],
-        pos: numbers[2],
-        id: numbers[3],
-        reference: numbers[4],
-        alt: numbers[5],
-        qual: numbers[6],
-        filter: numbers[7],
-        info: numbers[8],
-        format: numbers[9],
-        end: numbers[10],
+    // The numbers of a record: where its line's text starts, where each of the first nine fields ends, and where the text ends.
+    pub fn numbers(self) -> [usize; 11]
+        ensures { GivesNumbers self result }
+    {
+        [
+            self.start,
+            self.chrom,
+            self.pos,
+            self.id,
+            self.reference,
+            self.alt,
+            self.qual,
+            self.filter,
+            self.info,
+            self.format,
+            self.end,
+        ]
     }
 }

@@ -2,23 +2,23 @@
 use mathlib.Core.Path.{◌≡◌, refl, sym, ◌∙◌}
 use mathlib.Core.List.{[], ◌∷◌}
 use mathlib.Mathlib.Logic.Function.Defs.{LeftInverse-Injective}
+use Prim.Native.Nat.{ℕ}
+use Rattle.std.specs.Prelude.{Option, Some, None}
 use Rattle.text.specs.Answer.{Answer, says}
 use Rattle.pieces.proofs.PaperLaws.{step_paper_injective, nth_paper_injective}
 use Rattle.samples.specs.Paper.{key_paper}
 use Rattle.samples.specs.Promises.{Determined}
-use Rattle.samples.specs.declared.keys.Key.{Key}
-use Rattle.samples.specs.declared.keys.Key.TheVariants as K
 
-key_of : Answer → Key
-key_of (says n []) = K.Nothing
-key_of (says n (i ∷ l)) = K.Index i
+key_of : Answer → Option ℕ
+key_of (says n []) = None
+key_of (says n (i ∷ l)) = Some i
 
-key_back : (x : Key) → key_of (key_paper x) ≡ x
+key_back : (x : Option ℕ) → key_of (key_paper x) ≡ x
 unfolding key_of key_paper
-key_back (K.Index i) = refl
-key_back K.Nothing = refl
+key_back (Some i) = refl
+key_back None = refl
 
-pub key_paper_injective : (x y : Key) → key_paper x ≡ key_paper y → x ≡ y
+pub key_paper_injective : (x y : Option ℕ) → key_paper x ≡ key_paper y → x ≡ y
 key_paper_injective = LeftInverse-Injective key_of key_paper key_back
 
 pub determined : Determined

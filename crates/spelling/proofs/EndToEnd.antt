@@ -5,12 +5,13 @@ use mathlib.Core.Path.{◌≡◌, sym, ap, ◌∙◌}
 use mathlib.Core.List.{List, [], ◌∷◌}
 use native.Mathlib.Omega.{arith}
 use lib.ListN.{length, take, drop}
+use Rattle.std.specs.Prelude.{Result}
 use Rattle.text.specs.Answer.{says, number_of}
 use Rattle.text.proofs.OutcomeLaws.{written_length}
 use Rattle.allele.specs.Row.{row_of, Parallel}
 use Rattle.allele.proofs.MeansLaws.{reads_means}
 use Rattle.genotype.specs.Answers.{ReadsText}
-use Rattle.genotype.specs.declared.read.Read.{Read}
+use Rattle.genotype.specs.declared.read.ReadError.{ReadError}
 use Rattle.genotype.proofs.AnswerLaws.{Holds, reads_list}
 use Rattle.genotype.proofs.MostLaws.{most_none, most_more}
 use Rattle.spelling.specs.Permitted.{from44}
@@ -66,7 +67,7 @@ written_back n m p major minor out at k out' w =
 
 -- the slices that the reader leaves hold that list
 read_held : (n m p : List ℕ) {major minor : ℕ} {out : List ℕ} {at k : ℕ} {out' : List ℕ} → Wrote n m p major minor out at k out'
-    → (n₂ m₂ p₂ : List ℕ) {r : Read} {n₂' m₂' p₂' : List ℕ} → Parallel n₂ m₂ p₂ → length n ≤ length n₂ → ReadsText (take k (drop at out')) n₂ m₂ p₂ r n₂' m₂' p₂'
+    → (n₂ m₂ p₂ : List ℕ) {r : Result ℕ ReadError} {n₂' m₂' p₂' : List ℕ} → Parallel n₂ m₂ p₂ → length n ≤ length n₂ → ReadsText (take k (drop at out')) n₂ m₂ p₂ r n₂' m₂' p₂'
     → Holds (row_of n m p) n₂ m₂ p₂ r n₂' m₂' p₂'
 unfolding WrittenBack
 read_held n m p {major} {minor} {out} {at} {k} {out'} w n₂ m₂ p₂ q h g =

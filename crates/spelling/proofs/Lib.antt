@@ -21,3 +21,4 @@ pub mod Slices
 pub mod EndToEnd
 pub mod ListLaws
 pub mod CaseLaws
+pub mod MadeLaws

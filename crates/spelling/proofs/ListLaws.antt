@@ -16,20 +16,21 @@ use Rattle.spelling.specs.Inner.{WritesList}
 use Rattle.spelling.specs.Paper.{write_paper}
 use Rattle.spelling.specs.Write.{spelled_answer, text_of, list_answer, list_left}
 use Rattle.spelling.specs.Demands.{writer}
-use Rattle.spelling.specs.declared.write.Write.{Write}
-use Rattle.spelling.specs.declared.write.Write.TheVariants as W
+use Rattle.std.specs.Prelude.{Result, Err}
+use Rattle.spelling.specs.declared.write.WriteError.{WriteError}
+use Rattle.spelling.specs.declared.write.WriteError.TheVariants as W
 
-pub record ListOutcome (as' : List Allele) (late : Bool) (out : List ℕ) (at : ℕ) (r : Write) (out' : List ℕ) : Type 0 where
+pub record ListOutcome (as' : List Allele) (late : Bool) (out : List ℕ) (at : ℕ) (r : Result ℕ WriteError) (out' : List ℕ) : Type 0 where
   pub answer : write_paper r ≡ list_answer as' late out at
   pub bytes : out' ≡ list_left as' late out at
 
 module _ (as' : List Allele) (late : Bool) (out : List ℕ) (at : ℕ) where
-  pub list_beyond : length out < at → ListOutcome as' late out at W.Beyond out
+  pub list_beyond : length out < at → ListOutcome as' late out at (Err W.Beyond) out
   unfolding write_paper list_answer
   list_beyond h = record { answer = rw (lt-leb _ _ h); bytes = rw (lt-leb _ _ h) }
 
   -- what is written at the start of the rest, said of the whole
-  pub list_rest : {r : Write} {ys : List ℕ} → at ≤ length out → WritesList as' late (drop at out) r ys → ListOutcome as' late out at r (take at out ++ ys)
+  pub list_rest : {r : Result ℕ WriteError} {ys : List ℕ} → at ≤ length out → WritesList as' late (drop at out) r ys → ListOutcome as' late out at r (take at out ++ ys)
   unfolding list_answer
   list_rest {ys = ys} h w =
       record {

@@ -6,22 +6,24 @@ use lib.Dec.{eqb}
 use Rattle.text.specs.Pick.{pick}
 use Rattle.text.specs.Answer.{Answer, says}
 use Rattle.spelling.specs.Paper.{write_paper}
-use Rattle.spelling.specs.declared.write.Write.{Write}
-use Rattle.spelling.specs.declared.write.Write.TheVariants as W
+use Prim.Native.Nat.{ℕ}
+use Rattle.std.specs.Prelude.{Result, Ok, Err}
+use Rattle.spelling.specs.declared.write.WriteError.{WriteError}
+use Rattle.spelling.specs.declared.write.WriteError.TheVariants as W
 
-write_of : Answer → Write
-write_of (says n []) = pick (eqb n 6) W.Beyond (pick (eqb n 11) W.Empty (pick (eqb n 13) W.Phasing (pick (eqb n 16) W.Lengths W.Short)))
-write_of (says n (v ∷ vs)) = pick (eqb n 0) (W.Done v) (W.Bad v)
+write_of : Answer → Result ℕ WriteError
+write_of (says n []) = Err (pick (eqb n 6) W.Beyond (pick (eqb n 11) W.Empty (pick (eqb n 13) W.Phasing (pick (eqb n 16) W.Lengths W.Short))))
+write_of (says n (v ∷ vs)) = pick (eqb n 0) (Ok v) (Err (W.Bad v))
 
-write_back : (x : Write) → write_of (write_paper x) ≡ x
+write_back : (x : Result ℕ WriteError) → write_of (write_paper x) ≡ x
 unfolding write_of write_paper
-write_back (W.Done n) = refl
-write_back W.Beyond = refl
-write_back W.Empty = refl
-write_back (W.Bad k) = refl
-write_back W.Phasing = refl
-write_back W.Lengths = refl
-write_back W.Short = refl
+write_back (Ok n) = refl
+write_back (Err W.Beyond) = refl
+write_back (Err W.Empty) = refl
+write_back (Err (W.Bad k)) = refl
+write_back (Err W.Phasing) = refl
+write_back (Err W.Lengths) = refl
+write_back (Err W.Short) = refl
 
-pub write_paper_injective : (x y : Write) → write_paper x ≡ write_paper y → x ≡ y
+pub write_paper_injective : (x y : Result ℕ WriteError) → write_paper x ≡ write_paper y → x ≡ y
 write_paper_injective = LeftInverse-Injective write_of write_paper write_back

@@ -24,23 +24,3 @@ pub text_marked : (n k : ℕ) (as' : List Allele) → text_from (P.Marked n) k a
 unfolding text_from one_text list_text
 text_marked n k [] = refl
 text_marked n k (a ∷ as') = rw (text_marked n (k + 1) as')
-
-pub text_empty : (k : ℕ) (as' : List Allele) → text_from P.Empty k as' ≡ []
-unfolding text_from one_text
-text_empty k [] = refl
-text_empty k (a ∷ as') = text_empty (k + 1) as'
-
-pub text_bad : (i k : ℕ) (as' : List Allele) → text_from (P.Bad i) k as' ≡ []
-unfolding text_from one_text
-text_bad i k [] = refl
-text_bad i k (a ∷ as') = text_bad i (k + 1) as'
-
-pub text_phasing : (k : ℕ) (as' : List Allele) → text_from P.Phasing k as' ≡ []
-unfolding text_from one_text
-text_phasing k [] = refl
-text_phasing k (a ∷ as') = text_phasing (k + 1) as'
-
-pub text_short : (k : ℕ) (as' : List Allele) → text_from P.Short k as' ≡ []
-unfolding text_from one_text
-text_short k [] = refl
-text_short k (a ∷ as') = text_short (k + 1) as'

@@ -1,6 +1,6 @@
 -- What demand 3 asks of any genotype writer, as a function on lists, and what follows for its texts (docs/RULES.md, "Genotypes", "One list,
 -- one spelling"; docs/STATEMENTS.md). Assumes nothing.
-use Rattle.std.specs.Prelude.{ℕ, ◌+◌, ◌≤◌, ◌<◌, ◌≡◌, Bool, true, false, ◌↔◌, List, [], ◌∷◌, length, take, drop}
+use Rattle.std.specs.Prelude.{ℕ, ◌+◌, ◌≤◌, ◌<◌, ◌≡◌, Bool, true, false, ◌↔◌, List, [], ◌∷◌, length, take, drop, Result}
 use Rattle.text.specs.Answer.{Answer, says, number_of}
 use Rattle.text.specs.Over.{over, over_at}
 use Rattle.text.specs.Outcome.{Outcome, laid_over, HasWritten}
@@ -10,13 +10,13 @@ use Rattle.allele.specs.Row.{row_of, Parallel}
 use Rattle.genotype.specs.Demands as Genotype
 use Rattle.genotype.specs.Demands.{AtMost, Reader}
 use Rattle.genotype.specs.Answers.{ReadsText}
-use Rattle.genotype.specs.declared.read.Read.{Read}
+use Rattle.genotype.specs.declared.read.ReadError.{ReadError}
 use Rattle.allele.specs.declared.allele.Allele.{Allele}
 use Rattle.spelling.specs.Permitted.{from44, Permitted, TheShortest}
 use Rattle.spelling.specs.Paper.{write_paper}
 use Rattle.spelling.specs.Write.{list_answer, list_left, WritesRow}
 use Rattle.spelling.specs.EndToEnd.{Wrote}
-use Rattle.spelling.specs.declared.write.Write.{Write}
+use Rattle.spelling.specs.declared.write.WriteError.{WriteError}
 
 -- a writer is given a file format, a list, an output and a place in it
 abbrev pub Writer : Type 0
@@ -140,7 +140,7 @@ Spellings = (write : Writer) → Meets write → OneSpelling write × ((read : R
 
 -- given slices of one length, `write_genotype` answers and leaves what the writer does with the list that they stand for
 unfoldable pub SlicesWriter : Type 0
-SlicesWriter = (n m p : List ℕ) (major minor : ℕ) (out : List ℕ) (at : ℕ) (r : Write) (out' : List ℕ) → Parallel n m p → WritesRow n m p major minor out at r out'
+SlicesWriter = (n m p : List ℕ) (major minor : ℕ) (out : List ℕ) (at : ℕ) (r : Result ℕ WriteError) (out' : List ℕ) → Parallel n m p → WritesRow n m p major minor out at r out'
     → (write_paper r ≡ (writer major minor (row_of n m p) out at).answer) × (out' ≡ (writer major minor (row_of n m p) out at).output)
 
 -- so the bytes that it writes are the same exactly where two lists in slices are: marks other than 0 and 1 mean 1
@@ -154,8 +154,8 @@ SlicesApart =
 unfoldable pub SlicesSettle : Type 0
 SlicesSettle =
     (n m p : List ℕ) (major minor : ℕ) (out : List ℕ) (at k : ℕ) (out' : List ℕ) → Wrote n m p major minor out at k out'
-    → (n₂ m₂ p₂ : List ℕ) (r : Read) (n₂' m₂' p₂' : List ℕ) → Parallel n₂ m₂ p₂ → length n ≤ length n₂ → ReadsText (take k (drop at out')) n₂ m₂ p₂ r n₂' m₂' p₂'
-    → (out₂ : List ℕ) (at₂ : ℕ) (w : Write) (out₂' : List ℕ) → at₂ + k ≤ length out₂
+    → (n₂ m₂ p₂ : List ℕ) (r : Result ℕ ReadError) (n₂' m₂' p₂' : List ℕ) → Parallel n₂ m₂ p₂ → length n ≤ length n₂ → ReadsText (take k (drop at out')) n₂ m₂ p₂ r n₂' m₂' p₂'
+    → (out₂ : List ℕ) (at₂ : ℕ) (w : Result ℕ WriteError) (out₂' : List ℕ) → at₂ + k ≤ length out₂
     → WritesRow (take (length n) n₂') (take (length n) m₂') (take (length n) p₂') major minor out₂ at₂ w out₂'
     → (write_paper w ≡ says 0 (k ∷ [])) × (out₂' ≡ over_at at₂ (take k (drop at out')) out₂)
 

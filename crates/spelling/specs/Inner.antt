@@ -1,5 +1,5 @@
 -- What functions promise each other, also those of `alleles`. Assumes nothing.
-use Rattle.std.specs.Prelude.{ℕ, ◌+◌, ◌-◌, ◌≡◌, Bool, true, false, ◌&&◌, List, [], ◌∷◌, ◌++◌, length, leb, ltb, eqb}
+use Rattle.std.specs.Prelude.{ℕ, ◌+◌, ◌-◌, ◌≡◌, Bool, true, false, ◌&&◌, List, [], ◌∷◌, ◌++◌, length, leb, ltb, eqb, Option, Some, None, is_some, Result, Ok, Err}
 use Rattle.std.specs.Bool.{beq}
 use Rattle.text.specs.Pick.{pick}
 use Rattle.text.specs.Over.{over_at, laid}
@@ -11,31 +11,33 @@ use Rattle.spelling.specs.Write.{spelled_answer, text_of}
 use Rattle.spelling.specs.declared.tally.Tally.{Tally}
 use Rattle.spelling.specs.declared.tally.Plan.{Plan}
 use Rattle.spelling.specs.declared.tally.Plan.TheVariants as P
-use Rattle.spelling.specs.declared.write.Write.{Write}
-use Rattle.spelling.specs.declared.write.Write.TheVariants as W
+use Rattle.spelling.specs.declared.write.WriteError.{WriteError}
+use Rattle.spelling.specs.declared.write.WriteError.TheVariants as W
 
 -- ---- what one pass over a list of alleles gathers
 
 unfoldable pub begun : ℕ → Tally
-begun room = record { sound = true; bad = 0; first = true; later = true; room = room; fits = true; left = room }
+begun room = record { bad = None; first = true; later = true; room = room; left = Some room }
+
+-- what n bytes more leave
+unfoldable pub room_left : Option ℕ → ℕ → Option ℕ
+room_left None n = None
+room_left (Some left) n = pick (leb n left) (Some (left - n)) None
 
 -- with n bytes less room
 unfoldable pub shortened : Tally → ℕ → Tally
-shortened t n =
-    pick (leb n t.left) (record { sound = t.sound; bad = t.bad; first = t.first; later = t.later; room = t.room; fits = t.fits; left = t.left - n })
-    (record { sound = t.sound; bad = t.bad; first = t.first; later = t.later; room = t.room; fits = false; left = t.left })
+shortened t n = record t { left = room_left t.left n }
 
 -- of the first allele the phasing, of a later one whether it is phased; and what each takes
 unfoldable pub counted : Tally → Allele → ℕ → Tally
 counted t a k =
     pick (eqb k 0)
-    (shortened (record { sound = t.sound; bad = t.bad; first = a.phased; later = t.later; room = t.room; fits = t.fits; left = t.left }) (length (body_text a)))
-    (shortened (record { sound = t.sound; bad = t.bad; first = t.first; later = t.later && a.phased; room = t.room; fits = t.fits; left = t.left }) (length (body_text a) + 1))
+    (shortened (record t { first = a.phased }) (length (body_text a)))
+    (shortened (record t { later = t.later && a.phased }) (length (body_text a) + 1))
 
 -- nothing more is gathered from the first unsound allele on
 unfoldable pub tallied : Tally → Allele → ℕ → Tally
-tallied t a k =
-    pick t.sound (pick (is_sound a) (counted t a k) (record { sound = false; bad = k; first = t.first; later = t.later; room = t.room; fits = t.fits; left = t.left })) t
+tallied t a k = pick (is_some t.bad) t (pick (is_sound a) (counted t a k) (record t { bad = Some k }))
 
 -- the alleles from index k on
 unfoldable pub tally_from : Tally → ℕ → List Allele → Tally
@@ -48,22 +50,31 @@ tally_of room as' = tally_from (begun room) 0 as'
 
 -- ---- the plan made of it
 
--- 11, 12, then by the first phasing: 13, and 17 last; else how many bytes are taken, one more with the first mark
-unfoldable pub shape_of : Tally → Bool → Plan
-shape_of t late =
-    pick (beq t.first t.later) (pick t.fits (P.Bare (t.room - t.left)) P.Short)
-    (pick late (pick (t.fits && ltb 0 t.left) (P.Marked (t.room - t.left + 1)) P.Short) P.Phasing)
+-- what is taken of a room, of which so much is left: one more with the first mark
+unfoldable pub bare_plan : ℕ → Option ℕ → Result Plan WriteError
+bare_plan room None = Err W.Short
+bare_plan room (Some left) = Ok (P.Bare (room - left))
 
-unfoldable pub plan_of : Tally → ℕ → Bool → Plan
-plan_of t count late = pick (eqb count 0) P.Empty (pick t.sound (shape_of t late) (P.Bad t.bad))
+unfoldable pub marked_plan : ℕ → Option ℕ → Result Plan WriteError
+marked_plan room None = Err W.Short
+marked_plan room (Some left) = pick (ltb 0 left) (Ok (P.Marked (room - left + 1))) (Err W.Short)
 
-unfoldable pub answer_of : Plan → Write
-answer_of (P.Bare n) = W.Done n
-answer_of (P.Marked n) = W.Done n
-answer_of P.Empty = W.Empty
-answer_of (P.Bad k) = W.Bad k
-answer_of P.Phasing = W.Phasing
-answer_of P.Short = W.Short
+-- by the first phasing: 13, and 17 last
+unfoldable pub shape_of : Tally → Bool → Result Plan WriteError
+shape_of t late = pick (beq t.first t.later) (bare_plan t.room t.left) (pick late (marked_plan t.room t.left) (Err W.Phasing))
+
+-- 12, then by its shape
+unfoldable pub judged_plan : Option ℕ → Result Plan WriteError → Result Plan WriteError
+judged_plan None x = x
+judged_plan (Some k) x = Err (W.Bad k)
+
+-- 11 first
+unfoldable pub plan_of : Tally → ℕ → Bool → Result Plan WriteError
+plan_of t count late = pick (eqb count 0) (Err W.Empty) (judged_plan t.bad (shape_of t late))
+
+unfoldable pub size_of : Plan → ℕ
+size_of (P.Bare n) = n
+size_of (P.Marked n) = n
 
 -- ---- what is written by it
 
@@ -71,10 +82,11 @@ answer_of P.Short = W.Short
 unfoldable pub one_text : Plan → ℕ → Allele → List ℕ
 one_text (P.Bare n) k a = allele_text (eqb k 0) a
 one_text (P.Marked n) k a = allele_text false a
-one_text P.Empty k a = []
-one_text (P.Bad i) k a = []
-one_text P.Phasing k a = []
-one_text P.Short k a = []
+
+-- by what is planned: nothing where the list is refused
+abbrev pub step_text : Result Plan WriteError → ℕ → Allele → List ℕ
+step_text (Ok plan) k a = one_text plan k a
+step_text (Err e) k a = []
 
 -- of the alleles from index k on
 unfoldable pub text_from : Plan → ℕ → List Allele → List ℕ
@@ -104,6 +116,6 @@ pub record PutsAt (vs : List ℕ) (at : ℕ) (l : List ℕ) (r : ℕ) (l' : List
 -- ---- a list written at the start of an output
 
 -- only an answer that is done changes it
-pub record WritesList (as' : List Allele) (late : Bool) (l : List ℕ) (r : Write) (l' : List ℕ) : Type 0 where
+pub record WritesList (as' : List Allele) (late : Bool) (l : List ℕ) (r : Result ℕ WriteError) (l' : List ℕ) : Type 0 where
   pub answer : write_paper r ≡ spelled_answer (spell late as') l
   pub bytes : l' ≡ laid (spelled_answer (spell late as') l) (text_of (spell late as')) l

@@ -2,6 +2,7 @@ pub mod Spelling
 pub mod Permitted
 pub mod Paper
 pub mod Write
+pub mod Row
 pub mod Inner
 pub mod Promises
 pub mod EndToEnd

@@ -1,5 +1,5 @@
 -- What the writer answers, and what it leaves in the output (docs/RULES.md, "Genotypes"). Assumes nothing.
-use Rattle.std.specs.Prelude.{ℕ, ◌<◌, ◌≤◌, ◌≡◌, Bool, List, [], ◌∷◌, length, get_or, drop}
+use Rattle.std.specs.Prelude.{ℕ, ◌<◌, ◌≤◌, ◌≡◌, Bool, List, [], ◌∷◌, length, get_or, drop, Result}
 use Rattle.text.specs.Answer.{Answer, says, number_of}
 use Rattle.text.specs.Over.{room_answer, laid_at}
 use Rattle.text.specs.Place.{placed}
@@ -9,7 +9,7 @@ use Rattle.allele.specs.declared.allele.Allele.{Allele}
 use Rattle.spelling.specs.Spelling.{Spelled, text, bad, phasing, empty, spell}
 use Rattle.spelling.specs.Permitted.{from44}
 use Rattle.spelling.specs.Paper.{write_paper}
-use Rattle.spelling.specs.declared.write.Write.{Write}
+use Rattle.spelling.specs.declared.write.WriteError.{WriteError}
 
 -- 11, 12 or 13 where there is no text, else by room
 unfoldable pub spelled_answer : Spelled → List ℕ → Answer
@@ -40,7 +40,7 @@ row_answer n m p late out at = placed at out (G.row_answer n m p (spelled_answer
 abbrev pub row_left : List ℕ → List ℕ → List ℕ → Bool → List ℕ → ℕ → List ℕ
 row_left n m p late out at = laid_at (row_answer n m p late out at) at (text_of (spell late (row_of n m p))) out
 
-pub record WritesRow (n m p : List ℕ) (major minor : ℕ) (out : List ℕ) (at : ℕ) (r : Write) (out' : List ℕ) : Type 0 where
+pub record WritesRow (n m p : List ℕ) (major minor : ℕ) (out : List ℕ) (at : ℕ) (r : Result ℕ WriteError) (out' : List ℕ) : Type 0 where
   pub answer : write_paper r ≡ row_answer n m p (from44 major minor) out at
   pub bytes : out' ≡ row_left n m p (from44 major minor) out at
 
@@ -49,5 +49,5 @@ pub record Small (n : List ℕ) : Type 0 where
   pub each : (i : ℕ) → i < length n → get_or n i 0 ≤ 18446744073709551615
 
 -- the numbers of a list that is written have at most 64 bits: so what is written reads back with nothing asked of the caller
-pub record SmallWhereDone (n : List ℕ) (r : Write) : Type 0 where
+pub record SmallWhereDone (n : List ℕ) (r : Result ℕ WriteError) : Type 0 where
   pub small : number_of (write_paper r) ≡ 0 → Small n

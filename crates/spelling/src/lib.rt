@@ -3,5 +3,6 @@
 #![tactic(auto)]
 
 pub mod put;
+pub mod row;
 pub mod tally;
 pub mod write;

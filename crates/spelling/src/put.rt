@@ -7,18 +7,20 @@ ghost use Rattle.spelling.specs.Inner.{PutsAt};
 ghost use Rattle.spelling.specs.Promises.{PutsOne};
 
 use crate::tally::Plan;
+use crate::write::WriteError;
 use allele::allele::Allele;
 use decimal::print::print_decimal;
-use text::copy::{Written, copy};
+use text::copy::{NoRoom, copy};
 
 // Writes an allele without its mark at the start of the output: `.` or its number.
-fn put_body(a: Allele, out: &mut [u8]) -> Written
+fn put_body(a: Allele, out: &mut [u8]) -> Result<usize, NoRoom>
     ensures { Writes (body_text a) out.old result out.new }
 {
     if a.missing {
-        return copy(b".", out);
+        copy(b".", out)
+    } else {
+        print_decimal(a.number, out)
     }
-    print_decimal(a.number, out)
 }
 
 // A phasing's mark.
@@ -37,32 +39,36 @@ fn put_allele(a: Allele, bare: bool, out: &mut [u8], at: usize) -> usize
         return at;
     }
     if bare {
-        return match put_body(a, &mut out[at..]) {
-            Written::Done(n) => at + n,
-            Written::Short => at,
+        let Ok(n) = put_body(a, &mut out[at..]) else {
+            return at;
         };
+        return at + n;
     }
     if at == out.len() {
         return at;
     }
     let body = at + 1;
-    match put_body(a, &mut out[body..]) {
-        Written::Done(n) => {
-            out[at] = mark_byte(a.phased);
-            body + n
-        }
-        Written::Short => at,
-    }
+    let Ok(n) = put_body(a, &mut out[body..]) else {
+        return at;
+    };
+    out[at] = mark_byte(a.phased);
+    body + n
 }
 
 // Writes the allele with index k of a list at the place `at`, as planned, and returns the place past it. Nothing is written
 // where it does not fit there, or where the list is refused.
-pub fn put_one(out: &mut [u8], at: usize, a: Allele, plan: Plan, k: usize) -> usize
+pub fn put_one(
+    out: &mut [u8],
+    at: usize,
+    a: Allele,
+    plan: Result<Plan, WriteError>,
+    k: usize,
+) -> usize
     ensures { PutsOne a plan k out.old at result out.new }
 {
     match plan {
-        Plan::Bare(_) => put_allele(a, k == 0, out, at),
-        Plan::Marked(_) => put_allele(a, false, out, at),
-        _ => at,
+        Ok(Plan::Bare(_)) => put_allele(a, k == 0, out, at),
+        Ok(Plan::Marked(_)) => put_allele(a, false, out, at),
+        Err(_) => at,
     }
 }

@@ -1,21 +1,18 @@
 // Writing a list of alleles that comes as three slices of one length.
-ghost use Rattle.std.specs.Prelude.{◌≡◌, ◌≤◌, ◌<◌, length};
-ghost use Rattle.allele.specs.Row.{Parallel, allele_at, row_of};
+ghost use Rattle.std.specs.Prelude.{◌≡◌, ◌≤◌, length};
+ghost use Rattle.spelling.specs.Row.{list_of};
 ghost use Rattle.text.specs.Over.{over};
 ghost use Rattle.spelling.specs.Permitted.{from44};
 ghost use Rattle.spelling.specs.Inner.{tally_of, planned_text, WritesList};
-ghost use Rattle.spelling.specs.Promises.{Answers};
-ghost use Rattle.spelling.specs.Write.{Small, WritesRow, SmallWhereDone};
+ghost use Rattle.spelling.specs.Write.{WritesRow, SmallWhereDone};
 
 use crate::put::put_one;
-use crate::tally::{Plan, Tally, add, begin, plan_for};
-use allele::allele::Allele;
+use crate::row::Row;
+use crate::tally::{Plan, Tally};
 
-// The answer of the writer.
-#[derive(Clone, Copy)]
-pub enum Write {
-    // 0: so many bytes were written.
-    Done(usize),
+// Why a list is not written.
+#[derive(Clone, Copy, Debug, PartialEq, Eq)]
+pub enum WriteError {
     // 6: the place lies beyond the output.
     Beyond,
     // 11: the list is empty.
@@ -30,83 +27,39 @@ pub enum Write {
     Short,
 }
 
-// The allele with index k. Any number but 0 marks it as missing, or as phased.
-fn allele_at(numbers: &[u64], missing: &[u8], phased: &[u8], k: usize) -> Allele
-    requires parallel { Parallel numbers.now missing.now phased.now }
-    requires k_in_bounds { k < length numbers.now }
-    ensures { result ≡ allele_at numbers.now missing.now phased.now k }
-{
-    Allele {
-        number: numbers[k],
-        missing: missing[k] != 0,
-        phased: phased[k] != 0,
-    }
-}
-
 // The tally of the whole list.
-fn tally_row(numbers: &[u64], missing: &[u8], phased: &[u8], room: usize) -> Tally
-    requires { Parallel numbers.now missing.now phased.now }
-    ensures value { result ≡ tally_of room (row_of numbers.now missing.now phased.now) }
-    ensures small { Small numbers.now }
+fn tally_row(row: Row, room: usize) -> Tally
+    ensures { result ≡ tally_of room (list_of row.entry) }
 {
-    let mut tally = begin(room);
-    let mut k = 0;
-    while k < numbers.len() {
-        tally = add(tally, allele_at(numbers, missing, phased, k), k);
-        k += 1;
+    let mut tally = Tally::new(room);
+    for k in 0..row.len() {
+        tally.add(row.at(k), k);
     }
     tally
 }
 
 // Writes the whole list at the start of the output, as planned.
-fn put_row(numbers: &[u64], missing: &[u8], phased: &[u8], plan: Plan, out: &mut [u8])
-    requires parallel { Parallel numbers.now missing.now phased.now }
-    requires phased_in_bounds { length (planned_text plan (row_of numbers.now missing.now phased.now)) ≤ length out.old }
-    ensures { out.new ≡ over (planned_text plan (row_of numbers.now missing.now phased.now)) out.old }
+fn put_row(row: Row, plan: Plan, out: &mut [u8])
+    requires { length (planned_text plan (list_of row)) ≤ length out.old }
+    ensures { out.new ≡ over (planned_text plan (list_of row.entry)) out.old }
 {
     let mut at = 0;
-    let mut k = 0;
-    while k < numbers.len() {
-        let allele = allele_at(numbers, missing, phased, k);
-        at = put_one(out, at, allele, plan, k);
-        k += 1;
-    }
-}
-
-// The answer that a plan gives.
-pub fn answer_of(plan: Plan) -> Write
-    ensures { Answers plan result }
-{
-    match plan {
-        Plan::Bare(n) => Write::Done(n),
-        Plan::Marked(n) => Write::Done(n),
-        Plan::Empty => Write::Empty,
-        Plan::Bad(k) => Write::Bad(k),
-        Plan::Phasing => Write::Phasing,
-        Plan::Short => Write::Short,
+    for k in 0..row.len() {
+        at = put_one(out, at, row.at(k), Ok(plan), k);
     }
 }
 
 // Writes the shortest permitted spelling at the start of the output.
-fn write_rest(
-    numbers: &[u64],
-    missing: &[u8],
-    phased: &[u8],
-    major: u32,
-    minor: u32,
-    out: &mut [u8],
-) -> Write
-    requires { Parallel numbers.now missing.now phased.now }
-    ensures writes_list { WritesList (row_of numbers.now missing.now phased.now) (from44 major minor) out.old result out.new }
-    ensures small { Small numbers.now }
+fn write_rest(row: Row, major: u32, minor: u32, out: &mut [u8]) -> Result<usize, WriteError>
+    ensures { WritesList (list_of row.entry) (from44 major minor) out.old result out.new }
 {
-    let tally = tally_row(numbers, missing, phased, out.len());
-    let plan = plan_for(tally, numbers.len(), major, minor);
-    put_row(numbers, missing, phased, plan, out);
-    answer_of(plan)
+    let tally = tally_row(row, out.len());
+    let plan = tally.plan(row.len(), major, minor)?;
+    put_row(row, plan, out);
+    Ok(plan.size())
 }
 
-// Writes the shortest spelling that a file format permits, from the place `at` on.
+// Writes the shortest spelling that a file format permits, from the place `at` on, and returns how many bytes that takes.
 pub fn write_genotype(
     numbers: &[u64],
     missing: &[u8],
@@ -115,18 +68,15 @@ pub fn write_genotype(
     minor: u32,
     out: &mut [u8],
     at: usize,
-) -> Write
+) -> Result<usize, WriteError>
     ensures writes_row { WritesRow numbers.now missing.now phased.now major minor out.old at result out.new }
     ensures small_where_done { SmallWhereDone numbers.now result }
 {
     if at > out.len() {
-        return Write::Beyond;
+        return Err(WriteError::Beyond);
     }
-    if numbers.len() != missing.len() {
-        return Write::Lengths;
-    }
-    if numbers.len() != phased.len() {
-        return Write::Lengths;
-    }
-    write_rest(numbers, missing, phased, major, minor, &mut out[at..])
+    let Some(row) = Row::new(numbers, missing, phased) else {
+        return Err(WriteError::Lengths);
+    };
+    write_rest(row, major, minor, &mut out[at..])
 }

@@ -1,22 +1,22 @@
 -- Two that meet one contract are one, since it determines the answer; on paper they are the line reader's definition. Assumes nothing.
 use Prim.Native.Nat.{ℕ}
 use mathlib.Core.Path.{◌≡◌, sym, ap, ◌∙◌, subst, fun_ext}
+use Rattle.std.specs.Prelude.{Ok}
 use Rattle.text.specs.Answer.{number_of}
 use Rattle.record.specs.Place.{range_of}
 use Rattle.record.specs.declared.place.Record.{Record}
 use Rattle.line.specs.Line.{read_answer}
-use Rattle.line.specs.Paper.{read_paper}
+use Rattle.line.specs.Paper.{Read, read_paper}
 use Rattle.line.specs.Demands.{Meets, OneReader}
-use Rattle.line.specs.declared.read.Read.{Read}
-use Rattle.line.specs.declared.read.Read.TheVariants as R
 use Rattle.line.proofs.Meets.{meets, one_reader}
+use Rattle.line.proofs.AnswerLaws.{ok_same}
 use Rattle.line.proofs.Determined.{read_paper_injective}
 use Rattle.splitter.specs.Demands.{next_of, SameLine, Alike, OneSplitter, on_paper, MeetsThem, OneByThem}
 use Rattle.splitter.proofs.Determined.{determined}
 
 -- one answer is like itself
-line_same : {r q : Record} {m n : ℕ} → R.Line r m ≡ R.Line q n → SameLine r q
-line_same {r} {q} e = let d : r ≡ q = cc in record { ending = ap (λ (x : Record). x.ending) d; columns = λ name. ap (λ (x : Record). range_of x name) d }
+line_same : {r q : Record} {m n : ℕ} → ◌≡◌ {A = Read} (Ok (r, m)) (Ok (q, n)) → SameLine r q
+line_same {r} {q} e = let d = ok_same r q e in record { ending = ap (λ (x : Record). x.ending) d; columns = λ name. ap (λ (x : Record). range_of x name) d }
 
 alike : {one other : Read} → one ≡ other → Alike one other
 alike {one} {other} e =

@@ -6,15 +6,12 @@ use mathlib.Core.List.{List, [], ◌∷◌, ◌++◌}
 use native.Mathlib.Omega.{arith}
 use lib.ListN.{length, get_or, take, drop}
 use lib.Seq.{take_at}
+use Rattle.std.specs.Prelude.{Ok, Err}
 use Rattle.text.specs.Pick.{pick}
 use Rattle.text.specs.Answer.{says}
 use Rattle.text.specs.Bytes.{is_empty}
 use Rattle.text.specs.Verdict.{fine, refused}
-use Rattle.text.specs.Utf8.{is_utf8, utf8_answer}
-use Rattle.text.specs.Paper.{utf8_paper}
-use Rattle.text.specs.declared.utf8.Utf8.{Utf8}
-use Rattle.text.specs.declared.utf8.Utf8.TheVariants as U
-use Rattle.text.proofs.CharLaws.{told_text, told_broken}
+use Rattle.text.specs.Utf8.{is_utf8}
 use Rattle.text.proofs.Lists.{drop_take}
 use Rattle.text.proofs.ByteLaws.{none_empty, some_empty}
 use Rattle.pieces.specs.Pieces.{split, joined}
@@ -28,13 +25,14 @@ use Rattle.record.specs.declared.place.Record.{Record}
 use Rattle.line.specs.Line.{required, last_verdict, verdict, field_places, line_answer, read_answer}
 use Rattle.line.specs.Demands.{MayEnd}
 use Rattle.line.specs.Promises.{ReadsLine, KeepsNumbers}
-use Rattle.line.specs.declared.read.Read.TheVariants as R
+use Rattle.line.specs.declared.extent.Extent.{Extent}
+use Rattle.line.specs.declared.read.Refusal.TheVariants as R
 use Rattle.record.proofs.EndingLaws.{ending_numbered}
 use Rattle.record.proofs.NumberLaws.{record_values_lem}
 use Rattle.line.proofs.ReadLaws.{required_low, required_high}
 use Rattle.line.proofs.LineLaws.{read_line}
 use Rattle.line.proofs.ColumnLaws.{line_whole, line_refused, line_fine, last_cut, last_fed, fine_last, fine_order, fine_count}
-use Rattle.line.proofs.AnswerLaws.{keeps_line, keeps_empty, keeps_fed, keeps_cut, keeps_broken}
+use Rattle.line.proofs.AnswerLaws.{keeps_line, keeps_refused}
 use Rattle.line.proofs.CaseLaws.{read_record, read_empty, read_fed, read_cut, read_broken}
 use Rattle.line.proofs.Extents.{Found, found}
 use Rattle.splitter.specs.Inner.{Keeps, Seen, HasEnds}
@@ -52,7 +50,16 @@ returned_some e h = let f : return_feed ≡ nothing = sym (ap ending_of e) ∙ h
 
 -- ---- the line, and what is known of its tabs
 
-module _ {s : List ℕ} {at end : ℕ} {ending : DeclaredEnding} {next : ℕ} {r : Tabs} (g : Seen s at end ending next r) where
+module _ {s : List ℕ} {at : ℕ} {x : Extent} {r : Tabs} (g : Seen s at x r) where
+  abbrev end : ℕ
+  end = x.end
+
+  abbrev ending : DeclaredEnding
+  ending = x.ending
+
+  abbrev next : ℕ
+  next = x.next
+
   here : Found s at end (ending_of ending) next
   here = found s at g.found refl
 
@@ -107,7 +114,7 @@ module _ {s : List ℕ} {at end : ℕ} {ending : DeclaredEnding} {next : ℕ} {r
   unfolding columns text
   columns_end = let j = ap length (split_joined 9 text) in let e = here.ends in omega arith
 
-  pub judge_gap : r.gap < end → ReadsLine s at (R.Empty (r.gap + 1))
+  pub judge_gap : r.gap < end → ReadsLine s at (Err (R.Empty (r.gap + 1)))
   unfolding columns
   judge_gap h =
       let q = tabs.gap in
@@ -135,10 +142,10 @@ module _ {s : List ℕ} {at end : ℕ} {ending : DeclaredEnding} {next : ℕ} {r
       cut_verdict : verdict 1 at columns (ending_of ending) past ≡ pick (required (r.count + 1) || is_empty last.column) (refused 4 past) fine
       cut_verdict = judged ∙ ap (λ (x : DeclaredEnding). last_verdict (r.count + 1) last.column (ending_of x) past) e ∙ last_cut (r.count + 1) last.column past
 
-      pub judge_early_cut : {b : Bool} → b ≡ required (r.count + 1) → b ≡ true → ReadsLine s at (R.Cut next)
+      pub judge_early_cut : {b : Bool} → b ≡ required (r.count + 1) → b ≡ true → ReadsLine s at (Err (R.Cut next))
       judge_early_cut q t = read_cut refl ∙ refusal (cut_verdict ∙ rw (sym q ∙ t, past_is))
 
-      pub judge_empty_cut : r.last ≡ end → ReadsLine s at (R.Cut next)
+      pub judge_empty_cut : r.last ≡ end → ReadsLine s at (Err (R.Cut next))
       judge_empty_cut q = read_cut refl ∙ refusal (cut_verdict ∙ rw (last_empty q, or-true, past_is))
 
     -- or ended by an LF
@@ -146,24 +153,24 @@ module _ {s : List ℕ} {at end : ℕ} {ending : DeclaredEnding} {next : ℕ} {r
       fed_verdict : verdict 1 at columns (ending_of ending) past ≡ pick b (refused 3 past) (pick (is_empty last.column) (refused 2 past) fine)
       fed_verdict = rw q (judged ∙ last_fed (r.count + 1) last.column (ending_of ending) past n)
 
-      fed_early : b ≡ true → ReadsLine s at (R.Fed next)
+      fed_early : b ≡ true → ReadsLine s at (Err (R.Fed next))
       fed_early t = read_fed refl ∙ refusal (fed_verdict ∙ rw (t, past_is))
 
-      fed_empty : b ≡ false → r.last ≡ end → ReadsLine s at (R.Empty next)
+      fed_empty : b ≡ false → r.last ≡ end → ReadsLine s at (Err (R.Empty next))
       fed_empty t e = read_empty refl ∙ refusal (fed_verdict ∙ rw (t, last_empty e, past_is))
 
     module _ (e : ending ≡ E.Feed) {b : Bool} (q : b ≡ required (r.count + 1)) where
-      pub judge_early_fed : b ≡ true → ReadsLine s at (R.Fed next)
+      pub judge_early_fed : b ≡ true → ReadsLine s at (Err (R.Fed next))
       judge_early_fed = fed_early (fed_some e) q
 
-      pub judge_empty_fed : b ≡ false → r.last ≡ end → ReadsLine s at (R.Empty next)
+      pub judge_empty_fed : b ≡ false → r.last ≡ end → ReadsLine s at (Err (R.Empty next))
       judge_empty_fed = fed_empty (fed_some e) q
 
     module _ (e : ending ≡ E.ReturnFeed) {b : Bool} (q : b ≡ required (r.count + 1)) where
-      pub judge_early_returned : b ≡ true → ReadsLine s at (R.Fed next)
+      pub judge_early_returned : b ≡ true → ReadsLine s at (Err (R.Fed next))
       judge_early_returned = fed_early (returned_some e) q
 
-      pub judge_empty_returned : b ≡ false → r.last ≡ end → ReadsLine s at (R.Empty next)
+      pub judge_empty_returned : b ≡ false → r.last ≡ end → ReadsLine s at (Err (R.Empty next))
       judge_empty_returned = fed_empty (returned_some e) q
 
     -- ---- columns in order
@@ -177,8 +184,8 @@ module _ {s : List ℕ} {at end : ℕ} {ending : DeclaredEnding} {next : ℕ} {r
       unfolding past columns text
       answer = read_line s at g.inside ∙ ap (line_answer at) here.is ∙ line_fine at text (ending_of ending) here.rest order
 
-      pub judge_broken : {x : Utf8} → utf8_paper x ≡ utf8_answer (take (end - at) (drop at s)) → x ≡ U.Broken → ReadsLine s at (R.NotUtf8 next)
-      judge_broken u e = read_broken refl ∙ sym (answer ∙ rw (told_broken text (rw (e, stands) at u), past_is))
+      pub judge_broken : is_utf8 (take (end - at) (drop at s)) ≡ false → ReadsLine s at (Err (R.NotUtf8 next))
+      judge_broken u = let v : is_utf8 text ≡ false = rw stands at u in read_broken refl ∙ sym (answer ∙ rw (v, past_is))
 
       module _ {y : Record} (f : HasEnds at end ending r y) where
         many : MayEnd (length columns)
@@ -189,17 +196,18 @@ module _ {s : List ℕ} {at end : ℕ} {ending : DeclaredEnding} {next : ℕ} {r
         unfolding columns
         full = (fine_order 1 at columns (ending_of ending) past (split_some 9 text) order).full
 
-        pub judge_kept : KeepsNumbers (R.Line y next)
+        pub judge_kept : KeepsNumbers (Ok (y, next))
         judge_kept = keeps_line y next (numbers_kept at end columns columns_end tabs.ends y f.numbers many full)
 
-        pub judge_line : {x : Utf8} → utf8_paper x ≡ utf8_answer (take (end - at) (drop at s)) → x ≡ U.Text → ReadsLine s at (R.Line y next)
+        pub judge_line : is_utf8 (take (end - at) (drop at s)) ≡ true → ReadsLine s at (Ok (y, next))
         unfolding text
-        judge_line u e =
+        judge_line u =
+            let v : is_utf8 text ≡ true = rw stands at u in
             let p = places_are at end columns columns_end tabs.ends y f.numbers many in
             let z : at + length text ≡ end = sym here.ends in
             read_record refl
             ∙ rw (record_values_lem y, ending_numbered f.ended, p)
-            (sym (answer ∙ rw (told_text text (rw (e, stands) at u), past_is, z)))
+            (sym (answer ∙ rw (v, past_is, z)))
 
 pub ruleset laws =
-    (end_after, end_within, count_few, judge_gap, judge_early_cut, judge_empty_cut, judge_early_fed, judge_empty_fed, judge_early_returned, judge_empty_returned, judge_broken, judge_kept, judge_line, keeps_empty, keeps_fed, keeps_cut, keeps_broken, required_low, required_high)
+    (end_after, end_within, count_few, judge_gap, judge_early_cut, judge_empty_cut, judge_early_fed, judge_empty_fed, judge_early_returned, judge_empty_returned, judge_broken, judge_kept, judge_line, keeps_refused, required_low, required_high)

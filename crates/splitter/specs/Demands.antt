@@ -1,14 +1,13 @@
 -- What is asked of a second reader of lines beside the first (docs/RULES.md, "A line"; docs/STATEMENTS.md). Assumes nothing.
-use Rattle.std.specs.Prelude.{ℕ, ◌≡◌, List}
+use Rattle.std.specs.Prelude.{ℕ, ◌≡◌, List, Ok, Err}
 use Rattle.text.specs.Answer.{number_of}
 use Rattle.record.specs.Place.{range_of}
 use Rattle.record.specs.declared.place.Record.{Record}
 use Rattle.record.specs.declared.place.Name.{Name}
-use Rattle.line.specs.Paper.{read_paper}
+use Rattle.line.specs.Paper.{Read, read_paper}
 use Rattle.line.specs.Promises.{ReadsLine, KeepsNumbers}
 use Rattle.line.specs.Demands.{Reader, Meets}
-use Rattle.line.specs.declared.read.Read.{Read}
-use Rattle.line.specs.declared.read.Read.TheVariants as R
+use Rattle.line.specs.declared.read.Refusal.TheVariants as R
 
 -- a function of an input and a place whose answers are of the line reader's type
 abbrev pub Splitter : Type 0
@@ -22,13 +21,13 @@ pub record Contract (read : Splitter) : Type 0 where
 -- ---- alike
 
 abbrev pub next_of : Read → ℕ
-next_of (R.Line r next) = next
-next_of (R.End next) = next
-next_of (R.Empty next) = next
-next_of (R.Fed next) = next
-next_of (R.Cut next) = next
-next_of (R.NotUtf8 next) = next
-next_of (R.Beyond next) = next
+next_of (Ok (r, next)) = next
+next_of (Err (R.End next)) = next
+next_of (Err (R.Empty next)) = next
+next_of (Err (R.Fed next)) = next
+next_of (Err (R.Cut next)) = next
+next_of (Err (R.NotUtf8 next)) = next
+next_of (Err (R.Beyond next)) = next
 
 -- two lines have one ending, and one place for each column
 pub record SameLine (r q : Record) : Type 0 where
@@ -39,7 +38,7 @@ pub record SameLine (r q : Record) : Type 0 where
 pub record Alike (one other : Read) : Type 0 where
   pub number : number_of (read_paper one) ≡ number_of (read_paper other)
   pub next : next_of one ≡ next_of other
-  pub lines : (r q : Record) (m n : ℕ) → one ≡ R.Line r m → other ≡ R.Line q n → SameLine r q
+  pub lines : (r q : Record) (m n : ℕ) → one ≡ Ok (r, m) → other ≡ Ok (q, n) → SameLine r q
   pub same : one ≡ other
 
 -- so answer any two that meet the contract, to every input and place

@@ -1,11 +1,11 @@
 -- What the steps of this crate promise each other. Assumes nothing.
-use Rattle.std.specs.Prelude.{ℕ, ◌+◌, ◌<◌, ◌≡◌, List, [], ◌∷◌, ◌++◌, length, get_or, take, drop, eqb}
+use Rattle.std.specs.Prelude.{ℕ, ◌+◌, ◌<◌, ◌≡◌, List, [], ◌∷◌, ◌++◌, length, get_or, take, drop, eqb, Ok}
 use Rattle.text.specs.Pick.{pick}
 use Rattle.record.specs.Paper.{record_numbers}
 use Rattle.record.specs.declared.ending.Ending.{Ending}
 use Rattle.record.specs.declared.place.Record.{Record}
 use Rattle.line.specs.Promises.{FindsLine}
-use Rattle.line.specs.declared.extent.Lined.TheVariants as L
+use Rattle.line.specs.declared.extent.Extent.{Extent}
 use Rattle.splitter.specs.declared.split.Tabs.{Tabs}
 
 -- ---- the tabs of a line
@@ -40,10 +40,10 @@ pub record Keeps (tabs : List ℕ) (at end : ℕ) (r : Tabs) : Type 0 where
 -- ---- before the columns are judged
 
 -- the place lies in the input, and the first two steps were taken
-pub record Seen (s : List ℕ) (at end : ℕ) (ending : Ending) (next : ℕ) (r : Tabs) : Type 0 where
+pub record Seen (s : List ℕ) (at : ℕ) (x : Extent) (r : Tabs) : Type 0 where
   pub inside : at < length s
-  pub found : FindsLine s at (L.At end ending next)
-  pub tabs : Keeps (tabs_from at (drop at (take end s))) at end r
+  pub found : FindsLine s at (Ok x)
+  pub tabs : Keeps (tabs_from at (drop at (take x.end s))) at x.end r
 
 -- ---- the record
 

@@ -4,37 +4,53 @@
 //
 // A line is columns with one tab between each two: CHROM, POS, ID, REF, ALT, QUAL, FILTER, INFO, and then, if there are samples,
 // FORMAT and a column for each sample. It ends in LF, in CR LF, or where the input ends.
-ghost use Rattle.std.specs.Prelude.{◌≡◌, ◌≤◌, length, drop};
+ghost use Rattle.std.specs.Prelude.{◌≡◌, ◌≤◌, MatchOption, length, drop};
 ghost use Rattle.line.specs.Line.{required};
+ghost use Rattle.line.specs.Demands.{FirstFeed, NoFeed};
 ghost use Rattle.line.specs.Promises.{FindsLine, ReadsLine, KeepsNumbers};
 ghost use Rattle.splitter.specs.Inner.{tabs_from, Keeps, Seen, HasEnds};
 
-use line::extent::Lined;
-use line::read::Read;
+use line::extent::{Beyond, Extent};
+use line::read::Refusal;
 use record::ending::Ending;
-use record::place::{Record, make_record};
-use text::utf8::{Utf8, check_utf8};
+use record::place::Record;
+use text::utf8::check_utf8;
+
+// The first LF from `at` on.
+fn find_feed(s: &[u8], at: usize) -> Option<usize>
+    ensures { MatchOption result (NoFeed s.now at) (λ feed. FirstFeed s.now at feed) }
+{
+    (at..s.len()).find(|i| s[*i] == b'\n')
+}
 
 // Step 1: the end of the line that starts at `at`: where its text ends, how it ended, and where the next line starts. It ends at
 // the first LF, or at the end of the input. A CR right before the LF belongs to the ending, not to the text.
-fn find_end(s: &[u8], at: usize) -> Lined
+fn find_end(s: &[u8], at: usize) -> Result<Extent, Beyond>
     ensures { FindsLine s.now at result }
 {
     if at > s.len() {
-        return Lined::Beyond;
+        return Err(Beyond);
     }
-    let mut feed = at;
-    while feed < s.len() && s[feed] != b'\n' {
-        feed += 1;
-    }
-    if feed == s.len() {
-        return Lined::At(feed, Ending::Nothing, feed);
-    }
+    let Some(feed) = find_feed(s, at) else {
+        return Ok(Extent {
+            end: s.len(),
+            ending: Ending::Nothing,
+            next: s.len(),
+        });
+    };
     let next = feed + 1;
     if feed > at && s[feed - 1] == b'\r' {
-        return Lined::At(feed - 1, Ending::ReturnFeed, next);
+        return Ok(Extent {
+            end: feed - 1,
+            ending: Ending::ReturnFeed,
+            next,
+        });
     }
-    Lined::At(feed, Ending::Feed, next)
+    Ok(Extent {
+        end: feed,
+        ending: Ending::Feed,
+        next,
+    })
 }
 
 // What step 2 keeps of a line's tabs. A line may have any number of them, so it does not keep them all.
@@ -60,8 +76,7 @@ fn find_tabs(t: &[u8], at: usize) -> Tabs
     let mut ends = [end; 9];
     let mut gap = end;
     let mut start = at;
-    let mut i = at;
-    while i < end {
+    for i in at..end {
         if t[i] == b'\t' {
             if count < 9 {
                 ends[count] = i;
@@ -72,7 +87,6 @@ fn find_tabs(t: &[u8], at: usize) -> Tabs
             count += 1;
             start = i + 1;
         }
-        i += 1;
     }
     Tabs {
         count,
@@ -82,40 +96,40 @@ fn find_tabs(t: &[u8], at: usize) -> Tabs
     }
 }
 
-// Step 3: the columns, judged from left to right. The text ends at `end`, and the next line starts at `next`.
-fn judge(s: &[u8], at: usize, end: usize, ending: Ending, next: usize, tabs: Tabs) -> Read
-    requires { Seen s.now at end ending next tabs }
+// Step 3: the columns, judged from left to right.
+fn judge(s: &[u8], at: usize, line: Extent, tabs: Tabs) -> Result<(Record, usize), Refusal>
+    requires { Seen s.now at line tabs }
     ensures reads_line { ReadsLine s.now at result }
     ensures keeps_numbers { KeepsNumbers result }
 {
+    let Extent { end, ending, next } = line;
     // 2: a column that a tab ends is empty.
     if tabs.gap < end {
-        return Read::Empty(tabs.gap + 1);
+        return Err(Refusal::Empty(tabs.gap + 1));
     }
     // 4 or 3: the last column, whose number is one more than there are tabs, is one that needs a tab behind it.
     if needs_tab(tabs.count + 1) {
         return match ending {
-            Ending::Nothing => Read::Cut(next),
-            Ending::Feed => Read::Fed(next),
-            Ending::ReturnFeed => Read::Fed(next),
+            Ending::Nothing => Err(Refusal::Cut(next)),
+            Ending::Feed | Ending::ReturnFeed => Err(Refusal::Fed(next)),
         };
     }
     // 4 or 2: it is empty.
     if tabs.last == end {
         return match ending {
-            Ending::Nothing => Read::Cut(next),
-            Ending::Feed => Read::Empty(next),
-            Ending::ReturnFeed => Read::Empty(next),
+            Ending::Nothing => Err(Refusal::Cut(next)),
+            Ending::Feed | Ending::ReturnFeed => Err(Refusal::Empty(next)),
         };
     }
-    // 0 or 5: all columns are in order, and only UTF-8 is left to judge.
-    match check_utf8(&s[at..end]) {
-        Utf8::Text => Read::Line(record_of(at, end, ending, tabs), next),
-        Utf8::Broken => Read::NotUtf8(next),
+    // 5 or 0: all columns are in order, and only UTF-8 is left to judge.
+    if check_utf8(&s[at..end]).is_err() {
+        return Err(Refusal::NotUtf8(next));
     }
+    Ok((record_of(at, end, ending, tabs), next))
 }
 
 // Columns 1 to 7, and column 9, which is FORMAT, must be ended by a tab.
+// Kept beside the reader's own test: this crate calls nothing of the reader, so that it can be read by itself (docs/DECISIONS.md).
 fn needs_tab(number: usize) -> bool
     ensures { result ≡ required number }
 {
@@ -140,22 +154,20 @@ fn record_of(at: usize, end: usize, ending: Ending, tabs: Tabs) -> Record
         tabs.ends[8],
         end,
     ];
-    make_record(ending, numbers)
+    Record::new(ending, numbers)
 }
 
 // Splits the line at a place: one step after the other.
-pub fn split_line(s: &[u8], at: usize) -> Read
+pub fn split_line(s: &[u8], at: usize) -> Result<(Record, usize), Refusal>
     ensures reads_line { ReadsLine s.now at result }
     ensures keeps_numbers { KeepsNumbers result }
 {
     if at == s.len() {
-        return Read::End(at);
+        return Err(Refusal::End(at));
     }
-    match find_end(s, at) {
-        Lined::At(end, ending, next) => {
-            let tabs = find_tabs(&s[..end], at);
-            judge(s, at, end, ending, next, tabs)
-        }
-        Lined::Beyond => Read::Beyond(at),
-    }
+    let Ok(line) = find_end(s, at) else {
+        return Err(Refusal::Beyond(at));
+    };
+    let tabs = find_tabs(&s[..line.end], at);
+    judge(s, at, line, tabs)
 }

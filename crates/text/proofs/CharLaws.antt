@@ -11,12 +11,13 @@ use lib.ListN.{length, get_or, take, drop, length-drop, length-take, get_or-eq_d
 use lib.Dec.{leb, eqb}
 use lib.Seq.{take_at, drop-drop, get_or-drop}
 use borrow.Author.Tests.{eqb-true, leb-true, lt-leb}
+use Rattle.std.specs.Prelude.{Ok, Err}
 use Rattle.text.specs.Pick.{pick, within}
 use Rattle.text.specs.Answer.{says}
 use Rattle.text.specs.Utf8.{Row, row, table, Lead, lead, lead_in, lead_of, further, second, follows, is_char, size_by, char_size, before, chars_from, chars_of, there, is_utf8, utf8_answer}
 use Rattle.text.specs.Inner.{CharAt}
 use Rattle.text.specs.Paper.{utf8_paper}
-use Rattle.text.specs.declared.utf8.Utf8.TheVariants.{Text, Broken}
+use Rattle.text.specs.declared.utf8.NotUtf8.{NotUtf8}
 use Rattle.text.proofs.Lists.{here}
 use Rattle.text.proofs.Utf8Laws.{under, alone, size_cut, size_second, size_third, size_fourth}
 
@@ -241,7 +242,7 @@ module _ {s : List ℕ} {i n : ℕ} (h : i < length s) (g : CharAt s i n) where
   char_none z = chars_stop (drop i s) (let d = length-drop i s in omega arith) (sym g.size ∙ z)
 
 -- what each verdict tells
-pub told_text : (t : List ℕ) → utf8_paper Text ≡ utf8_answer t → is_utf8 t ≡ true
+pub told_text : (t : List ℕ) {u : Unit} → utf8_paper (Ok u) ≡ utf8_answer t → is_utf8 t ≡ true
 unfolding utf8_paper utf8_answer
 told_text t e = by (is_utf8 t) e
   where
@@ -249,7 +250,7 @@ told_text t e = by (is_utf8 t) e
     by true e = refl
     by false e = cc
 
-pub told_broken : (t : List ℕ) → utf8_paper Broken ≡ utf8_answer t → is_utf8 t ≡ false
+pub told_broken : (t : List ℕ) {no : NotUtf8} → utf8_paper (Err no) ≡ utf8_answer t → is_utf8 t ≡ false
 unfolding utf8_paper utf8_answer
 told_broken t e = by (is_utf8 t) e
   where

@@ -2,7 +2,7 @@
 use Prim.Native.Nat.{ℕ, ◌+◌, ◌-◌, ◌<◌, ◌≤◌}
 use mathlib.Core.Path.{◌≡◌, refl, ap, ◌∙◌}
 use mathlib.Core.Bool.{Bool, true, false}
-use mathlib.Core.List.{List, [], ◌∷◌}
+use mathlib.Core.List.{List, [], ◌∷◌, ◌++◌}
 use native.Mathlib.Omega.{arith}
 use native.Mathlib.Decide.{dec_le}
 use native.Mathlib.Numerals.{add-one}
@@ -11,12 +11,12 @@ use lib.Seq.{sets, drop-cons}
 use lib.Dec.{eqb}
 use borrow.Author.Tests.{le-leb, lt-leb, ne_eqb}
 use borrow.Rule.Slice.PartMut.{put_mid}
+use Rattle.std.specs.Prelude.{Result, Ok, Err}
 use Rattle.text.specs.Pick.{pick}
 use Rattle.text.specs.Answer.{says, Answer, number_of}
 use Rattle.text.specs.Over.{over, over_at, room_for, room_answer, Writes, laid, laid_at}
 use Rattle.text.specs.Paper.{written_paper}
-use Rattle.text.specs.declared.copy.Written.{Written}
-use Rattle.text.specs.declared.copy.Written.TheVariants.{Done, Short}
+use Rattle.text.specs.declared.copy.NoRoom.{NoRoom}
 use Rattle.text.proofs.Lists.{sets_over, rest_put, rest_back}
 
 -- i bytes of vs are copied, and l stands where l₀ stood
@@ -38,7 +38,7 @@ copy_turn {vs} {l₀} {l} {i} g h =
       same = rw add-one (rw (drop-cons vs i 0 h) at g.same);
     }
 
-pub copy_past : {vs l₀ l : List ℕ} {i : ℕ} → Copying vs l₀ l i → length vs ≤ i → Writes vs l₀ (Done i) l
+pub copy_past : {vs l₀ l : List ℕ} {i : ℕ} → Copying vs l₀ l i → length vs ≤ i → Writes vs l₀ (Ok i) l
 unfolding room_answer written_paper
 copy_past {vs} {l₀} {l} {i} g h =
     let e : i ≡ length vs = omega arith in
@@ -47,7 +47,16 @@ copy_past {vs} {l₀} {l} {i} g h =
       bytes = rw (le-leb _ _ g.fits) ((rw (drop_of_length-le vs h) at g.same) ∙ sets_over vs l₀ g.fits);
     }
 
-pub copy_short : {vs l : List ℕ} → length l < length vs → Writes vs l Short l
+-- all of vs copied at once
+pub copy_whole : {vs l xs : List ℕ} → length vs ≤ length l → xs ≡ vs → Writes vs l (Ok (length vs)) (xs ++ drop (length vs) l)
+unfolding room_answer written_paper over
+copy_whole h e = record { answer = rw (le-leb _ _ h); bytes = rw (e, le-leb _ _ h) }
+
+pub copy_done : {vs l l' : List ℕ} {n : ℕ} → length vs ≤ length l → n ≡ length vs → l' ≡ over vs l → Writes vs l (Ok n) l'
+unfolding room_answer written_paper
+copy_done h c e = record { answer = rw (c, le-leb _ _ h); bytes = rw (le-leb _ _ h) e }
+
+pub copy_short : {vs l : List ℕ} {no : NoRoom} → length l < length vs → Writes vs l (Err no) l
 unfolding room_answer written_paper
 copy_short h = record { answer = rw (lt-leb _ _ h); bytes = rw (lt-leb _ _ h) }
 
@@ -69,7 +78,7 @@ pub room_sized : (vs l : List ℕ) {n : ℕ} → n ≡ length vs → room_for n 
 unfolding room_answer
 room_sized vs l e = rw e
 
-pub writes_fits : {vs l l' : List ℕ} {r : Written} → Writes vs l r l' → length vs ≤ length l → l' ≡ over vs l
+pub writes_fits : {vs l l' : List ℕ} {r : Result ℕ NoRoom} → Writes vs l r l' → length vs ≤ length l → l' ≡ over vs l
 unfolding room_answer
 writes_fits w h = w.bytes ∙ rw (le-leb _ _ h)
 
@@ -88,4 +97,4 @@ rest_laid a at vs l ys e = by (eqb (number_of a) 0) e
     by true e = rest_put at vs l ys e
     by false e = rest_back at l ys e
 
-pub ruleset laws = (copy_first, copy_turn, copy_past, copy_short)
+pub ruleset laws = (copy_whole, copy_short)

@@ -1,39 +1,36 @@
 -- Any two outcomes that a contract of this crate allows are equal: `paper` is injective. Assumes nothing.
 use mathlib.Core.Path.{◌≡◌, refl, sym, ◌∙◌}
+use Prim.Native.Nat.{ℕ}
+use mathlib.Core.Bool.{Bool, true, false}
+use Rattle.std.specs.Prelude.{Result, Ok, Err}
 use Rattle.text.specs.Paper.{written_paper, utf8_paper, space_paper}
 use Rattle.text.specs.Promises.{Determined}
-use Rattle.text.specs.declared.copy.Written.{Written}
-use Rattle.text.specs.declared.copy.Written.TheVariants as W
-use Rattle.text.specs.declared.utf8.Utf8.{Utf8}
-use Rattle.text.specs.declared.utf8.Utf8.TheVariants as U
-use Rattle.text.specs.declared.space.Space.{Space}
-use Rattle.text.specs.declared.space.Space.TheVariants as S
+use Rattle.text.specs.declared.copy.NoRoom.{NoRoom}
+use Rattle.text.specs.declared.utf8.NotUtf8.{NotUtf8}
 
-pub written_paper_injective : (r r' : Written) → written_paper r ≡ written_paper r' → r ≡ r'
+pub written_paper_injective : (r r' : Result ℕ NoRoom) → written_paper r ≡ written_paper r' → r ≡ r'
 unfolding written_paper
-written_paper_injective (W.Done n) (W.Done m) e = cc
-written_paper_injective (W.Done n) W.Short e = cc
-written_paper_injective W.Short (W.Done m) e = cc
-written_paper_injective W.Short W.Short e = refl
+written_paper_injective (Ok n) (Ok m) e = cc
+written_paper_injective (Ok n) (Err d) e = cc
+written_paper_injective (Err d) (Ok m) e = cc
+written_paper_injective (Err d) (Err d') e = refl
 
-pub utf8_paper_injective : (r r' : Utf8) → utf8_paper r ≡ utf8_paper r' → r ≡ r'
+pub utf8_paper_injective : (r r' : Result Unit NotUtf8) → utf8_paper r ≡ utf8_paper r' → r ≡ r'
 unfolding utf8_paper
-utf8_paper_injective U.Text U.Text e = refl
-utf8_paper_injective U.Text U.Broken e = cc
-utf8_paper_injective U.Broken U.Text e = cc
-utf8_paper_injective U.Broken U.Broken e = refl
+utf8_paper_injective (Ok u) (Ok v) e = refl
+utf8_paper_injective (Ok u) (Err d) e = cc
+utf8_paper_injective (Err d) (Ok v) e = cc
+utf8_paper_injective (Err d) (Err d') e = refl
 
-pub space_paper_injective : (r r' : Space) → space_paper r ≡ space_paper r' → r ≡ r'
+pub space_paper_injective : (r r' : Result Bool NotUtf8) → space_paper r ≡ space_paper r' → r ≡ r'
 unfolding space_paper
-space_paper_injective S.Broken S.Broken e = refl
-space_paper_injective S.Broken S.Held e = cc
-space_paper_injective S.Broken S.Free e = cc
-space_paper_injective S.Held S.Broken e = cc
-space_paper_injective S.Held S.Held e = refl
-space_paper_injective S.Held S.Free e = cc
-space_paper_injective S.Free S.Broken e = cc
-space_paper_injective S.Free S.Held e = cc
-space_paper_injective S.Free S.Free e = refl
+space_paper_injective (Ok true) (Ok true) e = refl
+space_paper_injective (Ok true) (Ok false) e = cc
+space_paper_injective (Ok false) (Ok true) e = cc
+space_paper_injective (Ok false) (Ok false) e = refl
+space_paper_injective (Ok h) (Err d) e = cc
+space_paper_injective (Err d) (Ok h) e = cc
+space_paper_injective (Err d) (Err d') e = refl
 
 pub determined : Determined
 determined =

@@ -7,13 +7,13 @@ use mathlib.Core.List.{List, [], ◌∷◌}
 use mathlib.Core.Option.{Option, some, none}
 use native.Mathlib.Omega.{arith}
 use lib.ListN.{length, get_or}
+use Rattle.std.specs.Prelude.{Result, Ok, Err}
 use Rattle.text.specs.Pick.{one_if}
 use Rattle.text.specs.Answer.{says}
 use Rattle.text.specs.Utf8.{chars_of}
 use Rattle.text.specs.Space.{code_point, is_space, any_space, spaced_answer, space_answer}
 use Rattle.text.specs.Paper.{space_paper}
-use Rattle.text.specs.declared.space.Space.{Space}
-use Rattle.text.specs.declared.space.Space.TheVariants as S
+use Rattle.text.specs.declared.utf8.NotUtf8.{NotUtf8}
 
 -- ---- for each answer
 
@@ -37,8 +37,8 @@ searched t held e = by (chars_of t) refl e
     by none q e = absurd (let z : ◌≡◌ {A = ℕ} 0 5 = cc in omega arith)
     by (some cs) q e = record { chars = cs; are = q; any = picked (any_space cs) held (cc) }
 
-module _ (t : List ℕ) {r : Space} (e : space_paper r ≡ space_answer t) where
-  pub found_broken : r ≡ S.Broken → chars_of t ≡ none
+module _ (t : List ℕ) {r : Result Bool NotUtf8} (e : space_paper r ≡ space_answer t) where
+  pub found_broken : {no : NotUtf8} → r ≡ Err no → chars_of t ≡ none
   unfolding space_paper space_answer spaced_answer
   found_broken f = by (chars_of t) (rw f at e)
     where
@@ -46,11 +46,11 @@ module _ (t : List ℕ) {r : Space} (e : space_paper r ≡ space_answer t) where
       by none e = refl
       by (some cs) e = absurd (let z : ◌≡◌ {A = ℕ} 5 0 = cc in omega arith)
 
-  pub found_held : r ≡ S.Held → Searched t true
+  pub found_held : r ≡ Ok true → Searched t true
   unfolding space_paper
   found_held f = searched t true (rw f at e)
 
-  pub found_free : r ≡ S.Free → Searched t false
+  pub found_free : r ≡ Ok false → Searched t false
   unfolding space_paper
   found_free f = searched t false (rw f at e)
 

@@ -60,6 +60,11 @@ rest_put a vs l ys e =
     let n : length (drop a l) ≤ length l - a = simp length-drop (le_refl _) in
     rw (e, rest_all l a, drop_of_length-le (drop a l) n, append-nil)
 
+-- and into a part that is as long as they are
+pub part_put : (a : ℕ) (vs l ys : List ℕ) → ys ≡ vs → put_mid a (a + length vs - a) l ys ≡ over_at a vs l
+unfolding over_at over
+part_put a vs l ys e = let n : a + length vs - a ≡ length vs = omega arith in rw (e, n)
+
 -- ---- `over` and `over_at`
 
 pub over_is : {X : Type 0} (vs l : List X) → over vs l ≡ vs ++ drop (length vs) l

@@ -6,11 +6,12 @@ use mathlib.Core.List.{List}
 use native.Mathlib.Omega.{arith}
 use native.Mathlib.Nat.{add-zero}
 use lib.ListN.{length, get_or, take, drop, drop_of_length-le}
+use Rattle.std.specs.Prelude.{Ok, Err}
 use Rattle.text.specs.Flags.{Plain, Each, TellsOf}
 use Rattle.text.specs.Utf8.{chars_from, chars_of, there, is_utf8, utf8_answer}
 use Rattle.text.specs.Inner.{CharAt, Passes}
 use Rattle.text.specs.Paper.{utf8_paper}
-use Rattle.text.specs.declared.utf8.Utf8.TheVariants.{Text, Broken}
+use Rattle.text.specs.declared.utf8.NotUtf8.{NotUtf8}
 use Rattle.text.proofs.CharLaws.{at_alone, there_before, char_next, char_none}
 
 -- ---- characters passed
@@ -63,11 +64,11 @@ module _ {s : List ℕ} {i n : ℕ} (c : Passes s 0 i) (h : i < length s) (g : C
   pub check_turn : (n ≡ 0 → ⊥) → Passes s 0 (i + n)
   check_turn z = pass_on c (pass_char h g z)
 
-  pub check_stop : n ≡ 0 → utf8_paper Broken ≡ utf8_answer s
+  pub check_stop : {no : NotUtf8} → n ≡ 0 → utf8_paper (Err no) ≡ utf8_answer s
   unfolding utf8_paper utf8_answer is_utf8 there
   check_stop z = rw (← c.same, char_none h g z)
 
-pub check_past : {s : List ℕ} {i : ℕ} → Passes s 0 i → length s ≤ i → utf8_paper Text ≡ utf8_answer s
+pub check_past : {s : List ℕ} {i : ℕ} {u : Unit} → Passes s 0 i → length s ≤ i → utf8_paper (Ok u) ≡ utf8_answer s
 unfolding utf8_paper utf8_answer is_utf8 there chars_of chars_from
 check_past {s} c h = rw (← c.same, drop_of_length-le s h)
 

@@ -1,14 +1,12 @@
--- Two texts are the same bytes exactly when they are equal; the loop compares what is left of both. Assumes nothing.
-use Prim.Native.Nat.{ℕ, ◌+◌, ◌<◌, ◌≤◌}
-use mathlib.Core.Path.{◌≡◌, refl, sym, ◌∙◌, ap}
+-- Two texts are the same bytes exactly when they are equal, and when they are pair by pair. Assumes nothing.
+use Prim.Native.Nat.{ℕ}
+use mathlib.Core.Path.{◌≡◌, refl, sym, ◌∙◌}
 use mathlib.Core.Bool.{Bool, true, false, and-true, false≢true}
 use mathlib.Core.List.{List, [], ◌∷◌}
-use native.Mathlib.Omega.{arith}
-use lib.ListN.{length, get_or, drop, drop_of_length-le}
 use lib.Dec.{eqb}
+use lib.Pointwise.{pointwise}
 use borrow.Author.Tests.{eq-eqb, ne_eqb, eqb-true}
 use Rattle.text.specs.Same.{same}
-use Rattle.text.proofs.Lists.{here}
 
 -- ---- clauses
 
@@ -58,33 +56,14 @@ same_not s t n = by (same s t) refl
 pub same_other : (s t : List ℕ) → same s t ≡ false → s ≡ t → ⊥
 same_other s t q e = false≢true (sym q ∙ (rw e (same_self t)))
 
--- ---- the loop
+-- ---- compared pair by pair
 
--- up to i the two are the same
-pub record Comparing (s t : List ℕ) (i : ℕ) : Type 0 where
-  pub long : length s ≡ length t
-  pub within : i ≤ length s
-  pub same_rest : same (drop i s) (drop i t) ≡ same s t
+same_pairs : (s t : List ℕ) → pointwise eqb s t ≡ same s t
+unfolding same
+same_pairs [] [] = refl
+same_pairs [] (b ∷ t) = refl
+same_pairs (a ∷ s) [] = refl
+same_pairs (a ∷ s) (b ∷ t) = rw (same_pairs s t)
 
-pub compare_first : (s t : List ℕ) → length s ≡ length t → Comparing s t 0
-compare_first s t h = record { long = h; within = omega arith; same_rest = refl }
-
-pub compare_lengths : (s t : List ℕ) → (length s ≡ length t → ⊥) → false ≡ same s t
-compare_lengths s t n = sym (same_not s t (λ e. n (ap length e)))
-
-module _ (s t : List ℕ) (i : ℕ) (g : Comparing s t i) where
-  pub compare_turn : i < length s → get_or s i 0 ≡ get_or t i 0 → Comparing s t (i + 1)
-  compare_turn h e =
-      record {
-        long = g.long;
-        within = omega arith;
-        same_rest = sym (same_step _ _ _ _ e) ∙ (rw (here s i h, here t i (let l = g.long in omega arith)) at g.same_rest);
-      }
-
-  pub compare_stop : i < length s → (get_or s i 0 ≡ get_or t i 0 → ⊥) → false ≡ same s t
-  compare_stop h n = sym (same_differ _ _ _ _ n) ∙ (rw (here s i h, here t i (let l = g.long in omega arith)) at g.same_rest)
-
-  pub compare_past : length s ≤ i → true ≡ same s t
-  compare_past h = sym same_none ∙ (rw (drop_of_length-le s h, drop_of_length-le t {i = i} (let l = g.long in omega arith)) at g.same_rest)
-
-pub ruleset laws = (compare_first, compare_lengths, compare_turn, compare_stop, compare_past)
+pub told_pairs : (s t : List ℕ) {r : Bool} → r ≡ pointwise eqb s t → r ≡ same s t
+told_pairs s t e = e ∙ same_pairs s t

@@ -10,15 +10,14 @@ use native.Mathlib.Omega.{arith}
 use native.Mathlib.Decide.{dec_lt}
 use lib.ListN.{length, get_or, take, drop, drop_of_length-le}
 use types.Run.{OneOf}
+use Rattle.std.specs.Prelude.{Ok, Err}
 use Rattle.text.specs.Answer.{says}
 use Rattle.text.specs.Pick.{within}
 use Rattle.text.specs.Utf8.{before, chars_of, chars_from, is_utf8, there, utf8_answer}
 use Rattle.text.specs.Space.{code_point, Span, span, in_any, spaces, is_space, any_space, spaced_answer, space_answer}
 use Rattle.text.specs.Inner.{CharAt}
 use Rattle.text.specs.Paper.{utf8_paper, space_paper}
-use Rattle.text.specs.declared.utf8.Utf8.{Utf8}
-use Rattle.text.specs.declared.utf8.Utf8.TheVariants as U
-use Rattle.text.specs.declared.space.Space.TheVariants as S
+use Rattle.text.specs.declared.utf8.NotUtf8.{NotUtf8}
 use Rattle.text.proofs.Lists.{onward, rest_all}
 use Rattle.text.proofs.Utf8Laws.{inside, under, above}
 use Rattle.text.proofs.CharLaws.{char_next, char_none, told_text, told_broken}
@@ -151,7 +150,7 @@ broken none t = refl
 broken (some cs) t = cc
 
 module _ {s : List ℕ} {i n : ℕ} (k : Seeking s i) (h : i < length s) (g : CharAt s i n) where
-  pub seek_stop : n ≡ 0 → space_paper S.Broken ≡ space_answer s
+  pub seek_stop : {no : NotUtf8} → n ≡ 0 → space_paper (Err no) ≡ space_answer s
   unfolding space_paper space_answer spaced_answer
   seek_stop z = sym (ap spaced_answer (char_none h g z)) ∙ k.same
 
@@ -167,19 +166,19 @@ module _ {s : List ℕ} {i n : ℕ} (k : Seeking s i) (h : i < length s) (g : Ch
           same = sym (free_before (take n (drop i s)) _ (code_is ∙ w)) ∙ ap spaced_answer (sym (char_next h g z)) ∙ k.same;
         }
 
-    pub seek_held : {r : Utf8} → t ≡ true → utf8_paper r ≡ utf8_answer (take (length s - i) (drop i s)) → r ≡ U.Text → space_paper S.Held ≡ space_answer s
+    pub seek_held : {u : Unit} → t ≡ true → utf8_paper (Ok u) ≡ utf8_answer (take (length s - i) (drop i s)) → space_paper (Ok true) ≡ space_answer s
     unfolding space_paper space_answer is_utf8
-    seek_held w u q =
+    seek_held w j =
         let v : there (before (take n (drop i s)) (chars_of (drop (i + n) s))) ≡ true =
-        ap there (sym (char_next h g z)) ∙ told_text (drop i s) (rw (q, rest_all s i) at u) in
+        ap there (sym (char_next h g z)) ∙ told_text (drop i s) (rw (rest_all s i) at j) in
         sym (ap spaced_answer (char_next h g z) ∙ held_before (take n (drop i s)) _ (code_is ∙ w) v) ∙ k.same
 
-pub seek_broken : {s : List ℕ} {i : ℕ} {r : Utf8} → Seeking s i → utf8_paper r ≡ utf8_answer (take (length s - i) (drop i s)) → r ≡ U.Broken
-    → space_paper S.Broken ≡ space_answer s
+pub seek_broken : {s : List ℕ} {i : ℕ} {no : NotUtf8} → Seeking s i → utf8_paper (Err no) ≡ utf8_answer (take (length s - i) (drop i s))
+    → space_paper (Err no) ≡ space_answer s
 unfolding space_paper space_answer is_utf8
-seek_broken {s} {i} k u q = sym (broken (chars_of (drop i s)) (told_broken (drop i s) (rw (q, rest_all s i) at u))) ∙ k.same
+seek_broken {s} {i} k e = sym (broken (chars_of (drop i s)) (told_broken (drop i s) (rw (rest_all s i) at e))) ∙ k.same
 
-pub seek_past : {s : List ℕ} {i : ℕ} → Seeking s i → length s ≤ i → space_paper S.Free ≡ space_answer s
+pub seek_past : {s : List ℕ} {i : ℕ} → Seeking s i → length s ≤ i → space_paper (Ok false) ≡ space_answer s
 unfolding space_paper space_answer spaced_answer chars_of chars_from any_space
 seek_past {s} k h = (rw (drop_of_length-le s h) at k.same)
 

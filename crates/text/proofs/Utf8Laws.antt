@@ -7,7 +7,6 @@ use native.Mathlib.Omega.{arith}
 use native.Mathlib.Decide.{dec_le}
 use native.Mathlib.Numerals.{unary_clauses}
 use lib.ListN.{length, take, length-take}
-use lib.Dec.{leb}
 use borrow.Author.Tests.{le-leb, lt-leb, ne_eqb, not-true, not-false}
 use Rattle.text.specs.Pick.{within}
 use Rattle.text.specs.Utf8.{Row, row, table, Lead, lead, lead_in, lead_of, further, second, follows, size_by, char_size}
@@ -24,11 +23,14 @@ under low high b p = simp (lt-leb _ _ p)
 pub above : (low high b : ℕ) → high < b → within low high b ≡ false
 above low high b p = simp (lt-leb _ _ p, and-false)
 
-pub within_low : (low high b : ℕ) → b < low → false ≡ within low high b
-within_low low high b p = sym (under low high b p)
+pub within_inside : (low high b : ℕ) → low ≤ b → b ≤ high → true ≡ within low high b
+within_inside low high b p q = sym (inside low high b p q)
 
-pub within_rest : (low high b : ℕ) → low ≤ b → leb b high ≡ within low high b
-within_rest low high b p = simp (le-leb _ _ p)
+pub within_under : (low high b : ℕ) → b < low → false ≡ within low high b
+within_under low high b p = sym (under low high b p)
+
+pub within_above : (low high b : ℕ) → high < b → false ≡ within low high b
+within_above low high b p = sym (above low high b p)
 
 -- ---- the row that a first byte falls in
 
@@ -198,4 +200,4 @@ module _ (a b c d : ℕ) where
           sym (size_of g.asks ∙ size_four _ _ _ _ _ _ (sym g.tells ∙ not-false r f) (sym e ∙ not-false q h) (sym i ∙ t))
 
 pub ruleset laws =
-    (within_low, within_rest, three_first, three_surrogate, three_other, four_first, four_last, four_other, one_byte, none_low, none_high, two_bytes, two_none, second_none, three_none, three_bytes, four_third, four_none, four_bytes)
+    (within_inside, within_under, within_above, three_first, three_surrogate, three_other, four_first, four_last, four_other, one_byte, none_low, none_high, two_bytes, two_none, second_none, three_none, three_bytes, four_third, four_none, four_bytes)

@@ -7,11 +7,11 @@ use native.Mathlib.Decide.{dec_le}
 use lib.ListN.{length, take, drop, set}
 use borrow.Author.Tests.{lt-leb}
 use borrow.Rule.Slice.PartMut.{put_mid}
+use Rattle.std.specs.Prelude.{Result, Ok, Err}
 use Rattle.text.specs.Answer.{says}
 use Rattle.text.specs.Over.{over, over_at, room_answer, Writes}
 use Rattle.text.specs.Paper.{written_paper}
-use Rattle.text.specs.declared.copy.Written.{Written}
-use Rattle.text.specs.declared.copy.Written.TheVariants.{Done, Short}
+use Rattle.text.specs.declared.copy.NoRoom.{NoRoom}
 use Rattle.text.proofs.Lists.{length_rest, rest_put, over_at_before}
 use Rattle.text.proofs.CopyLaws.{room_fits, room_lacks, writes_fits}
 
@@ -24,8 +24,8 @@ pub record Lacked (vs l l' : List ℕ) : Type 0 where
   pub room : length l < length vs
   pub bytes : l' ≡ l
 
-module _ {vs l l' : List ℕ} {r : Written} (w : Writes vs l r l') where
-  pub writes_done : {n : ℕ} → r ≡ Done n → Wrote vs l n l'
+module _ {vs l l' : List ℕ} {r : Result ℕ NoRoom} (w : Writes vs l r l') where
+  pub writes_done : {n : ℕ} → r ≡ Ok n → Wrote vs l n l'
   unfolding written_paper
   writes_done {n} e = by (dec_le (length vs) (length l))
     where
@@ -41,7 +41,7 @@ module _ {vs l l' : List ℕ} {r : Written} (w : Writes vs l r l') where
           let z : ◌≡◌ {A = ℕ} 0 1 = cc in
           absurd (omega arith)
 
-  pub writes_short : r ≡ Short → Lacked vs l l'
+  pub writes_short : {no : NoRoom} → r ≡ Err no → Lacked vs l l'
   unfolding written_paper room_answer
   writes_short e = by (dec_le (length vs) (length l))
     where
@@ -62,14 +62,14 @@ pub record Follows (b at : ℕ) (vs l : List ℕ) (n : ℕ) (ys : List ℕ) : Ty
   pub within : at + 1 + n ≤ length l
   pub bytes : set (put_mid (at + 1) (length l - (at + 1)) l ys) at b ≡ over_at at (b ∷ vs) l
 
-module _ (b at : ℕ) (vs l : List ℕ) {ys : List ℕ} {r : Written} (w : Writes vs (take (length l - (at + 1)) (drop (at + 1) l)) r ys) (h : at + length (b ∷ vs) ≤ length l) where
-  pub follows_short : r ≡ Short → ⊥
+module _ (b at : ℕ) (vs l : List ℕ) {ys : List ℕ} {r : Result ℕ NoRoom} (w : Writes vs (take (length l - (at + 1)) (drop (at + 1) l)) r ys) (h : at + length (b ∷ vs) ≤ length l) where
+  pub follows_short : {no : NoRoom} → r ≡ Err no → ⊥
   follows_short e =
       let a = (writes_short w e).room in
       let c = length_rest l (at + 1) in
       omega arith
 
-  pub follows_done : {n : ℕ} → r ≡ Done n → Follows b at vs l n ys
+  pub follows_done : {n : ℕ} → r ≡ Ok n → Follows b at vs l n ys
   follows_done e =
       let d = writes_done w e in
       let c = d.count in

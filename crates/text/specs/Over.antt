@@ -1,9 +1,9 @@
 -- What a writer answers, and what it leaves in lent output (docs/RULES.md, "Lent output"). Assumes nothing.
-use Rattle.std.specs.Prelude.{ℕ, ◌≡◌, List, [], ◌∷◌, ◌++◌, length, take, drop, eqb, leb}
+use Rattle.std.specs.Prelude.{ℕ, ◌≡◌, List, [], ◌∷◌, ◌++◌, length, take, drop, eqb, leb, Result}
 use Rattle.text.specs.Pick.{pick}
 use Rattle.text.specs.Answer.{Answer, says, number_of}
 use Rattle.text.specs.Paper.{written_paper}
-use Rattle.text.specs.declared.copy.Written.{Written}
+use Rattle.text.specs.declared.copy.NoRoom.{NoRoom}
 
 -- ---- the output
 
@@ -38,6 +38,6 @@ abbrev pub room_left : List ℕ → List ℕ → List ℕ
 room_left vs l = laid (room_answer vs l) vs l
 
 -- a writer of the bytes vs answers r, and leaves l' in a slice that held l
-pub record Writes (vs l : List ℕ) (r : Written) (l' : List ℕ) : Type 0 where
+pub record Writes (vs l : List ℕ) (r : Result ℕ NoRoom) (l' : List ℕ) : Type 0 where
   pub answer : written_paper r ≡ room_answer vs l
   pub bytes : l' ≡ room_left vs l

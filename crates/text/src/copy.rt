@@ -1,26 +1,17 @@
 // Copying bytes to the start of lent output.
 ghost use Rattle.text.specs.Over.{Writes};
 
-// The answer of a writer that can only lack room.
-#[derive(Clone, Copy)]
-pub enum Written {
-    // 0: so many bytes were written.
-    Done(usize),
-    // 17: the output is too short.
-    Short,
-}
+// 17: the output is too short.
+#[derive(Clone, Copy, Debug, PartialEq, Eq)]
+pub struct NoRoom;
 
-// Writes the bytes of `from` at the start of `out`, or nothing where they don't fit.
-pub fn copy(from: &[u8], out: &mut [u8]) -> Written
+// Writes the bytes of `from` at the start of `out`, or nothing where they don't fit. Answers how many were written.
+pub fn copy(from: &[u8], out: &mut [u8]) -> Result<usize, NoRoom>
     ensures { Writes from.now out.old result out.new }
 {
     if from.len() > out.len() {
-        return Written::Short;
+        return Err(NoRoom);
     }
-    let mut i = 0;
-    while i < from.len() {
-        out[i] = from[i];
-        i += 1;
-    }
-    Written::Done(i)
+    out[..from.len()].copy_from_slice(from);
+    Ok(from.len())
 }

@@ -5,15 +5,5 @@ ghost use Rattle.text.specs.Promises.{Compares};
 pub fn same_bytes(s: &[u8], t: &[u8]) -> bool
     ensures { Compares s.now t.now result }
 {
-    if s.len() != t.len() {
-        return false;
-    }
-    let mut i = 0;
-    while i < s.len() {
-        if s[i] != t[i] {
-            return false;
-        }
-        i += 1;
-    }
-    true
+    s == t
 }

@@ -3,25 +3,7 @@ ghost use Rattle.std.specs.Prelude.{◌≡◌, ◌+◌, ◌≤◌, ◌<◌, leng
 ghost use Rattle.text.specs.Space.{code_point, is_space};
 ghost use Rattle.text.specs.Promises.{FindsSpace};
 
-use crate::utf8::{Utf8, char_size, check_utf8};
-
-// What a search for white space finds.
-#[derive(Clone, Copy)]
-pub enum Space {
-    // 5: the bytes are not UTF-8.
-    Broken,
-    // 0 and 1: some character is white space.
-    Held,
-    // 0 and 0: none is.
-    Free,
-}
-
-fn wide(b: u8) -> u32
-    ensures value { result ≡ b }
-    ensures upper_bound { result < 256 }
-{
-    b as u32
-}
+use crate::utf8::{NotUtf8, char_size, check_utf8};
 
 // The code point that the `size` bytes at `at` mean, one to four of them.
 fn code_point(s: &[u8], at: usize, size: usize) -> u32
@@ -29,57 +11,55 @@ fn code_point(s: &[u8], at: usize, size: usize) -> u32
     requires size_in_bounds { at + size ≤ length s.now }
     ensures { result ≡ code_point (take size (drop at s.now)) }
 {
-    let a = wide(s[at]);
+    let a = u32::from(s[at]);
     if size == 1 {
         return a;
     }
-    let b = wide(s[at + 1]) % 64;
+    let b = u32::from(s[at + 1]) % 64;
     if size == 2 {
         return a % 32 * 64 + b;
     }
-    let c = wide(s[at + 2]) % 64;
+    let c = u32::from(s[at + 2]) % 64;
     if size == 3 {
         return (a % 16 * 64 + b) * 64 + c;
     }
-    let d = wide(s[at + 3]) % 64;
+    let d = u32::from(s[at + 3]) % 64;
     ((a % 8 * 64 + b) * 64 + c) * 64 + d
 }
 
 fn is_space(p: u32) -> bool
     ensures { result ≡ is_space p }
 {
-    match p {
+    matches!(
+        p,
         0x0009..=0x000d
-        | 0x0020
-        | 0x0085
-        | 0x00a0
-        | 0x1680
-        | 0x2000..=0x200a
-        | 0x2028..=0x2029
-        | 0x202f
-        | 0x205f
-        | 0x3000 => true,
-        _ => false,
-    }
+            | 0x0020
+            | 0x0085
+            | 0x00a0
+            | 0x1680
+            | 0x2000..=0x200a
+            | 0x2028..=0x2029
+            | 0x202f
+            | 0x205f
+            | 0x3000
+    )
 }
 
-// Looks for white space, character by character. Where one is found, the rest must still be UTF-8.
-pub fn find_space(s: &[u8]) -> Space
+// Whether some character is white space, looked for character by character. Where one is, the rest must still be UTF-8.
+pub fn find_space(s: &[u8]) -> Result<bool, NotUtf8>
     ensures { FindsSpace s.now result }
 {
     let mut i = 0;
     while i < s.len() {
         let n = char_size(s, i);
         if n == 0 {
-            return Space::Broken;
+            return Err(NotUtf8);
         }
         if is_space(code_point(s, i, n)) {
-            return match check_utf8(&s[i..]) {
-                Utf8::Text => Space::Held,
-                Utf8::Broken => Space::Broken,
-            };
+            check_utf8(&s[i..])?;
+            return Ok(true);
         }
         i += n;
     }
-    Space::Free
+    Ok(false)
 }

@@ -6,29 +6,15 @@ ghost use Rattle.text.specs.Utf8.{char_size};
 ghost use Rattle.text.specs.Promises.{ChecksUtf8};
 ghost use Rattle.text.specs.Inner.{Second, CharAt, Passes};
 
-// What a check of UTF-8 finds.
-#[derive(Clone, Copy)]
-pub enum Utf8 {
-    // 0: the bytes are UTF-8.
-    Text,
-    // 5: they are not.
-    Broken,
-}
-
-fn is_within(low: u8, high: u8, b: u8) -> bool
-    ensures { result ≡ within low high b }
-{
-    if b < low {
-        return false;
-    }
-    b <= high
-}
+// 5: the bytes are not UTF-8.
+#[derive(Clone, Copy, Debug, PartialEq, Eq)]
+pub struct NotUtf8;
 
 // Whether a byte may stand third or fourth in a character.
 fn is_further(b: u8) -> bool
     ensures { result ≡ within 0x80 0xbf b }
 {
-    is_within(0x80, 0xbf, b)
+    matches!(b, 0x80..=0xbf)
 }
 
 // Whether b may stand second in a character of three bytes, behind a.
@@ -37,8 +23,8 @@ fn is_second_of_three(a: u8, b: u8) -> bool
     ensures { Second 3 a b result }
 {
     match a {
-        0xe0 => is_within(0xa0, 0xbf, b),
-        0xed => is_within(0x80, 0x9f, b),
+        0xe0 => matches!(b, 0xa0..=0xbf),
+        0xed => matches!(b, 0x80..=0x9f),
         _ => is_further(b),
     }
 }
@@ -49,8 +35,8 @@ fn is_second_of_four(a: u8, b: u8) -> bool
     ensures { Second 4 a b result }
 {
     match a {
-        0xf0 => is_within(0x90, 0xbf, b),
-        0xf4 => is_within(0x80, 0x8f, b),
+        0xf0 => matches!(b, 0x90..=0xbf),
+        0xf4 => matches!(b, 0x80..=0x8f),
         _ => is_further(b),
     }
 }
@@ -64,11 +50,13 @@ fn size_by(a: u8, b: u8, c: u8, d: u8) -> usize
         0x00..=0x7f => 1,
         0xc2..=0xdf => { if is_further(b) { 2 } else { 0 } }
         0xe0..=0xef => {
-            if !is_second_of_three(a, b) {
-                return 0;
+            if is_second_of_three(a, b) && is_further(c) {
+                3
+            } else {
+                0
             }
-            if is_further(c) { 3 } else { 0 }
         }
+        // Kept: a way out behind each byte. As one `&&` the check takes a seventh longer over such characters.
         0xf0..=0xf4 => {
             if !is_second_of_four(a, b) {
                 return 0;
@@ -91,6 +79,7 @@ fn byte_at(s: &[u8], at: usize, k: usize) -> u8
 }
 
 // The size of the character that starts at `at`, or 0 where none does.
+// Kept: 0 and not None, as the definition `char_size` in specs/Utf8.antt says it.
 pub(crate) fn char_size(s: &[u8], at: usize) -> usize
     requires { at < length s.now }
     ensures { CharAt s.now at result }
@@ -116,10 +105,8 @@ fn is_ascii(s: &[u8], at: usize, n: usize) -> bool
     ensures { TellsOf n Plain s.now at result }
 {
     let mut h: u8 = 0;
-    let mut i = 0;
-    while i < n {
-        h = h | s[at + i];
-        i += 1;
+    for i in 0..n {
+        h |= s[at + i];
     }
     h < 128
 }
@@ -171,28 +158,25 @@ fn past_ascii(s: &[u8], at: usize) -> usize
     requires { at ≤ length s.now }
     ensures { Passes s.now at result }
 {
+    // Kept: where the eights end is the answer, which a chain over chunks would have to add up again.
     let mut i = at;
-    while s.len() - i >= 8 {
-        if is_ascii(s, i, 8) {
-            i += 8;
-        } else {
-            return i;
-        }
+    while s.len() - i >= 8 && is_ascii(s, i, 8) {
+        i += 8;
     }
     i
 }
 
 // Judges whether bytes are UTF-8: by blocks, and the last ones, or those from where a block found no character on, one by one.
-pub fn check_utf8(s: &[u8]) -> Utf8
+pub fn check_utf8(s: &[u8]) -> Result<(), NotUtf8>
     ensures { ChecksUtf8 s.now result }
 {
     let mut i = past_ascii(s, past_blocks(s));
     while i < s.len() {
         let n = char_size(s, i);
         if n == 0 {
-            return Utf8::Broken;
+            return Err(NotUtf8);
         }
         i += n;
     }
-    Utf8::Text
+    Ok(())
 }

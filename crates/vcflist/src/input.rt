@@ -1,14 +1,14 @@
 // The input, read into a lent buffer behind what was kept of it.
 ghost use Rattle.vcflist.specs.Fills.{Fills};
 
-use std::io::{Error, Read};
+use std::io;
+use std::io::Read;
 
-// How many bytes the buffer holds, whether they are all that is left of the input, and the error where a read failed.
+// How many bytes the buffer holds; whether they are all that is left of the input, or the error of the read that failed.
 #[derive(Clone, Copy)]
 pub struct Held {
     pub end: usize,
-    pub last: bool,
-    pub failed: Option<Error>,
+    pub last: io::Result<bool>,
 }
 
 // Reads behind the first `kept` bytes until the buffer is full, the input ends or a read fails.
@@ -21,25 +21,15 @@ pub fn fill<R: Read>(input: &mut R, buffer: &mut [u8], kept: usize) -> Held
             Ok(0) => {
                 return Held {
                     end,
-                    last: true,
-                    failed: None,
+                    last: Ok(true),
                 };
             }
-            Ok(n) => {
-                end += n;
-            }
-            Err(e) => {
-                return Held {
-                    end,
-                    last: false,
-                    failed: Some(e),
-                };
-            }
+            Ok(n) => end += n,
+            Err(e) => return Held { end, last: Err(e) },
         }
     }
     Held {
         end,
-        last: false,
-        failed: None,
+        last: Ok(false),
     }
 }

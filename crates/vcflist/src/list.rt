@@ -1,16 +1,16 @@
 // The listing of an input: what `ask_next` asks for is done, and nothing else.
 use crate::input::{Held, fill};
 use listing::ask::{Ask, ask_next};
-use listing::drive::first_state;
+use listing::drive::State;
 use std::io;
 use std::io::{Read, Write};
 
 // Writes out the first `len` bytes, and answers whether there are so many.
 fn write_out<W: Write>(output: &mut W, out: &[u8], len: usize) -> io::Result<bool> {
-    if len > out.len() {
+    let Some(bytes) = out.get(..len) else {
         return Ok(false);
-    }
-    output.write_all(&out[0..len])?;
+    };
+    output.write_all(bytes)?;
     Ok(true)
 }
 
@@ -24,15 +24,17 @@ pub fn list_all<R: Read, W: Write>(
 ) -> io::Result<()> {
     let mut held = Held {
         end: 0,
-        last: false,
-        failed: None,
+        last: Ok(false),
     };
-    let mut state = first_state();
+    let mut state = State::first();
     for _ in 0..u64::MAX {
-        let ask = ask_next(buffer, held.end, held.last, state, out);
+        let last = matches!(held.last, Ok(true));
+        let Ok(ask) = ask_next(buffer, held.end, last, state, out) else {
+            return Ok(());
+        };
         match ask {
             Ask::Read(kept, next) => {
-                if let Some(e) = held.failed {
+                if let Err(e) = held.last {
                     write_out(output, out, next.put)?;
                     return Err(e);
                 }
@@ -47,9 +49,6 @@ pub fn list_all<R: Read, W: Write>(
             }
             Ask::Last(len) => {
                 write_out(output, out, len)?;
-                return Ok(());
-            }
-            Ask::Beyond => {
                 return Ok(());
             }
         }

@@ -5,8 +5,8 @@ use mathlib.Core.List.{List, [], ◌∷◌, ◌++◌}
 use native.Mathlib.Omega.{arith}
 use native.Mathlib.Decide.{ℕ_discrete, dec_le}
 use native.Mathlib.Nat.{zero-add}
-use lib.ListN.{length, take, drop, length-drop, take-append-drop}
-use lib.Seq.{length-take-le, drop-drop}
+use lib.ListN.{length, take, drop, length-drop, length-take, take-append-drop}
+use lib.Seq.{length-take-le, drop-drop, take-add, take_at}
 use lib.Count.{count_trailing_zeros, trailing_le}
 use borrow.Author.Tests.{eq-eqb, ne_eqb}
 use Rattle.pieces.specs.Inner.{near_end, quiet_length, Seeking}
@@ -54,32 +54,47 @@ near_first {s = s} {from = from} h e =
     ]
 
 module _ {b : ℕ} {s : List ℕ} {from near i : ℕ} (g : Nearing b s from near i) where
-  pub word_fits : 8 ≤ near - i → i + 8 ≤ length s
-  word_fits h = let f = g.fits in omega arith
+  -- the next eight bytes, and those behind them
+  module _ {w : List ℕ} {m : ℕ} (n : ℕ) (c : w ≡ take 8 (take (near - i) (drop i s))) (r : n + 8 ≡ length (take (near - i) (drop i s))) (e : m ≡ marks_of b w) where
+    pub word_fits : i + 8 ≤ near
+    word_fits = let l = length-take (near - i) (drop i s) in omega arith
 
-  module _ {m : ℕ} (h : 8 ≤ near - i) (e : m ≡ marks_of b (take 8 (drop i s))) where
-    split_word : drop i s ≡ take 8 (drop i s) ++ drop (i + 8) s
-    split_word = rw (← drop-drop 8 i s) (sym (take-append-drop 8 (drop i s)))
+    word_is : w ≡ take 8 (drop i s)
+    word_is =
+        let d = length-drop i s in
+        let f = word_fits in
+        let k = g.fits in
+        let z : 8 + (near - i - 8) ≡ near - i = omega arith in
+        c ∙ ap (λ (j : ℕ). take 8 (take j (drop i s))) (sym z)
+        ∙ ap (take 8) (take-add 8 (near - i - 8) (drop i s))
+        ∙ take_at (take 8 (drop i s)) _ 8 (length-take-le 8 (drop i s) (omega arith))
 
-    word_length : length (take 8 (drop i s)) ≡ 8
-    word_length = let d = length-drop i s in let f = g.fits in length-take-le 8 (drop i s) (omega arith)
+    split_word : drop i s ≡ w ++ drop (i + 8) s
+    split_word = rw (word_is, ← drop-drop 8 i s) (sym (take-append-drop 8 (drop i s)))
+
+    word_length : length w ≡ 8
+    word_length =
+        let d = length-drop i s in
+        let f = word_fits in
+        let k = g.fits in
+        rw word_is (length-take-le 8 (drop i s) (omega arith))
 
     pub word_none : m ≡ 0 → Nearing b s from near (i + 8)
     word_none z =
-        let q = past_none b (take 8 (drop i s)) (drop (i + 8) s) (sym e ∙ z) in
-        let n = word_length in
-        record { short = omega arith; fits = g.fits; seeks = record { same = omega (arith, g.seeks.same, ap (quiet_length b b) split_word) } }
+        let q = past_none b w (drop (i + 8) s) (sym e ∙ z) in
+        let l = word_length in
+        record { short = word_fits; fits = g.fits; seeks = record { same = omega (arith, g.seeks.same, ap (quiet_length b b) split_word) } }
 
-    pub word_within : {n : ℕ} → n ≡ count_trailing_zeros 64 m / 8 → i + n ≤ length s
-    word_within f = let w = g.fits in omega (arith, trailing_le 64 m)
+    pub word_within : {k : ℕ} → k ≡ count_trailing_zeros 64 m / 8 → i + k ≤ length s
+    word_within f = let l = word_fits in let k = g.fits in omega (arith, trailing_le 64 m)
 
-    pub word_some : {n : ℕ} → (m ≡ 0 → ⊥) → n ≡ count_trailing_zeros 64 m / 8 → i + n ≡ from + quiet_length b b (drop from s)
+    pub word_some : {k : ℕ} → (m ≡ 0 → ⊥) → k ≡ count_trailing_zeros 64 m / 8 → i + k ≡ from + quiet_length b b (drop from s)
     word_some z f =
-        let q = at_some b (take 8 (drop i s)) (drop (i + 8) s) (λ y. z (e ∙ y)) in
-        let k = rw (word_length, ← e) at (zeros_byte b (take 8 (drop i s))) in
+        let q = at_some b w (drop (i + 8) s) (λ y. z (e ∙ y)) in
+        let k = rw (word_length, ← e) at (zeros_byte b w) in
         omega (arith, g.seeks.same, ap (quiet_length b b) split_word)
 
   pub near_past : {r : ℕ} → r ≡ i + quiet_length b b (drop i s) → r ≡ from + quiet_length b b (drop from s)
   near_past e = seek_rest g.seeks e
 
-pub ruleset laws = (find_beyond, near_first, word_fits, word_none, word_some, near_past)
+pub ruleset laws = (find_beyond, near_first)

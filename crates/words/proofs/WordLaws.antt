@@ -5,15 +5,13 @@ use mathlib.Core.Path.{◌≡◌, refl, ◌∙◌}
 use mathlib.Core.List.{List, [], ◌∷◌}
 use native.Mathlib.Omega.{arith}
 use native.Mathlib.Decide.{ℕ_discrete}
-use lib.ListN.{length, get_or, take, drop, length-drop}
-use lib.Seq.{length-take-le, get_or-drop}
+use lib.ListN.{length, get_or}
 use lib.Dec.{eqb}
 use lib.Bits.{bit_and, bit_or, bit_xor, xor_block, and_block, or_block, xor_lt, or_lt, and_le_r, and_mask, and_comm, and_shifted, xor_self, xor_add_and, and_le_l}
 use lib.Count.{count_trailing_zeros, trailing_le}
-use lib.Pow.{pow-add, pow_mono}
 use borrow.Author.Tests.{eq-eqb, ne_eqb}
+use Rattle.std.specs.Int.{from_le_bytes, w64}
 use Rattle.text.specs.Pick.{pick}
-use Rattle.text.proofs.Lists.{onward}
 use Rattle.text.proofs.FlagLaws.{or_left, or_right}
 use Rattle.text.proofs.BitLaws.{zeros_odd, zeros_more}
 use Rattle.pieces.specs.Inner.{quiet_length}
@@ -26,63 +24,19 @@ Bytes l = (k : ℕ) → get_or l k 0 < 256
 
 -- ---- the number
 
-word_small : (l : List ℕ) → Bytes l → word_of l < 2 ^ (8 * length l)
+-- the number that std makes of eight
+word_is : (l : List ℕ) → length l ≡ 8 → from_le_bytes w64 l ≡ word_of l
 unfolding word_of
-word_small [] f = omega arith
-word_small (x ∷ l) f =
-    let e : 8 * suc (length l) ≡ 8 * length l + 8 = omega arith in
-    rw (e, pow-add 2 (8 * length l) 8) (omega (arith, word_small l (λ k. f (suc k)), f 0))
-
-take_bytes : (n : ℕ) (l : List ℕ) → Bytes l → Bytes (take n l)
-take_bytes zero l f k = omega arith
-take_bytes (suc n) [] f k = omega arith
-take_bytes (suc n) (x ∷ l) f zero = f 0
-take_bytes (suc n) (x ∷ l) f (suc k) = take_bytes n l (λ j. f (suc j)) k
-
-part_bytes : (n i : ℕ) (s : List ℕ) → Bytes s → Bytes (take n (drop i s))
-part_bytes n i s f = take_bytes n (drop i s) (λ k. rw (get_or-drop i s k 0) (f (i + k)))
-
--- the bytes from i on up to the eighth
-pub record Reading (s : List ℕ) (at word i : ℕ) : Type 0 where
-  pub short : i ≤ 8
-  pub fits : at + 8 ≤ length s
-  pub bytes : Bytes s
-  pub is : word ≡ word_of (take (8 - i) (drop (at + i) s))
-
-pub read_first : {s : List ℕ} {at : ℕ} → at + 8 ≤ length s → Bytes s → Reading s at 0 8
-unfolding word_of
-read_first h f = record { short = omega arith; fits = h; bytes = f; is = refl }
-
-module _ {s : List ℕ} {at word i : ℕ} (g : Reading s at word i) where
-  pub read_turn : {x : ℕ} → 0 < i → x ≡ get_or s (at + (i - 1)) 0 → Reading s at (word * 256 + x) (i - 1)
-  unfolding word_of
-  read_turn h e =
-      let l = g.short in
-      let f = g.fits in
-      let a : 8 - (i - 1) ≡ suc (8 - i) = omega arith in
-      record { short = omega arith; fits = f; bytes = g.bytes; is = rw (a, onward s (at + (i - 1)) (at + i) (omega arith) (omega arith), e, g.is) }
-
-  small : 0 < i → word < 2 ^ 56
-  small h =
-      let l = g.short in
-      let f = g.fits in
-      let d = length-drop (at + i) s in
-      let n : length (take (8 - i) (drop (at + i) s)) ≡ 8 - i = length-take-le (8 - i) (drop (at + i) s) (omega arith) in
-      let w = rw n at (word_small (take (8 - i) (drop (at + i) s)) (part_bytes (8 - i) (at + i) s g.bytes)) in
-      let p : 2 ^ (8 * (8 - i)) ≤ 2 ^ 56 = pow_mono {i = 8 * (8 - i)} {j = 56} (omega arith) in
-      omega (arith, g.is)
-
-  pub read_scaled : 0 < i → word * 256 < 2 ^ 64
-  read_scaled h = let w = small h in omega arith
-
-  pub read_fits : {x : ℕ} → 0 < i → x ≡ get_or s (at + (i - 1)) 0 → word * 256 + x < 2 ^ 64
-  read_fits h e = let w = small h in omega (arith, g.bytes (at + (i - 1)))
-
-  pub read_last : i ≤ 0 → word ≡ word_of (take 8 (drop at s))
-  read_last h =
-      let a : 8 - i ≡ 8 = omega arith in
-      let b : at + i ≡ at = omega arith in
-      rw (a, b) at g.is
+word_is (a ∷ b ∷ c ∷ d ∷ e ∷ f ∷ g ∷ h ∷ []) n = omega arith
+word_is [] n = absurd (omega arith)
+word_is (a ∷ []) n = absurd (omega arith)
+word_is (a ∷ b ∷ []) n = absurd (omega arith)
+word_is (a ∷ b ∷ c ∷ []) n = absurd (omega arith)
+word_is (a ∷ b ∷ c ∷ d ∷ []) n = absurd (omega arith)
+word_is (a ∷ b ∷ c ∷ d ∷ e ∷ []) n = absurd (omega arith)
+word_is (a ∷ b ∷ c ∷ d ∷ e ∷ f ∷ []) n = absurd (omega arith)
+word_is (a ∷ b ∷ c ∷ d ∷ e ∷ f ∷ g ∷ []) n = absurd (omega arith)
+word_is (a ∷ b ∷ c ∷ d ∷ e ∷ f ∷ g ∷ h ∷ i ∷ l) n = absurd (omega arith)
 
 -- ---- one byte
 
@@ -164,16 +118,14 @@ mark_all b (x ∷ l) h f = mark_more (f 0) h (mark_all b l h (λ k. f (suc k)))
 pub low_fits : (w : ℕ) → bit_and w 9187201950435737471 + 9187201950435737471 < 2 ^ 64
 low_fits w = omega (arith, and_le_r w 9187201950435737471)
 
-pub marks_made : (s : List ℕ) (at b : ℕ) {w v : ℕ} → at + 8 ≤ length s → Bytes s → b < 256 → w ≡ word_of (take 8 (drop at s)) → v ≡ b
+pub marks_made : (l : List ℕ) (b : ℕ) {w v : ℕ} → length l ≡ 8 → Bytes l → b < 256 → w ≡ from_le_bytes w64 l → v ≡ b
     → bit_and (18446744073709551615 - bit_or (bit_and (bit_xor w (v * 72340172838076673)) 9187201950435737471 + 9187201950435737471) (bit_xor w (v * 72340172838076673))) 9259542123273814144
-    ≡ marks_of b (take 8 (drop at s))
+    ≡ marks_of b l
 unfolding each
-marks_made s at b h f l e u =
-    let d = length-drop at s in
-    let n : length (take 8 (drop at s)) ≡ 8 = length-take-le 8 (drop at s) (omega arith) in
+marks_made l b n h f e u =
     let z : b * 72340172838076673 ≡ each b 8 = omega arith in
-    let m = rw n at (mark_all b (take 8 (drop at s)) l (part_bytes 8 at s f)) in
-    rw (u, z, e) m.is
+    let m = rw n at (mark_all b l f h) in
+    rw (u, z, e, word_is l n) m.is
 
 -- ---- the lowest mark
 
@@ -199,4 +151,4 @@ zeros_byte b (x ∷ l) = by (ℕ_discrete x b) (zeros_byte b l)
 pub zeros_fit : (m : ℕ) → count_trailing_zeros 64 m / 8 < 2 ^ 64
 zeros_fit m = omega (arith, trailing_le 64 m)
 
-pub ruleset laws = (read_turn, read_scaled, read_fits, read_last, low_fits, zeros_fit)
+pub ruleset laws = (low_fits, zeros_fit)

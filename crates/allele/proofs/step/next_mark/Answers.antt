@@ -3,11 +3,8 @@ use Rattle.std.proofs.Common.{rules}
 use Rattle.allele.proofs.StepLaws.{laws}
 use Rattle.allele.proofs.step.next_mark.Goals as goal
 
-pub returns-then-b-eq124-clause-value : goal.returns-then-b-eq124-clause-value
-returns-then-b-eq124-clause-value c = search (rules, laws)
-
-pub returns-then-b-eq47-clause-value : goal.returns-then-b-eq47-clause-value
-returns-then-b-eq47-clause-value c = search (rules, laws)
+pub returns-then-is_mark-clause-value : goal.returns-then-is_mark-clause-value
+returns-then-is_mark-clause-value c = search (rules, laws)
 
 pub loop-i-preserved : goal.loop-i-preserved
 loop-i-preserved c = search (rules, laws)

@@ -3,14 +3,14 @@ use Rattle.std.proofs.Common.{rules}
 use Rattle.allele.proofs.StepLaws.{laws}
 use Rattle.allele.proofs.step.read_body.Goals as goal
 
-pub returns-then-same_bytes : goal.returns-then-same_bytes
-returns-then-same_bytes c = search (rules, laws)
+pub returns-then-eq : goal.returns-then-eq
+returns-then-eq c = search (rules, laws)
 
 pub overflow_add-result : goal.overflow_add-result
 overflow_add-result c = search (rules, laws)
 
-pub returns-in-Value : goal.returns-in-Value
-returns-in-Value c = search (rules, laws)
+pub returns-in-Ok : goal.returns-in-Ok
+returns-in-Ok c = search (rules, laws)
 
-pub returns-in-Bad : goal.returns-in-Bad
-returns-in-Bad c = search (rules, laws)
+pub returns-in-Err : goal.returns-in-Err
+returns-in-Err c = search (rules, laws)

@@ -1,10 +1,6 @@
--- `alleles::read::fill` meets its contract: the turns that are left give what all of them give. Assumes nothing.
-use Rattle.std.proofs.Common.{◌-◌, length}
-use Rattle.alleles.proofs.Turns.{Filling}
+-- `alleles::read::fill` meets its contract: the alleles laid, and those left from a place of the text on, are its list. Assumes nothing.
+use Rattle.alleles.proofs.FillLaws.{Filling}
 use Rattle.alleles.proofs.read.fill.Given as goal
 
-abbrev pub invariant-loop-turn : goal.invariant-loop-turn
-invariant-loop-turn l = Filling l.text l.judged l.initial.row l.row l.i l.at
-
-abbrev pub decreases-loop-turn : goal.decreases-loop-turn
-decreases-loop-turn l = length l.row - l.i
+abbrev pub invariant-loop-place : goal.invariant-loop-place
+invariant-loop-place l = Filling l.text l.row l.place-index l.at

@@ -1,10 +1,6 @@
 -- `alleles::write::tally_row` meets its contract: the tally of the records before the place. Assumes nothing.
-use Rattle.std.proofs.Common.{◌-◌, length}
 use Rattle.spelling.proofs.RowLaws.{Tallying}
 use Rattle.alleles.proofs.write.tally_row.Given as goal
 
 abbrev pub invariant-loop-i : goal.invariant-loop-i
 invariant-loop-i l = Tallying l.row l.room l.tally l.i
-
-abbrev pub decreases-loop-i : goal.decreases-loop-i
-decreases-loop-i l = length l.row - l.i

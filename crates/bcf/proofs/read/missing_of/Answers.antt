@@ -3,8 +3,5 @@ use Rattle.std.proofs.Common.{rules}
 use Rattle.bcf.proofs.ReadLaws.{laws}
 use Rattle.bcf.proofs.read.missing_of.Goals as goal
 
-pub returns-then-code-lt2 : goal.returns-then-code-lt2
-returns-then-code-lt2 c = search (rules, laws)
-
 pub returns : goal.returns
 returns c = search (rules, laws)

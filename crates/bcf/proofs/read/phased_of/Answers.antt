@@ -3,8 +3,5 @@ use Rattle.std.proofs.Common.{rules}
 use Rattle.bcf.proofs.ReadLaws.{laws}
 use Rattle.bcf.proofs.read.phased_of.Goals as goal
 
-pub returns-then-code-eq1 : goal.returns-then-code-eq1
-returns-then-code-eq1 c = search (rules, laws)
-
 pub returns : goal.returns
 returns c = search (rules, laws)

@@ -3,11 +3,11 @@ use Rattle.std.proofs.Common.{rules}
 use Rattle.decimal.proofs.PrintLaws.{laws}
 use Rattle.decimal.proofs.print.put_digits.Goals as goal
 
-pub loop-power-init : goal.loop-power-init
-loop-power-init c = search (rules, laws)
+pub loop-i-init : goal.loop-i-init
+loop-i-init c = search (rules, laws)
 
-pub loop-power-preserved : goal.loop-power-preserved
-loop-power-preserved c = search (rules, laws)
+pub loop-i-preserved : goal.loop-i-preserved
+loop-i-preserved c = search (rules, laws)
 
 pub returns : goal.returns
 returns c = search (rules, laws)

@@ -2,8 +2,5 @@
 use Rattle.decimal.proofs.PrintLaws.{Putting}
 use Rattle.decimal.proofs.print.put_digits.Given as goal
 
-abbrev pub invariant-loop-power : goal.invariant-loop-power
-invariant-loop-power l = Putting l.n l.power l.rest l.i l.initial.out l.out
-
-abbrev pub decreases-loop-power : goal.decreases-loop-power
-decreases-loop-power l = l.power
+abbrev pub invariant-loop-i : goal.invariant-loop-i
+invariant-loop-i l = Putting l.n l.power l.rest l.i l.initial.out l.out

@@ -2,24 +2,23 @@
 use Rattle.std.proofs.Common.{rules}
 use Rattle.decimal.proofs.ReadLaws.{laws}
 use Rattle.decimal.proofs.read.read_digits.Goals as goal
+use Rattle.decimal.proofs.read.read_digits.Goals.{then-acc-gt-TENTH-via-then-acc-gt-TENTH, then-acc-gt-TENTH-via-else-acc-gt-TENTH+then-d-acc}
 
-pub returns-then-s-eq0 : goal.returns-then-s-eq0
-returns-then-s-eq0 c = search (rules, laws)
+pub returns-then-is_empty : goal.returns-then-is_empty
+returns-then-is_empty c = search (rules, laws)
 
 pub loop-i-init : goal.loop-i-init
 loop-i-init c = search (rules, laws)
 
-pub returns-then-b-lt48 : goal.returns-then-b-lt48
-returns-then-b-lt48 c = search (rules, laws)
-
-pub returns-then-b-gt57 : goal.returns-then-b-gt57
-returns-then-b-gt57 c = search (rules, laws)
+pub returns-then-not-is_ascii_digit : goal.returns-then-not-is_ascii_digit
+returns-then-not-is_ascii_digit c = search (rules, laws)
 
 pub returns-then-acc-gt-TENTH : goal.returns-then-acc-gt-TENTH
-returns-then-acc-gt-TENTH c = search (rules, laws)
-
-pub returns-then-d-ten : goal.returns-then-d-ten
-returns-then-d-ten c = search (rules, laws)
+returns-then-acc-gt-TENTH c =
+    elim c.then-acc-gt-TENTH.branch [
+      | then-acc-gt-TENTH-via-then-acc-gt-TENTH w ↦ search (rules, laws)
+      | then-acc-gt-TENTH-via-else-acc-gt-TENTH+then-d-acc w ↦ search (rules, laws)
+    ]
 
 pub loop-i-preserved : goal.loop-i-preserved
 loop-i-preserved c = search (rules, laws)

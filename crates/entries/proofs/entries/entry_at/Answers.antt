@@ -9,8 +9,5 @@ returns-then-i-ends c = search (rules, laws)
 pub returns-then-end-start : goal.returns-then-end-start
 returns-then-end-start c = search (rules, laws)
 
-pub returns-then-end-text : goal.returns-then-end-text
-returns-then-end-text c = search (rules, laws)
-
 pub returns : goal.returns
 returns c = search (rules, laws)

@@ -3,14 +3,14 @@ use Rattle.std.proofs.Common.{rules}
 use Rattle.entries.proofs.EntryLaws.{laws}
 use Rattle.entries.proofs.entries.judge_ends.Goals as goal
 
+pub loop-end-init : goal.loop-end-init
+loop-end-init c = search (rules, laws)
+
 pub returns-then-end-start : goal.returns-then-end-start
 returns-then-end-start c = search (rules, laws)
 
-pub returns-then-end-text : goal.returns-then-end-text
-returns-then-end-text c = search (rules, laws)
-
-pub loop-i-preserved : goal.loop-i-preserved
-loop-i-preserved c = search (rules, laws)
+pub loop-end-preserved : goal.loop-end-preserved
+loop-end-preserved c = search (rules, laws)
 
 pub returns : goal.returns
 returns c = search (rules, laws)

@@ -1,23 +1,23 @@
 -- Each arm tells what its answer says on paper. Assumes nothing.
 use Rattle.std.proofs.Common.{rules}
-use Rattle.genotype.proofs.CaseLaws.{cases}
 use Rattle.exports.proofs.ToldLaws.{arms}
+use Rattle.genotype.proofs.CaseLaws.{cases}
 use Rattle.exports.proofs.genotypes.tell_read.Goals as goal
 
-pub returns-in-Done : goal.returns-in-Done
-returns-in-Done c = search (rules, arms, cases)
+pub returns-in-Ok : goal.returns-in-Ok
+returns-in-Ok c = search (rules, arms, cases)
 
-pub returns-in-Empty : goal.returns-in-Empty
-returns-in-Empty c = search (rules, arms, cases)
+pub returns-in-Err-Empty : goal.returns-in-Err-Empty
+returns-in-Err-Empty c = search (rules, arms, cases)
 
-pub returns-in-Bad : goal.returns-in-Bad
-returns-in-Bad c = search (rules, arms, cases)
+pub returns-in-Err-Bad : goal.returns-in-Err-Bad
+returns-in-Err-Bad c = search (rules, arms, cases)
 
-pub returns-in-Lengths : goal.returns-in-Lengths
-returns-in-Lengths c = search (rules, arms, cases)
+pub returns-in-Err-Lengths : goal.returns-in-Err-Lengths
+returns-in-Err-Lengths c = search (rules, arms, cases)
 
-pub returns-in-Short : goal.returns-in-Short
-returns-in-Short c = search (rules, arms, cases)
+pub returns-in-Err-Short : goal.returns-in-Err-Short
+returns-in-Err-Short c = search (rules, arms, cases)
 
-pub returns-in-Above : goal.returns-in-Above
-returns-in-Above c = search (rules, arms, cases)
+pub returns-in-Err-Above : goal.returns-in-Err-Above
+returns-in-Err-Above c = search (rules, arms, cases)

@@ -4,14 +4,14 @@ use Rattle.allele.proofs.CaseLaws.{cases}
 use Rattle.exports.proofs.ToldLaws.{arms}
 use Rattle.exports.proofs.genotypes.tell_step.Goals as goal
 
-pub returns-in-Beyond : goal.returns-in-Beyond
-returns-in-Beyond c = search (rules, arms, cases)
+pub returns-in-Err-Beyond : goal.returns-in-Err-Beyond
+returns-in-Err-Beyond c = search (rules, arms, cases)
 
-pub returns-in-Nothing : goal.returns-in-Nothing
-returns-in-Nothing c = search (rules, arms, cases)
+pub returns-in-Err-Nothing : goal.returns-in-Err-Nothing
+returns-in-Err-Nothing c = search (rules, arms, cases)
 
-pub returns-in-Empty : goal.returns-in-Empty
-returns-in-Empty c = search (rules, arms, cases)
+pub returns-in-Err-Empty : goal.returns-in-Err-Empty
+returns-in-Err-Empty c = search (rules, arms, cases)
 
-pub returns-in-Bad : goal.returns-in-Bad
-returns-in-Bad c = search (rules, arms, cases)
+pub returns-in-Err-Bad : goal.returns-in-Err-Bad
+returns-in-Err-Bad c = search (rules, arms, cases)

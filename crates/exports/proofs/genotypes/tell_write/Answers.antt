@@ -1,26 +1,26 @@
 -- Each arm tells what its answer says on paper. Assumes nothing.
 use Rattle.std.proofs.Common.{rules}
-use Rattle.spelling.proofs.CaseLaws.{cases}
 use Rattle.exports.proofs.ToldLaws.{arms}
+use Rattle.spelling.proofs.CaseLaws.{cases}
 use Rattle.exports.proofs.genotypes.tell_write.Goals as goal
 
-pub returns-in-Done : goal.returns-in-Done
-returns-in-Done c = search (rules, arms, cases)
+pub returns-in-Ok : goal.returns-in-Ok
+returns-in-Ok c = search (rules, arms, cases)
 
-pub returns-in-Beyond : goal.returns-in-Beyond
-returns-in-Beyond c = search (rules, arms, cases)
+pub returns-in-Err-Beyond : goal.returns-in-Err-Beyond
+returns-in-Err-Beyond c = search (rules, arms, cases)
 
-pub returns-in-Empty : goal.returns-in-Empty
-returns-in-Empty c = search (rules, arms, cases)
+pub returns-in-Err-Empty : goal.returns-in-Err-Empty
+returns-in-Err-Empty c = search (rules, arms, cases)
 
-pub returns-in-Bad : goal.returns-in-Bad
-returns-in-Bad c = search (rules, arms, cases)
+pub returns-in-Err-Bad : goal.returns-in-Err-Bad
+returns-in-Err-Bad c = search (rules, arms, cases)
 
-pub returns-in-Phasing : goal.returns-in-Phasing
-returns-in-Phasing c = search (rules, arms, cases)
+pub returns-in-Err-Phasing : goal.returns-in-Err-Phasing
+returns-in-Err-Phasing c = search (rules, arms, cases)
 
-pub returns-in-Lengths : goal.returns-in-Lengths
-returns-in-Lengths c = search (rules, arms, cases)
+pub returns-in-Err-Lengths : goal.returns-in-Err-Lengths
+returns-in-Err-Lengths c = search (rules, arms, cases)
 
-pub returns-in-Short : goal.returns-in-Short
-returns-in-Short c = search (rules, arms, cases)
+pub returns-in-Err-Short : goal.returns-in-Err-Short
+returns-in-Err-Short c = search (rules, arms, cases)

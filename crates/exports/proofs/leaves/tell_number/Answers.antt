@@ -4,8 +4,8 @@ use Rattle.decimal.proofs.CaseLaws.{cases}
 use Rattle.exports.proofs.ToldLaws.{arms}
 use Rattle.exports.proofs.leaves.tell_number.Goals as goal
 
-pub returns-in-Value : goal.returns-in-Value
-returns-in-Value c = search (rules, arms, cases)
+pub returns-in-Ok : goal.returns-in-Ok
+returns-in-Ok c = search (rules, arms, cases)
 
-pub returns-in-Bad : goal.returns-in-Bad
-returns-in-Bad c = search (rules, arms, cases)
+pub returns-in-Err : goal.returns-in-Err
+returns-in-Err c = search (rules, arms, cases)

@@ -4,15 +4,15 @@ use Rattle.exports.proofs.lines.tell_line.Goals as goal
 
 pub returns : goal.returns
 returns c = line_told _ _ c.tell.ensures
-    c.ending_of.ensures
-    c.ending_size-ending.ensures
-    c.place_of-chrom.ensures
-    c.place_of-pos.ensures
-    c.place_of-id.ensures
-    c.place_of-reference.ensures
-    c.place_of-alt.ensures
-    c.place_of-qual.ensures
-    c.place_of-filter.ensures
-    c.place_of-info.ensures
-    c.place_of-format.ensures
-    c.place_of-samples.ensures
+    c.ending.ensures
+    c.size-ending.ensures
+    c.place-chrom.ensures
+    c.place-pos.ensures
+    c.place-id.ensures
+    c.place-reference.ensures
+    c.place-alt.ensures
+    c.place-qual.ensures
+    c.place-filter.ensures
+    c.place-info.ensures
+    c.place-format.ensures
+    c.place-samples.ensures

@@ -1,8 +1,8 @@
 -- Each arm tells what its answer says on paper. Assumes nothing.
-use Rattle.forms.proofs.CaseLaws.{narrowed_none}
-use Rattle.exports.proofs.ToldLaws.{arms}
 use Rattle.std.proofs.Common.{rules}
+use Rattle.exports.proofs.ToldLaws.{arms}
+use Rattle.forms.proofs.CaseLaws.{narrowed_none}
 use Rattle.exports.proofs.records.tell_narrowed.Goals as goal
 
-pub returns-in-NotMade : goal.returns-in-NotMade
-returns-in-NotMade c = search (rules, arms, narrowed_none)
+pub returns-in-Err : goal.returns-in-Err
+returns-in-Err c = search (rules, arms, narrowed_none)

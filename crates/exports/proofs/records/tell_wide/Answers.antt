@@ -1,6 +1,6 @@
 -- The places of the form are told one by one, behind its ending. Assumes nothing.
-use Rattle.exports.proofs.FormLaws.{wide_told}
 use Rattle.std.proofs.Common.{rules}
+use Rattle.exports.proofs.FormLaws.{wide_told}
 use Rattle.exports.proofs.records.tell_wide.Goals as goal
 
 pub returns : goal.returns

@@ -1,17 +1,17 @@
 -- Each arm tells what its answer says on paper. Assumes nothing.
 use Rattle.std.proofs.Common.{rules}
-use Rattle.pieces.proofs.CaseLaws.{cases}
 use Rattle.exports.proofs.ToldLaws.{arms}
+use Rattle.pieces.proofs.CaseLaws.{cases}
 use Rattle.exports.proofs.sampling.tell_step.Goals as goal
 
-pub returns-in-More : goal.returns-in-More
-returns-in-More c = search (rules, arms, cases)
+pub returns-in-Ok-More : goal.returns-in-Ok-More
+returns-in-Ok-More c = search (rules, arms, cases)
 
-pub returns-in-Last : goal.returns-in-Last
-returns-in-Last c = search (rules, arms, cases)
+pub returns-in-Ok-Last : goal.returns-in-Ok-Last
+returns-in-Ok-Last c = search (rules, arms, cases)
 
-pub returns-in-Nothing : goal.returns-in-Nothing
-returns-in-Nothing c = search (rules, arms, cases)
+pub returns-in-Err-Nothing : goal.returns-in-Err-Nothing
+returns-in-Err-Nothing c = search (rules, arms, cases)
 
-pub returns-in-Beyond : goal.returns-in-Beyond
-returns-in-Beyond c = search (rules, arms, cases)
+pub returns-in-Err-Beyond : goal.returns-in-Err-Beyond
+returns-in-Err-Beyond c = search (rules, arms, cases)

@@ -4,26 +4,26 @@ use Rattle.bcf.proofs.CaseLaws.{cases}
 use Rattle.exports.proofs.ToldLaws.{arms}
 use Rattle.exports.proofs.vectors.tell_write.Goals as goal
 
-pub returns-in-Done : goal.returns-in-Done
-returns-in-Done c = search (rules, arms, cases)
+pub returns-in-Ok : goal.returns-in-Ok
+returns-in-Ok c = search (rules, arms, cases)
 
-pub returns-in-Beyond : goal.returns-in-Beyond
-returns-in-Beyond c = search (rules, arms, cases)
+pub returns-in-Err-Beyond : goal.returns-in-Err-Beyond
+returns-in-Err-Beyond c = search (rules, arms, cases)
 
-pub returns-in-Lengths : goal.returns-in-Lengths
-returns-in-Lengths c = search (rules, arms, cases)
+pub returns-in-Err-Lengths : goal.returns-in-Err-Lengths
+returns-in-Err-Lengths c = search (rules, arms, cases)
 
-pub returns-in-Empty : goal.returns-in-Empty
-returns-in-Empty c = search (rules, arms, cases)
+pub returns-in-Err-Empty : goal.returns-in-Err-Empty
+returns-in-Err-Empty c = search (rules, arms, cases)
 
-pub returns-in-Bad : goal.returns-in-Bad
-returns-in-Bad c = search (rules, arms, cases)
+pub returns-in-Err-Bad : goal.returns-in-Err-Bad
+returns-in-Err-Bad c = search (rules, arms, cases)
 
-pub returns-in-Large : goal.returns-in-Large
-returns-in-Large c = search (rules, arms, cases)
+pub returns-in-Err-Large : goal.returns-in-Err-Large
+returns-in-Err-Large c = search (rules, arms, cases)
 
-pub returns-in-Long : goal.returns-in-Long
-returns-in-Long c = search (rules, arms, cases)
+pub returns-in-Err-Long : goal.returns-in-Err-Long
+returns-in-Err-Long c = search (rules, arms, cases)
 
-pub returns-in-Short : goal.returns-in-Short
-returns-in-Short c = search (rules, arms, cases)
+pub returns-in-Err-Short : goal.returns-in-Err-Short
+returns-in-Err-Short c = search (rules, arms, cases)

@@ -9,8 +9,8 @@ loop-i-init c = search (rules, laws)
 pub loop-i-preserved : goal.loop-i-preserved
 loop-i-preserved c = search (rules, laws)
 
-pub returns-else-is_followed : goal.returns-else-is_followed
-returns-else-is_followed c = search (rules, laws)
+pub returns-then-not-is_followed : goal.returns-then-not-is_followed
+returns-then-not-is_followed c = search (rules, laws)
 
 pub returns : goal.returns
 returns c = search (rules, laws)

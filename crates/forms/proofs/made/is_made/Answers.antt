@@ -6,5 +6,5 @@ use Rattle.forms.proofs.made.is_made.Goals as goal
 pub returns-then-is_within : goal.returns-then-is_within
 returns-then-is_within c = search (rules, laws)
 
-pub returns : goal.returns
-returns c = search (rules, laws)
+pub returns-else-is_within : goal.returns-else-is_within
+returns-else-is_within c = search (rules, laws)

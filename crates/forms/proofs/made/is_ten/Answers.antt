@@ -9,5 +9,5 @@ returns-then-is_chained c = search (rules, laws)
 pub returns-then-is_chained-2 : goal.returns-then-is_chained-2
 returns-then-is_chained-2 c = search (rules, laws)
 
-pub returns : goal.returns
-returns c = search (rules, laws)
+pub returns-else-is_chained-2 : goal.returns-else-is_chained-2
+returns-else-is_chained-2 c = search (rules, laws)

@@ -7,8 +7,8 @@ use Rattle.forms.proofs.turn.narrow.Goals as goal
 pub numbers_by-requires : goal.numbers_by-requires
 numbers_by-requires c = search (rules, laws, tested_bounded)
 
-pub returns-then-is_made : goal.returns-then-is_made
-returns-then-is_made c = search (rules, laws)
+pub returns-then-not-is_made : goal.returns-then-not-is_made
+returns-then-not-is_made c = search (rules, laws)
 
 pub returns : goal.returns
 returns c = search (rules, laws)

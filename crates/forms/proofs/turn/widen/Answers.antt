@@ -3,8 +3,8 @@ use Rattle.forms.proofs.TurnLaws.{laws}
 use Rattle.std.proofs.Common.{rules}
 use Rattle.forms.proofs.turn.widen.Goals as goal
 
-pub returns-then-is_made : goal.returns-then-is_made
-returns-then-is_made c = search (rules, laws)
+pub returns-then-not-is_made : goal.returns-then-not-is_made
+returns-then-not-is_made c = search (rules, laws)
 
 pub returns : goal.returns
 returns c = search (rules, laws)

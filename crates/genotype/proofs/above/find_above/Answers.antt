@@ -15,5 +15,5 @@ loop-allele-smaller c = search (rules, laws)
 pub loop-allele-preserved : goal.loop-allele-preserved
 loop-allele-preserved c = search (rules, laws)
 
-pub returns-in_default : goal.returns-in_default
-returns-in_default c = search (rules, laws)
+pub returns : goal.returns
+returns c = search (rules, laws)

@@ -1,6 +1,6 @@
--- `genotype::above::least_alts` meets its contract: a column that is not `.` or empty has one allele. Assumes nothing.
-use Rattle.genotype.proofs.AboveLaws.{laws}
+-- `genotype::above::least_alts` meets its contract: a column that is neither empty nor `.` has one allele at least. Assumes nothing.
 use Rattle.std.proofs.Common.{rules}
+use Rattle.genotype.proofs.AboveLaws.{laws}
 use Rattle.genotype.proofs.above.least_alts.Goals as goal
 
 pub returns : goal.returns

@@ -6,8 +6,8 @@ use Rattle.genotype.proofs.pair.worth.Goals as goal
 pub returns-then-b-eq46 : goal.returns-then-b-eq46
 returns-then-b-eq46 c = search (rules, laws)
 
-pub overflow_sub-digit : goal.overflow_sub-digit
-overflow_sub-digit c = search (rules, laws)
+pub overflow_sub-b : goal.overflow_sub-b
+overflow_sub-b c = search (rules, laws)
 
-pub returns : goal.returns
-returns c = search (rules, laws)
+pub returns-else-b-eq46 : goal.returns-else-b-eq46
+returns-else-b-eq46 c = search (rules, laws)

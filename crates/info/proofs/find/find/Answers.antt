@@ -1,4 +1,4 @@
--- `info::find::find` meets its contract: the invariant says that what the steps from the place on lead to is what is found; each step moves on. Assumes nothing.
+-- The invariant says that what the steps from the place on lead to is what is found; each step moves on. Assumes nothing.
 use Rattle.std.proofs.Common.{rules}
 use Rattle.info.proofs.FindLaws.{laws}
 use Rattle.info.proofs.find.find.Goals as goal
@@ -6,8 +6,8 @@ use Rattle.info.proofs.find.find.Goals as goal
 pub loop-entry-init : goal.loop-entry-init
 loop-entry-init c = search (rules, laws)
 
-pub returns-in_default : goal.returns-in_default
-returns-in_default c = search (rules, laws)
+pub returns-in_err-entry : goal.returns-in_err-entry
+returns-in_err-entry c = search (rules, laws)
 
 pub overflow_add-end : goal.overflow_add-end
 overflow_add-end c = search (rules, laws)

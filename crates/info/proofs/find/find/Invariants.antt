@@ -1,4 +1,4 @@
--- `info::find::find` meets its contract: the invariant says that what the steps from the place on lead to is what is found; each step moves on. Assumes nothing.
+-- The invariant says that what the steps from the place on lead to is what is found; each step moves on. Assumes nothing.
 use Prim.Native.Nat.{◌-◌}
 use lib.ListN.{length}
 use Rattle.info.proofs.FindLaws.{Searching}

@@ -1,11 +1,6 @@
--- `info::step::entry_from` meets its contract: the invariant says that up to the place the key holds neither `=` nor `;`. Assumes nothing.
-use Prim.Native.Nat.{◌-◌}
-use lib.ListN.{length}
+-- The invariant says that up to the place the key holds neither `=` nor `;`. Assumes nothing.
 use Rattle.info.specs.Inner.{Reading}
 use Rattle.info.proofs.step.entry_from.Given as goal
 
 abbrev pub invariant-loop-i : goal.invariant-loop-i
 invariant-loop-i l = Reading l.column l.at l.i
-
-abbrev pub decreases-loop-i : goal.decreases-loop-i
-decreases-loop-i l = length l.column - l.i

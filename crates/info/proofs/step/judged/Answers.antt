@@ -1,10 +1,10 @@
--- `info::step::judged` meets its contract: what is left behind the entry tells which text between `;` it is, and each answer is a law. Assumes nothing.
+-- What is left behind the entry tells which text between `;` it is, and each answer is a law. Assumes nothing.
 use Rattle.info.proofs.InfoLaws.{laws}
 use Rattle.std.proofs.Common.{rules}
 use Rattle.info.proofs.step.judged.Goals as goal
 
-pub end_of-end-requires : goal.end_of-end-requires
-end_of-end-requires c = search (rules, laws)
+pub end-end-requires : goal.end-end-requires
+end-end-requires c = search (rules, laws)
 
 pub overflow_sub-left : goal.overflow_sub-left
 overflow_sub-left c = search (rules, laws)

@@ -1,4 +1,4 @@
--- `info::step::step_at` meets its contract: beyond the column, at its end, or an entry that is judged. Assumes nothing.
+-- Beyond the column, at its end, or an entry that is judged. Assumes nothing.
 use Rattle.info.proofs.InfoLaws.{laws}
 use Rattle.std.proofs.Common.{rules}
 use Rattle.info.proofs.step.step_at.Goals as goal

@@ -1,4 +1,4 @@
--- `info::step::valued` meets its contract: from the `=` on the first `;` is that from the key on. Assumes nothing.
+-- From the `=` on the first `;` is that from the key on. Assumes nothing.
 use Rattle.info.proofs.InfoLaws.{laws}
 use Rattle.std.proofs.Common.{rules}
 use Rattle.info.proofs.step.valued.Goals as goal

@@ -6,5 +6,5 @@ use Rattle.join.proofs.columns.is_count.Goals as goal
 pub returns-then-n-eq8 : goal.returns-then-n-eq8
 returns-then-n-eq8 c = search (rules, laws)
 
-pub returns : goal.returns
-returns c = search (rules, laws)
+pub returns-else-n-eq8 : goal.returns-else-n-eq8
+returns-else-n-eq8 c = search (rules, laws)

@@ -1,6 +1,6 @@
 -- `join::columns::judge` meets its contract: columns that are fine leave the room alone to ask for; else they are judged one by one. Assumes nothing.
-use Rattle.join.proofs.JoinLaws.{laws}
 use Rattle.std.proofs.Common.{rules}
+use Rattle.join.proofs.JoinLaws.{laws}
 use Rattle.join.proofs.columns.judge.Goals as goal
 
 pub are_fine-requires : goal.are_fine-requires

@@ -1,11 +1,6 @@
 -- `join::put::put_columns` meets its contract: the columns still to write, joined and laid from the place reached, leave what all leave. Assumes nothing.
-use Prim.Native.Nat.{◌-◌}
-use lib.ListN.{length}
 use Rattle.join.proofs.PutLaws.{Putting}
 use Rattle.join.proofs.put.put_columns.Given as goal
 
 abbrev pub invariant-loop-i : goal.invariant-loop-i
 invariant-loop-i l = Putting l.text l.ends l.initial.out l.out l.start l.at l.i
-
-abbrev pub decreases-loop-i : goal.decreases-loop-i
-decreases-loop-i l = length l.ends - l.i

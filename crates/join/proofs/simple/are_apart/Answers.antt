@@ -3,8 +3,8 @@ use Rattle.std.proofs.Common.{rules}
 use Rattle.join.proofs.SimpleLaws.{laws}
 use Rattle.join.proofs.simple.are_apart.Goals as goal
 
-pub loop-i-init : goal.loop-i-init
-loop-i-init c = search (rules, laws)
+pub loop-end-init : goal.loop-end-init
+loop-end-init c = search (rules, laws)
 
-pub loop-i-preserved : goal.loop-i-preserved
-loop-i-preserved c = search (rules, laws)
+pub loop-end-preserved : goal.loop-end-preserved
+loop-end-preserved c = search (rules, laws)

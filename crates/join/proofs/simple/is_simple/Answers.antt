@@ -3,5 +3,5 @@ use Rattle.std.proofs.Common.{rules}
 use Rattle.join.proofs.SimpleLaws.{laws}
 use Rattle.join.proofs.simple.is_simple.Goals as goal
 
-pub loop-i-preserved : goal.loop-i-preserved
-loop-i-preserved c = search (rules, laws)
+pub loop-b-preserved : goal.loop-b-preserved
+loop-b-preserved c = search (rules, laws)

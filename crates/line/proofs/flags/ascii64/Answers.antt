@@ -1,7 +1,7 @@
--- `line::flags::ascii64` meets its contract: each byte is gathered into one flag. Assumes nothing.
+-- `line::flags::ascii64` meets its contract: each byte sets a flag or none. Assumes nothing.
 use Rattle.std.proofs.Common.{rules}
-use Rattle.text.proofs.FlagLaws.{laws}
+use Rattle.line.proofs.CalmLaws.{plain_told}
 use Rattle.line.proofs.flags.ascii64.Goals as goal
 
-pub loop-i-preserved : goal.loop-i-preserved
-loop-i-preserved c = search (rules, laws)
+pub returns : goal.returns
+returns c = plain_told c.flags64.ensures (λ k r t. search rules)

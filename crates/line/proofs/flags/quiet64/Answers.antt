@@ -1,8 +1,7 @@
 -- `line::flags::quiet64` meets its contract: each byte sets a flag or none. Assumes nothing.
 use Rattle.std.proofs.Common.{rules}
-use Rattle.text.proofs.FlagLaws.{laws}
-use Rattle.line.proofs.CalmLaws.{laws as calm-laws}
+use Rattle.line.proofs.CalmLaws.{flags_told}
 use Rattle.line.proofs.flags.quiet64.Goals as goal
 
-pub loop-i-preserved : goal.loop-i-preserved
-loop-i-preserved c = search (rules, laws, calm-laws)
+pub returns : goal.returns
+returns c = flags_told c.flags64.ensures (λ k r t. search rules)

@@ -9,5 +9,5 @@ returns-then-i-s c = search (rules, laws)
 pub returns-then-s-i-eq9 : goal.returns-then-s-i-eq9
 returns-then-s-i-eq9 c = search (rules, laws)
 
-pub returns : goal.returns
-returns c = search (rules, laws)
+pub returns-else-s-i-eq9 : goal.returns-else-s-i-eq9
+returns-else-s-i-eq9 c = search (rules, laws)

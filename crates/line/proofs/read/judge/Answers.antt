@@ -12,7 +12,7 @@ returns-then-tab-start-clause-result_value c = search (rules, judged-laws)
 
 pub returns-in-Feed-clause-marks : goal.returns-in-Feed-clause-marks
 returns-in-Feed-clause-marks c =
-    marks_fed c.requires.at_in_bounds c.columns.invariant.going c.columns.invariant.kept c.judge_fed.result c.judge_fed.ensures (stop_feed c.column_end-stop.ensures c.in-Feed.is)
+    marks_fed c.requires.at_in_bounds c.columns.invariant.going c.columns.invariant.kept c.judge_fed.result c.judge_fed.ensures (stop_feed c.column_end.ensures c.in-Feed.is)
 
 pub returns-in-Input-clause-marks : goal.returns-in-Input-clause-marks
 returns-in-Input-clause-marks c = search (rules, judged-laws, laws)

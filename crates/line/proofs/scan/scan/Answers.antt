@@ -3,8 +3,8 @@ use Rattle.std.proofs.Common.{rules}
 use Rattle.line.proofs.ScanLaws.{scan_laws}
 use Rattle.line.proofs.scan.scan.Goals as goal
 
-pub block-met-requires : goal.block-met-requires
-block-met-requires c = search (rules, scan_laws)
+pub block-requires : goal.block-requires
+block-requires c = search (rules, scan_laws)
 
 pub returns-in-Feed : goal.returns-in-Feed
 returns-in-Feed c = search (rules, scan_laws)

@@ -1,4 +1,4 @@
--- `listing::ask::ask_next` meets its contract: places that are not in order are refused, and else it is told by where the turns stop. Assumes nothing.
+-- Places that are not in order are refused, and else it is told by where the turns stop. Assumes nothing.
 use Rattle.listing.proofs.AskLaws.{ask_stopped, asked}
 use Rattle.std.proofs.Common.{rules}
 use Rattle.listing.proofs.ask.ask_next.Goals as goal

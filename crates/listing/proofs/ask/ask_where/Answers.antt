@@ -1,4 +1,4 @@
--- `listing::ask::ask_where` meets its contract: each way through it is a case of the definition, by why the turns stop. Assumes nothing.
+-- Each way through it is a case of the definition, by why the turns stop. Assumes nothing.
 use Rattle.listing.proofs.AskLaws.{ask_clears, ask_full, ask_keeps, ask_last}
 use Rattle.std.proofs.Common.{rules}
 use Rattle.listing.proofs.ask.ask_where.Goals as goal
@@ -9,8 +9,8 @@ returns-in-More c = search (rules, ask_keeps)
 pub returns-in-Full : goal.returns-in-Full
 returns-in-Full c = search (rules, ask_full)
 
-pub returns-in-Done-print_totals : goal.returns-in-Done-print_totals
-returns-in-Done-print_totals c = search (rules, ask_last)
+pub returns-in-Ok : goal.returns-in-Ok
+returns-in-Ok c = search (rules, ask_last)
 
-pub returns-in-Short : goal.returns-in-Short
-returns-in-Short c = search (rules, ask_clears)
+pub returns-in-Err : goal.returns-in-Err
+returns-in-Err c = search (rules, ask_clears)

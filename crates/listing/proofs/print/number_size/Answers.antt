@@ -1,4 +1,4 @@
--- `listing::print::number_size` meets its contract: no number has more than 20 digits. Assumes nothing.
+-- No number has more than 20 digits. Assumes nothing.
 use Rattle.listing.proofs.PrintLaws.{number_sized, sized_fits}
 use Rattle.std.proofs.Common.{rules}
 use Rattle.listing.proofs.print.number_size.Goals as goal

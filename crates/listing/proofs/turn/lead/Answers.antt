@@ -1,4 +1,4 @@
--- `listing::turn::lead` meets its contract: each way through it is a clause of the definition. Assumes nothing.
+-- Each way through it is a clause of the definition. Assumes nothing.
 use Rattle.listing.proofs.TurnLaws.{laws}
 use Rattle.std.proofs.Common.{rules}
 use Rattle.listing.proofs.turn.lead.Goals as goal

@@ -1,4 +1,4 @@
--- `listing::turn::turn_at` meets its contract: each phase is a clause of the definition. Assumes nothing.
+-- Each phase is a clause of the definition. Assumes nothing.
 use Rattle.listing.proofs.TurnLaws.{laws}
 use Rattle.std.proofs.Common.{rules}
 use Rattle.listing.proofs.turn.turn_at.Goals as goal

@@ -3,14 +3,14 @@ use Rattle.std.proofs.Common.{rules}
 use Rattle.lists.proofs.JudgeLaws.{laws}
 use Rattle.lists.proofs.alternate_bases.is_symbol.Goals as goal
 
-pub returns-then-alt-eq0 : goal.returns-then-alt-eq0
-returns-then-alt-eq0 c = search (rules, laws)
+pub returns-in-60 : goal.returns-in-60
+returns-in-60 c = search (rules, laws)
 
-pub returns-then-alt-ne60 : goal.returns-then-alt-ne60
-returns-then-alt-ne60 c = search (rules, laws)
+pub returns-in_default : goal.returns-in_default
+returns-in_default c = search (rules, laws)
 
-pub returns-then-alt-end-eq62 : goal.returns-then-alt-end-eq62
-returns-then-alt-end-eq62 c = search (rules, laws)
+pub returns-in_default-2 : goal.returns-in_default-2
+returns-in_default-2 c = search (rules, laws)
 
-pub returns : goal.returns
-returns c = search (rules, laws)
+pub returns-in_default-3 : goal.returns-in_default-3
+returns-in_default-3 c = search (rules, laws)

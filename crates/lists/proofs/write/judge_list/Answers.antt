@@ -5,13 +5,10 @@ use Rattle.lists.proofs.WriteLaws.{laws}
 use Rattle.lists.proofs.write.judge_list.Goals as goal
 
 pub loop-i-preserved : goal.loop-i-preserved
-loop-i-preserved c = search (rules, laws, entry_shown _ _ _ c.entry_text-entry.ensures)
+loop-i-preserved c = search (rules, laws, entry_shown _ _ _ c.entry_text.ensures)
 
-pub returns-in-NotUtf8 : goal.returns-in-NotUtf8
-returns-in-NotUtf8 c = search (rules, laws, entry_shown _ _ _ c.entry_text-entry.ensures)
-
-pub returns-in-Invalid : goal.returns-in-Invalid
-returns-in-Invalid c = search (rules, laws, entry_shown _ _ _ c.entry_text-entry.ensures)
+pub returns-in-Err : goal.returns-in-Err
+returns-in-Err c = search (rules, laws, entry_shown _ _ _ c.entry_text.ensures)
 
 pub returns : goal.returns
 returns c = search (rules, laws)

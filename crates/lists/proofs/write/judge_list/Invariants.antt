@@ -1,11 +1,6 @@
 -- `lists::write::judge_list` meets its contract: the entries still to judge are judged as all are. Assumes nothing.
-use Prim.Native.Nat.{◌-◌}
-use lib.ListN.{length}
 use Rattle.lists.proofs.WriteLaws.{Judging}
 use Rattle.lists.proofs.write.judge_list.Given as goal
 
 abbrev pub invariant-loop-i : goal.invariant-loop-i
 invariant-loop-i l = Judging l.kind l.text l.ends l.i
-
-abbrev pub decreases-loop-i : goal.decreases-loop-i
-decreases-loop-i l = length l.ends - l.i

@@ -3,11 +3,8 @@ use Rattle.std.proofs.Common.{rules}
 use Rattle.masks.proofs.MaskLaws.{laws}
 use Rattle.masks.proofs.mask.kept.Goals as goal
 
-pub returns-then-x-a : goal.returns-then-x-a
-returns-then-x-a c = search (rules, laws)
-
 pub returns-then-x-b : goal.returns-then-x-b
 returns-then-x-b c = search (rules, laws)
 
-pub returns : goal.returns
-returns c = search (rules, laws)
+pub returns-else-x-b : goal.returns-else-x-b
+returns-else-x-b c = search (rules, laws)

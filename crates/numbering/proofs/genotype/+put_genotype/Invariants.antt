@@ -2,4 +2,4 @@
 use Rattle.numbering.proofs.genotype.+put_genotype.Given as goal
 
 abbrev pub decreases-put_genotype : goal.decreases-put_genotype
-decreases-put_genotype l = l.ploidy
+decreases-put_genotype l = l.shape.ploidy

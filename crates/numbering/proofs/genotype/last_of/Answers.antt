@@ -6,5 +6,5 @@ use Rattle.numbering.proofs.genotype.last_of.Goals as goal
 pub overflow_sub-a : goal.overflow_sub-a
 overflow_sub-a c = search (rules, laws)
 
-pub loop-a-smaller : goal.loop-a-smaller
-loop-a-smaller c = search (rules, laws)
+pub loop-shape-smaller : goal.loop-shape-smaller
+loop-shape-smaller c = search (rules, laws)

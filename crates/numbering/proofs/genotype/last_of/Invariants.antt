@@ -2,8 +2,8 @@
 use Rattle.numbering.proofs.GenotypeLaws.{Seeking}
 use Rattle.numbering.proofs.genotype.last_of.Given as goal
 
-abbrev pub invariant-loop-a : goal.invariant-loop-a
-invariant-loop-a l = Seeking l.number l.ploidy l.alleles l.a
+abbrev pub invariant-loop-shape : goal.invariant-loop-shape
+invariant-loop-shape l = Seeking l.number l.shape.ploidy l.shape.alleles l.a
 
-abbrev pub decreases-loop-a : goal.decreases-loop-a
-decreases-loop-a l = l.a
+abbrev pub decreases-loop-shape : goal.decreases-loop-shape
+decreases-loop-shape l = l.a

@@ -7,7 +7,7 @@ pub loop-a-init : goal.loop-a-init
 loop-a-init t c = search (rules, laws)
 
 pub put_all-next-requires : goal.put_all-next-requires
-put_all-next-requires t c = (search rules, (search rules, (search rules, search (rules, laws))))
+put_all-next-requires t c = (search rules, (search rules, search (rules, laws)))
 
 pub loop-a-preserved : goal.loop-a-preserved
 loop-a-preserved t c =

@@ -1,5 +1,4 @@
 -- The ploidy falls at each call of `numbering::list::put_all` to itself. The blocks of the alleles passed are written. Assumes nothing.
-use Rattle.std.proofs.Common.{◌-◌}
 use Rattle.numbering.proofs.ListLaws.{Going}
 use Rattle.numbering.proofs.list.+put_all.Given as goal
 
@@ -8,6 +7,3 @@ decreases-put_all l = l.ploidy
 
 abbrev pub invariant-loop-a : goal.invariant-loop-a
 invariant-loop-a l = Going l.ploidy l.alleles l.initial.current l.initial.row l.at l.a l.current l.row l.next
-
-abbrev pub decreases-loop-a : goal.decreases-loop-a
-decreases-loop-a l = l.alleles - l.a

@@ -1,10 +1,6 @@
 -- The genotypes of the alleles passed are written, each with what stands behind. Assumes nothing.
-use Prim.Native.Nat.{◌-◌}
 use Rattle.numbering.proofs.ListLaws.{Going}
 use Rattle.numbering.proofs.list.put_first.Given as goal
 
 abbrev pub invariant-loop-a : goal.invariant-loop-a
 invariant-loop-a l = Going 1 l.alleles l.initial.current l.initial.row l.at l.a l.current l.row l.next
-
-abbrev pub decreases-loop-a : goal.decreases-loop-a
-decreases-loop-a l = l.alleles - l.a

@@ -6,11 +6,8 @@ use Rattle.numbering.proofs.number.never_falls.Goals as goal
 pub returns-then-k-low : goal.returns-then-k-low
 returns-then-k-low c = search (rules, laws)
 
-pub returns-then-k-alleles : goal.returns-then-k-alleles
-returns-then-k-alleles c = search (rules, laws)
-
-pub loop-i-preserved : goal.loop-i-preserved
-loop-i-preserved c = search (rules, laws)
+pub loop-k-preserved : goal.loop-k-preserved
+loop-k-preserved c = search (rules, laws)
 
 pub returns : goal.returns
 returns c = search (rules, laws)

@@ -6,5 +6,5 @@ use Rattle.numbers.proofs.ask.has_mark.Goals as goal
 pub returns-then-count_byte-gt0 : goal.returns-then-count_byte-gt0
 returns-then-count_byte-gt0 c = search (rules, laws)
 
-pub returns : goal.returns
-returns c = search (rules, laws)
+pub returns-else-count_byte-gt0 : goal.returns-else-count_byte-gt0
+returns-else-count_byte-gt0 c = search (rules, laws)

@@ -4,8 +4,8 @@ use Rattle.std.proofs.Common.{arith}
 use Rattle.std.proofs.Common.{rules}
 use Rattle.pieces.proofs.count.count_pieces.Goals as goal
 
-pub returns-then-s-eq0 : goal.returns-then-s-eq0
-returns-then-s-eq0 c = search (rules, laws)
+pub returns-then-is_empty : goal.returns-then-is_empty
+returns-then-is_empty c = search (rules, laws)
 
 pub overflow_add-result : goal.overflow_add-result
 overflow_add-result c = omega (arith, counted_most _ _ c.count_byte.ensures, c.well_formed)

@@ -3,11 +3,8 @@ use Rattle.std.proofs.Common.{rules}
 use Rattle.pieces.proofs.EitherLaws.{laws}
 use Rattle.pieces.proofs.either.find_either.Goals as goal
 
-pub returns-then-x-a : goal.returns-then-x-a
-returns-then-x-a c = search (rules, laws)
-
-pub returns-then-x-b : goal.returns-then-x-b
-returns-then-x-b c = search (rules, laws)
+pub returns-then-s-i : goal.returns-then-s-i
+returns-then-s-i c = search (rules, laws)
 
 pub loop-i-preserved : goal.loop-i-preserved
 loop-i-preserved c = search (rules, laws)

@@ -8,8 +8,8 @@ use Rattle.pieces.proofs.step.piece_at.Goals as goal
 pub returns-then-at-s : goal.returns-then-at-s
 returns-then-at-s c = search (rules, laws)
 
-pub returns-then-s-eq0 : goal.returns-then-s-eq0
-returns-then-s-eq0 c = search (rules, laws)
+pub returns-then-is_empty : goal.returns-then-is_empty
+returns-then-is_empty c = search (rules, laws)
 
 pub overflow_add-result : goal.overflow_add-result
 overflow_add-result c = omega (arith, either_within _ _ _ _ (omega arith) c.piece_end-end.ensures, c.well_formed)

@@ -11,3 +11,6 @@ returns-then-s-i c = search (rules, seek_first, near_within)
 
 pub loop-i-preserved : goal.loop-i-preserved
 loop-i-preserved c = search (rules, laws)
+
+pub returns : goal.returns
+returns c = search (rules, laws)

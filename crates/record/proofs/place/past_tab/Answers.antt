@@ -5,6 +5,3 @@ use Rattle.record.proofs.place.past_tab.Goals as goal
 
 pub returns-then-end-before : goal.returns-then-end-before
 returns-then-end-before c = search (rules, laws)
-
-pub returns : goal.returns
-returns c = search (rules, laws)

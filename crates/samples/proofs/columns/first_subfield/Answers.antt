@@ -3,11 +3,11 @@ use Rattle.samples.proofs.SampleLaws.{laws}
 use Rattle.std.proofs.Common.{rules}
 use Rattle.samples.proofs.columns.first_subfield.Goals as goal
 
-pub returns-in-More : goal.returns-in-More
-returns-in-More c = search (rules, laws)
+pub returns-in-Ok-More : goal.returns-in-Ok-More
+returns-in-Ok-More c = search (rules, laws)
 
-pub returns-in-Last : goal.returns-in-Last
-returns-in-Last c = search (rules, laws)
+pub returns-in-Ok-More-2 : goal.returns-in-Ok-More-2
+returns-in-Ok-More-2 c = search (rules, laws)
 
-pub returns-in_default : goal.returns-in_default
-returns-in_default c = search (rules, laws)
+pub returns-in-Err : goal.returns-in-Err
+returns-in-Err c = search (rules, laws)

@@ -10,9 +10,9 @@ pub returns-then-at-samples : goal.returns-then-at-samples
 unfolding sample_step
 returns-then-at-samples c = search (rules, laws)
 
-pub returns-then-samples-eq0 : goal.returns-then-samples-eq0
+pub returns-then-is_empty : goal.returns-then-is_empty
 unfolding sample_step
-returns-then-samples-eq0 c = search (rules, laws)
+returns-then-is_empty c = search (rules, laws)
 
 pub overflow_add-result : goal.overflow_add-result
 overflow_add-result c = omega (arith, either_within _ _ _ _ (omega arith) c.find_byte-end.ensures, c.well_formed)

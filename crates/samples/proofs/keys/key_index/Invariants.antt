@@ -1,4 +1,4 @@
--- `samples::keys::key_index` meets its contract: the first equal key of those from `at` on is the first of all. Assumes nothing.
+-- The first equal key of those from `at` on is the first of all. Assumes nothing.
 use Prim.Native.Nat.{◌-◌}
 use lib.ListN.{length}
 use Rattle.samples.proofs.KeyLaws.{Looking}

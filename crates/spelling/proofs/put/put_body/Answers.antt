@@ -6,5 +6,5 @@ use Rattle.spelling.proofs.put.put_body.Goals as goal
 pub returns-then-a : goal.returns-then-a
 returns-then-a c = search (rules, laws)
 
-pub returns : goal.returns
-returns c = search (rules, laws)
+pub returns-else-a : goal.returns-else-a
+returns-else-a c = search (rules, laws)

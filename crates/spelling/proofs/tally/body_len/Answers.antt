@@ -6,8 +6,8 @@ use Rattle.spelling.proofs.tally.body_len.Goals as goal
 pub returns-then-a-clause-value : goal.returns-then-a-clause-value
 returns-then-a-clause-value c = search (rules, laws)
 
-pub returns-clause-value : goal.returns-clause-value
-returns-clause-value c = search (rules, laws)
+pub returns-else-a-clause-value : goal.returns-else-a-clause-value
+returns-else-a-clause-value c = search (rules, laws)
 
-pub returns-clause-upper_bound : goal.returns-clause-upper_bound
-returns-clause-upper_bound c = search (rules, laws)
+pub returns-else-a-clause-upper_bound : goal.returns-else-a-clause-upper_bound
+returns-else-a-clause-upper_bound c = search (rules, laws)

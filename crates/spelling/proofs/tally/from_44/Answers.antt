@@ -9,5 +9,5 @@ returns-then-major-gt4 c = search (rules, laws)
 pub returns-then-major-eq4 : goal.returns-then-major-eq4
 returns-then-major-eq4 c = search (rules, laws)
 
-pub returns : goal.returns
-returns c = search (rules, laws)
+pub returns-else-major-eq4 : goal.returns-else-major-eq4
+returns-else-major-eq4 c = search (rules, laws)

@@ -15,5 +15,5 @@ find_tabs-tabs-requires c = search (rules, laws)
 pub judge-requires : goal.judge-requires
 judge-requires c = search (rules, laws)
 
-pub returns-in-Beyond-clause-reads_line : goal.returns-in-Beyond-clause-reads_line
-returns-in-Beyond-clause-reads_line c = search (rules, laws)
+pub returns-in_default-clause-reads_line : goal.returns-in_default-clause-reads_line
+returns-in_default-clause-reads_line c = search (rules, laws)

@@ -6,11 +6,11 @@ use Rattle.text.proofs.space.find_space.Goals as goal
 pub returns-then-n-eq0 : goal.returns-then-n-eq0
 returns-then-n-eq0 c = search (rules, laws)
 
-pub returns-in-Text : goal.returns-in-Text
-returns-in-Text c = search (rules, laws)
+pub returns-in_err-check_utf8 : goal.returns-in_err-check_utf8
+returns-in_err-check_utf8 c = search (rules, laws)
 
-pub returns-in-Broken : goal.returns-in-Broken
-returns-in-Broken c = search (rules, laws)
+pub returns-then-is_space : goal.returns-then-is_space
+returns-then-is_space c = search (rules, laws)
 
 pub loop-i-preserved : goal.loop-i-preserved
 loop-i-preserved c = search (rules, laws)

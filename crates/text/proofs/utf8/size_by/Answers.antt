@@ -1,28 +1,7 @@
 -- `text::utf8::size_by` meets its contract: one law for each way out, by what the first byte asks for. Assumes nothing.
--- src/utf8.rt:67:16
--- src/utf8.rt:70:17
--- src/utf8.rt:71:17
--- src/utf8.rt:73:16
--- src/utf8.rt:76:17
--- src/utf8.rt:77:17
--- src/utf8.rt:79:17
--- src/utf8.rt:80:17
--- src/utf8.rt:82:16
--- src/utf8.rt:61:1
--- src/utf8.rt:61:1
--- src/utf8.rt:61:1
--- src/utf8.rt:61:1
--- src/utf8.rt:61:1
--- src/utf8.rt:61:1
--- src/utf8.rt:61:1
--- src/utf8.rt:61:1
--- src/utf8.rt:61:1
-use Rattle.text.proofs.Utf8Laws.{laws}
 use Rattle.std.proofs.Common.{rules}
+use Rattle.text.proofs.Utf8Laws.{laws}
 use Rattle.text.proofs.utf8.size_by.Goals as goal
-
-pub returns-then-not-is_second_of_three : goal.returns-then-not-is_second_of_three
-returns-then-not-is_second_of_three c = search (rules, laws)
 
 pub returns-then-not-is_second_of_four : goal.returns-then-not-is_second_of_four
 returns-then-not-is_second_of_four c = search (rules, laws)
@@ -42,8 +21,8 @@ returns-else-is_further c = search (rules, laws)
 pub returns-then-is_further-2 : goal.returns-then-is_further-2
 returns-then-is_further-2 c = search (rules, laws)
 
-pub returns-else-is_further-2 : goal.returns-else-is_further-2
-returns-else-is_further-2 c = search (rules, laws)
+pub returns-else-is_second_of_three : goal.returns-else-is_second_of_three
+returns-else-is_second_of_three c = search (rules, laws)
 
 pub returns-then-is_further-3 : goal.returns-then-is_further-3
 returns-then-is_further-3 c = search (rules, laws)

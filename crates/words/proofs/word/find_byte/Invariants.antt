@@ -3,8 +3,8 @@ use Prim.Native.Nat.{◌-◌}
 use Rattle.words.proofs.FindLaws.{Nearing}
 use Rattle.words.proofs.word.find_byte.Given as goal
 
-abbrev pub invariant-loop-i : goal.invariant-loop-i
-invariant-loop-i l = Nearing l.b l.s l.from l.near l.i
+abbrev pub invariant-loop-bytes : goal.invariant-loop-bytes
+invariant-loop-bytes l = Nearing l.b l.s l.from l.near l.i
 
-abbrev pub decreases-loop-i : goal.decreases-loop-i
-decreases-loop-i l = l.near - l.i
+abbrev pub decreases-loop-bytes : goal.decreases-loop-bytes
+decreases-loop-bytes l = l.near - l.i

@@ -1,9 +1,0 @@
--- `cases::lines::then_places` is safe and ends: a counter below ten has room for one more, and the measure is how many names are left. Assumes nothing.
-use Prim.Native.Nat.{◌-◌}
-use Rattle.cases.proofs.lines.then_places.Given as goal
-
-abbrev pub invariant-loop-k : goal.invariant-loop-k
-invariant-loop-k l = Unit {0}
-
-abbrev pub decreases-loop-k : goal.decreases-loop-k
-decreases-loop-k l = 10 - l.k

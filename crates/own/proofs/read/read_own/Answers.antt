@@ -1,7 +1,0 @@
--- `own::read::read_own` meets its contract: what `read_from` ensures, at the end of the row where `from` lies past it. Assumes nothing.
-use Rattle.std.proofs.Common.{rules}
-use Rattle.own.proofs.ReadLaws.{past_row}
-use Rattle.own.proofs.read.read_own.Goals as goal
-
-pub returns-then-from-gt64 : goal.returns-then-from-gt64
-returns-then-from-gt64 c = search (rules, past_row)
