@@ -56,8 +56,8 @@ fn tell_line(line: Record, next: usize, values: &mut [u64; LINE_VALUES]) -> u64
     tell(0, &vs, values)
 }
 
-// One copy for each line reader: each of its functions is then called at one place, where it is inlined, and the record that was
-// read stays in registers (docs/SPEED.md).
+// Inlined in the entry of each line reader: what it calls is then called at one place there, and the record that was read stays in
+// registers (docs/SPEED.md).
 #[inline(always)]
 pub(crate) fn tell_read(
     read: Result<(Record, usize), Refusal>,

@@ -30,7 +30,7 @@ pub enum NoEntry {
     Nothing(usize),
 }
 
-// A step's number, and the next place. Kept: `Tells` promises the number, which is told to C.
+// A step's number, and the next place. Kept: it is what `tell` answers, a public function whose promise `Tells` is that number.
 #[derive(Clone, Copy)]
 pub struct Told {
     pub number: u64,
