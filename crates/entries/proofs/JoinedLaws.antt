@@ -6,16 +6,16 @@ use mathlib.Core.List.{List, [], ◌∷◌, ◌++◌, flatten, append_assoc, app
 use native.Mathlib.Omega.{arith}
 use native.Mathlib.Nat.{zero-add}
 use native.Mathlib.Decide.{dec_le}
-use lib.ListN.{length, get_or, drop, set, length-append}
+use lib.ListN.{length, get_or, take, drop, set, length-append}
 use lib.Dec.{leb}
 use denote.Ref.{Bor}
 use lib.Seq.{length-take-le}
 use borrow.Author.Tests.{le-leb, lt-leb, leb-true, leb-false}
 use borrow.Rule.Slice.PartMut.{put_mid}
 use Rattle.std.specs.Prelude.{Result, Ok, Err}
-use Rattle.text.specs.Over.{over, over_at, room_answer, laid}
+use Rattle.text.specs.Over.{over, over_at, room_answer, laid, Writes}
 use Rattle.text.specs.declared.copy.NoRoom.{NoRoom}
-use Rattle.text.proofs.CopyLaws.{room_fits, room_lacks, copy_short, copy_done}
+use Rattle.text.proofs.CopyLaws.{room_fits, room_lacks, copy_short, copy_done, writes_part}
 use Rattle.text.proofs.WrittenLaws.{Wrote, Lacked, writes_done, writes_short}
 use Rattle.text.proofs.Lists.{part_put, over_nil, over_append, over_at_append, over_at_one, length_over_at}
 use Rattle.pieces.specs.Pieces.{joined}
@@ -89,6 +89,10 @@ module _ (b : ℕ) (t ends : List ℕ) (h : length ends ≡ 0) where
 
 -- ---- an entry, and a separator behind it
 
+-- what is copied to the part for it
+pub put_copied : {p ys : List ℕ} {r : Result ℕ NoRoom} (l : List ℕ) (at : ℕ) → at + length p < length l → Writes p (take (at + length p - at) (drop at l)) r ys → ys ≡ p
+put_copied l at h w = writes_part at l (omega arith) w
+
 module _ (b : ℕ) (p l : List ℕ) (at : ℕ) {ys : List ℕ} (h : at + length p < length l) (w : ys ≡ p) where
   pub put_bytes : set (put_mid at (at + length p - at) l ys) (at + length p) b ≡ over_at at (p ++ b ∷ []) l
   put_bytes =
@@ -152,6 +156,9 @@ module _ {b : ℕ} {t ends l₀ l : List ℕ} {i at : ℕ} (g : Laying b t ends 
 
   pub last_room : at + length p ≤ length l
   last_room = let m = last_count in let k = g.room in let c = g.len in omega arith
+
+  pub last_copied : {ys : List ℕ} {r : Result ℕ NoRoom} → Writes p (take (at + length p - at) (drop at l)) r ys → ys ≡ p
+  last_copied w = writes_part at l last_room w
 
   pub last_bytes : {ys : List ℕ} → ys ≡ p → put_mid at (at + length p - at) l ys ≡ over (joined b (entry_list t ends)) l₀
   last_bytes {ys} w = part_put at p l ys w ∙ (rw last_here at g.same)
@@ -224,6 +231,6 @@ joined_tells {b} {t} {ends} {l} {l'} x g r = by (dec_le (length vs) (length l))
         let m : length l < length vs = omega arith in
         rw (joined_paper_injective x (Err J.Short) (answer ∙ room_lacks vs l m)) (record { room = m; bytes = bytes ∙ rw (room_lacks vs l m) })
 
-pub ruleset lay_laws = (none_count, none_bytes, lay_first, lay_room, lay_turn, last_count, last_room, last_bytes)
+pub ruleset lay_laws = (none_count, none_bytes, lay_first, lay_room, lay_turn, last_count, last_room, last_copied, last_bytes)
 
-pub ruleset laws = (fits_none, fits_no_end, fits_rest, put_bytes, put_room, put_short, put_done)
+pub ruleset laws = (fits_none, fits_no_end, fits_rest, put_copied, put_bytes, put_room, put_short, put_done)

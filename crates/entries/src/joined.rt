@@ -8,7 +8,7 @@ ghost use Rattle.entries.specs.declared.joined.JoinError.TheVariants.{Wrong, Sho
 
 use crate::entries::WrongEnds;
 use crate::list::Entries;
-use text::copy::NoRoom;
+use text::copy::{NoRoom, copy};
 
 // Why the entries are not written.
 #[derive(Clone, Copy, Debug, PartialEq, Eq)]
@@ -42,7 +42,7 @@ fn put_entry(e: &[u8], separator: u8, out: &mut [u8], at: usize) -> usize
     ensures out_after { out.new ≡ over_at at (e.now ++ separator ∷ []) out.old }
 {
     let behind = at + e.len();
-    out[at..behind].copy_from_slice(e);
+    let _ = copy(e, &mut out[at..behind]);
     out[behind] = separator;
     behind + 1
 }
@@ -75,7 +75,7 @@ impl<'a> Entries<'a> {
         }
         let last = self.get(many);
         let end = at + last.len();
-        out[at..end].copy_from_slice(last);
+        let _ = copy(last, &mut out[at..end]);
         end
     }
 

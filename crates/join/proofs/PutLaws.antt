@@ -11,7 +11,10 @@ use lib.Seq.{length-take-le, take-add, take-take}
 use lib.Dec.{leb}
 use borrow.Author.Tests.{leb-true}
 use borrow.Rule.Slice.PartMut.{put_mid}
-use Rattle.text.specs.Over.{over, over_at}
+use Rattle.std.specs.Prelude.{Result}
+use Rattle.text.specs.Over.{over, over_at, Writes}
+use Rattle.text.specs.declared.copy.NoRoom.{NoRoom}
+use Rattle.text.proofs.CopyLaws.{writes_part}
 use Rattle.text.proofs.Lists.{part_put, over_at_append, over_at_one, over_at_again, length_over_at}
 use Rattle.pieces.specs.Pieces.{joined}
 use Rattle.entries.specs.Entries.{rising, entry_list}
@@ -24,6 +27,10 @@ use Rattle.join.specs.Inner.{Lies, Short, Puts}
 
 part_is : (at k : ℕ) (vs l : List ℕ) {ys : List ℕ} → length vs ≡ k → ys ≡ vs → put_mid at (at + k - at) l ys ≡ over_at at vs l
 part_is at k vs l {ys} n e = rw (← n) (part_put at vs l ys e)
+
+-- what is copied to the part for it
+copied_is : (at k : ℕ) {vs ys : List ℕ} {r : Result ℕ NoRoom} (l : List ℕ) → length vs ≡ k → at + k ≤ length l → Writes vs (take (at + k - at) (drop at l)) r ys → ys ≡ vs
+copied_is at k {vs} {ys} l n h w = writes_part at l (rw n h) (let v : Writes vs (take (at + length vs - at) (drop at l)) _ ys = rw (← n) at w in v)
 
 -- through a block of sixteen
 pub sixteen_put : (s l : List ℕ) (at : ℕ) {z ys : List ℕ} → 16 ≤ length s → z ≡ take 16 s → ys ≡ z → put_mid at (at + 16 - at) l ys ≡ over_at at (take 16 s) l
@@ -72,6 +79,9 @@ module _ {n : ℕ} {s : List ℕ} {at : ℕ} {l : List ℕ} (g : Lies n s at l) 
         let d : length (take (16 - n) (drop n s)) ≤ length s - n = omega (arith, simp length-append at (ap length a)) in
         rw (e, a) (puts_more (take n s) (take (16 - n) (drop n s)) d (rw (← a) (omega (arith, short_room))))
 
+  pub part_copied : {ys : List ℕ} {r : Result ℕ NoRoom} → Writes (take n s) (take (at + n - at) (drop at l)) r ys → ys ≡ take n s
+  part_copied {ys} w = let m = g.room in copied_is at n l part_length (omega arith) w
+
   module _ {ys : List ℕ} (w : ys ≡ take n s) where
     copied : put_mid at (at + n - at) l ys ≡ over_at at (take n s ++ []) l
     copied = rw append-nil (part_is at n (take n s) l part_length w)
@@ -101,7 +111,7 @@ module _ {n : ℕ} {s : List ℕ} {at : ℕ} {l : List ℕ} (g : Lies n s at l) 
               (rw q at (p.same (9 ∷ vs) (omega arith)));
         }
 
-pub ruleset part_laws = (sixteen_put, short_no, short_yes, short_text, short_room, short_puts, copy_puts, tab_room, tab_puts)
+pub ruleset part_laws = (sixteen_put, short_no, short_yes, short_text, short_room, short_puts, part_copied, copy_puts, tab_room, tab_puts)
 
 -- ---- all columns
 
@@ -229,7 +239,11 @@ module _ {t ends l₀ l : List ℕ} {start at i : ℕ} (g : Putting t ends l₀ 
         let e = rw z at (start_later ends (length ends) (λ z. omega arith)) in
         rw (z, q, ← e, g.from) (entry_cut t ends i w)
 
+    pub last_copied : {ys : List ℕ} {r : Result ℕ NoRoom} → Writes (take (last - start) (drop start t)) (take (at + (last - start) - at) (drop at l)) r ys
+        → ys ≡ take (last - start) (drop start t)
+    last_copied w = copied_is at (last - start) l left_length put_room w
+
     pub put_last : {ys : List ℕ} → ys ≡ take (last - start) (drop start t) → put_mid at (at + (last - start) - at) l ys ≡ over (joined 9 (entry_list t ends)) l₀
     put_last w = rw left_length at (last_bytes g.lay last_column h w)
 
-pub ruleset put_laws = (put_first, column_up, put_lies, put_turn, put_up, put_within, put_room, put_sum, put_last)
+pub ruleset put_laws = (put_first, column_up, put_lies, put_turn, put_up, put_within, put_room, put_sum, last_copied, put_last)

@@ -6,6 +6,7 @@ ghost use Rattle.entries.specs.Entries.{rising, entry_list};
 ghost use Rattle.join.specs.Inner.{Lies, Short, Puts};
 
 use crate::simple::last_end;
+use text::copy::copy;
 
 // Copies the first 16 bytes of a text. Through a block of their own they are moved at once, since it shares no memory with either side.
 fn put_sixteen(from: &[u8], out: &mut [u8], at: usize)
@@ -35,7 +36,7 @@ fn put_part(from: &[u8], n: usize, out: &mut [u8], at: usize)
     if is_short(from, n) {
         put_sixteen(from, out, at);
     } else {
-        out[at..at + n].copy_from_slice(&from[..n]);
+        let _ = copy(&from[..n], &mut out[at..at + n]);
     }
 }
 
@@ -65,5 +66,5 @@ pub(crate) fn put_columns(text: &[u8], ends: &[usize], out: &mut [u8])
         at = put_column(&text[start..last], end - start, out, at);
         start = end;
     }
-    out[at..at + (last - start)].copy_from_slice(&text[start..last]);
+    let _ = copy(&text[start..last], &mut out[at..at + (last - start)]);
 }

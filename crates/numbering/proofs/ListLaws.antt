@@ -6,13 +6,13 @@ use mathlib.Core.List.{List, [], ◌∷◌, ◌++◌, append_assoc, append-nil, 
 use native.Mathlib.Omega.{arith}
 use native.Mathlib.Numerals.{add-one}
 use native.Mathlib.Nat.{mul-le-mul_left}
-use lib.ListN.{length, take, drop, set, length-set, length-append, drop_of_length-le}
-use lib.Seq.{length-take-le, drop-drop}
+use lib.ListN.{length, get_or, take, drop, set, length-set, length-append, drop_of_length-le}
+use lib.Seq.{length-take-le, sets, sets-eq, drop-drop}
 use lib.Dec.{leb}
 use borrow.Author.Tests.{le-leb, lt-leb}
 use Rattle.std.specs.Prelude.{Ok, Err}
-use Rattle.text.specs.Over.{over_at}
-use Rattle.text.proofs.Lists.{part_put, over_at_nil, over_at_append, length_over_at}
+use Rattle.text.specs.Over.{over, over_at}
+use Rattle.text.proofs.Lists.{here, over_at_nil, over_at_append, length_over_at}
 use Rattle.numbering.specs.Ordering.{followed, ordering}
 use Rattle.numbering.specs.Closed.{how_many}
 use Rattle.numbering.specs.Answers.{limits, list_answer}
@@ -28,6 +28,29 @@ use Rattle.numbering.proofs.CountLaws.{count_small}
 use Rattle.numbering.proofs.StoreLaws.{stored}
 use Rattle.numbering.proofs.FlatLaws.{length_flat}
 use Rattle.numbering.proofs.LimitLaws.{Counted, counted, limited}
+
+-- ---- one genotype
+
+pub record Copying (cur row₀ row : List ℕ) (at i : ℕ) : Type 0 where
+  pub within : i ≤ length cur
+  pub long : length row ≡ length row₀
+  pub same : sets row (at + i) (drop i cur) ≡ sets row₀ at cur
+
+pub copy_first : {cur row : List ℕ} {at : ℕ} → Copying cur row row at 0
+copy_first {cur} {row} {at} = let e : at + 0 ≡ at = omega arith in record { within = zero-le; long = refl; same = rw e }
+
+module _ {cur row₀ row : List ℕ} {at i : ℕ} (g : Copying cur row₀ row at i) (room : at + length cur ≤ length row₀) where
+  pub copy_room : i < length cur → at + i < length row
+  copy_room h = let l = g.long in omega arith
+
+  pub copy_turn : i < length cur → Copying cur row₀ (set row (at + i) (get_or cur i 0)) at (i + 1)
+  copy_turn h =
+      let e : at + (i + 1) ≡ suc (at + i) = omega arith in
+      record { within = omega arith; long = simp length-set g.long; same = rw e (rw (here cur i h) at g.same) }
+
+  pub copy_past : length cur ≤ i → row ≡ over_at at cur row₀
+  unfolding over_at over
+  copy_past h = rw (drop_of_length-le cur h) at g.same ∙ sets-eq cur row₀ at room ∙ rw (drop-drop (length cur) at row₀) (append_assoc (take at row₀) cur _)
 
 -- ---- blocks
 
@@ -207,7 +230,7 @@ module _ (p n : ℕ) where
     list_some = rw g.ploidy k.limits.one
 
     pub shape_product : c * p < 2 ^ 64
-    shape_product = limits_product k.limits k.is
+    shape_product = list_product p n (sym k.within) refl k.is
 
     room : c * p ≡ length (flatten (ordering p n))
     room = ap (λ (j : ℕ). j * p) k.is ∙ sym (length_all p n)
@@ -242,4 +265,4 @@ module _ (p n : ℕ) where
             let e : c ≡ length (ordering p n) = k.is ∙ sym (length_ordering p n) in
             record { answer = rw (k.within, f, e); row = rw (k.within, f) (y.rows ∙ rw (block_all p n x long)) }
 
-pub ruleset laws = (part_put, go_first, go_store, go_room, go_turn, go_past, first_room, first_turn, base_room, base_listed, scratch_length, list_some, shape_product, list_short, list_room, list_done)
+pub ruleset laws = (copy_first, copy_room, copy_turn, copy_past, go_first, go_store, go_room, go_turn, go_past, first_room, first_turn, base_room, base_listed, scratch_length, list_some, shape_product, list_short, list_room, list_done)

@@ -13,9 +13,11 @@ fn put_one(current: &[u64], row: &mut [u64], at: usize) -> usize
     ensures value { result ≡ at + length current.now }
     ensures row_after { row.new ≡ over_at at current.now row.old }
 {
-    let end = at + current.len();
-    row[at..end].copy_from_slice(current);
-    end
+    // Kept: a loop, since `copy_from_slice` calls `memmove`, which the archive for C would need from outside.
+    for i in 0..current.len() {
+        row[at + i] = current[i];
+    }
+    at + current.len()
 }
 
 // Writes from the place `at` on each allele in turn, followed by what stands behind it in `current`, and returns the place past them.

@@ -2,12 +2,12 @@
 use Prim.Native.Nat.{ℕ, ◌+◌, ◌-◌, ◌<◌, ◌≤◌}
 use mathlib.Core.Path.{◌≡◌, refl, ap, ◌∙◌}
 use mathlib.Core.Bool.{Bool, true, false}
-use mathlib.Core.List.{List, [], ◌∷◌, ◌++◌}
+use mathlib.Core.List.{List, [], ◌∷◌, append-nil}
 use native.Mathlib.Omega.{arith}
 use native.Mathlib.Decide.{dec_le}
 use native.Mathlib.Numerals.{add-one}
-use lib.ListN.{length, get_or, take, drop, set, length-set, drop_of_length-le}
-use lib.Seq.{sets, drop-cons}
+use lib.ListN.{length, get_or, take, drop, set, length-set, length-drop, drop_of_length-le}
+use lib.Seq.{sets, drop-cons, length-take-le}
 use lib.Dec.{eqb}
 use borrow.Author.Tests.{le-leb, lt-leb, ne_eqb}
 use borrow.Rule.Slice.PartMut.{put_mid}
@@ -17,7 +17,7 @@ use Rattle.text.specs.Answer.{says, Answer, number_of}
 use Rattle.text.specs.Over.{over, over_at, room_for, room_answer, Writes, laid, laid_at}
 use Rattle.text.specs.Paper.{written_paper}
 use Rattle.text.specs.declared.copy.NoRoom.{NoRoom}
-use Rattle.text.proofs.Lists.{sets_over, rest_put, rest_back}
+use Rattle.text.proofs.Lists.{sets_over, rest_put, rest_back, over_is}
 
 -- i bytes of vs are copied, and l stands where l₀ stood
 pub record Copying (vs l₀ l : List ℕ) (i : ℕ) : Type 0 where
@@ -47,10 +47,9 @@ copy_past {vs} {l₀} {l} {i} g h =
       bytes = rw (le-leb _ _ g.fits) ((rw (drop_of_length-le vs h) at g.same) ∙ sets_over vs l₀ g.fits);
     }
 
--- all of vs copied at once
-pub copy_whole : {vs l xs : List ℕ} → length vs ≤ length l → xs ≡ vs → Writes vs l (Ok (length vs)) (xs ++ drop (length vs) l)
-unfolding room_answer written_paper over
-copy_whole h e = record { answer = rw (le-leb _ _ h); bytes = rw (e, le-leb _ _ h) }
+-- all of vs are copied
+pub copy_all : {vs l₀ l : List ℕ} {i : ℕ} → Copying vs l₀ l i → length vs ≤ i → Writes vs l₀ (Ok (length vs)) l
+copy_all {vs} {l₀} {l} {i} g h = let w = g.within in let e : i ≡ length vs = omega arith in let c : Writes vs l₀ (Ok i) l = copy_past g h in rw e at c
 
 pub copy_done : {vs l l' : List ℕ} {n : ℕ} → length vs ≤ length l → n ≡ length vs → l' ≡ over vs l → Writes vs l (Ok n) l'
 unfolding room_answer written_paper
@@ -82,6 +81,15 @@ pub writes_fits : {vs l l' : List ℕ} {r : Result ℕ NoRoom} → Writes vs l r
 unfolding room_answer
 writes_fits w h = w.bytes ∙ rw (le-leb _ _ h)
 
+-- what was copied over a part as long as it
+pub writes_part : {vs ys : List ℕ} {r : Result ℕ NoRoom} (at : ℕ) (l : List ℕ) → at + length vs ≤ length l → Writes vs (take (at + length vs - at) (drop at l)) r ys → ys ≡ vs
+writes_part {vs} {ys} at l h w =
+    let k : at + length vs - at ≡ length vs = omega arith in
+    let d = length-drop at l in
+    let m = length-take-le (length vs) (drop at l) (omega arith) in
+    let v : Writes vs (take (length vs) (drop at l)) _ ys = rw k at w in
+    writes_fits v (omega arith) ∙ over_is vs (take (length vs) (drop at l)) ∙ rw (drop_of_length-le (take (length vs) (drop at l)) {i = length vs} (omega arith)) (append-nil vs)
+
 -- a refusal lays nothing
 pub laid_refused : {X : Type 0} (a : Answer) (vs l : List X) → (number_of a ≡ 0 → ⊥) → laid a vs l ≡ l
 laid_refused a vs l z = rw (ne_eqb _ _ z)
@@ -97,4 +105,4 @@ rest_laid a at vs l ys e = by (eqb (number_of a) 0) e
     by true e = rest_put at vs l ys e
     by false e = rest_back at l ys e
 
-pub ruleset laws = (copy_whole, copy_short)
+pub ruleset laws = (copy_first, copy_turn, copy_all, copy_short)

@@ -12,6 +12,9 @@ pub fn copy(from: &[u8], out: &mut [u8]) -> Result<usize, NoRoom>
     if from.len() > out.len() {
         return Err(NoRoom);
     }
-    out[..from.len()].copy_from_slice(from);
+    // Kept: a loop, since `copy_from_slice` calls `memmove`, which the archive for C would need from outside.
+    for i in 0..from.len() {
+        out[i] = from[i];
+    }
     Ok(from.len())
 }

@@ -30,17 +30,17 @@ overflow_sub-last c = search (rules, put_laws)
 pub overflow_add-at : goal.overflow_add-at
 overflow_add-at c = search (rules, put_laws)
 
-pub slice_bounds-copy_from_slice-end : goal.slice_bounds-copy_from_slice-end
-slice_bounds-copy_from_slice-end c = search (rules, put_laws)
+pub slice_bounds-copy-end : goal.slice_bounds-copy-end
+slice_bounds-copy-end c = search (rules, put_laws)
 
-pub slice_bounds-copy_from_slice-count-2 : goal.slice_bounds-copy_from_slice-count-2
-slice_bounds-copy_from_slice-count-2 c = search (rules, put_laws)
+pub slice_bounds-copy-count : goal.slice_bounds-copy-count
+slice_bounds-copy-count c = search (rules, put_laws)
 
-pub slice_bounds-copy_from_slice-start-2 : goal.slice_bounds-copy_from_slice-start-2
-slice_bounds-copy_from_slice-start-2 c = search (rules, put_laws)
+pub slice_bounds-copy-start : goal.slice_bounds-copy-start
+slice_bounds-copy-start c = search (rules, put_laws)
 
-pub slice_bounds-copy_from_slice-end-2 : goal.slice_bounds-copy_from_slice-end-2
-slice_bounds-copy_from_slice-end-2 c = search (rules, put_laws)
+pub slice_bounds-copy-end-2 : goal.slice_bounds-copy-end-2
+slice_bounds-copy-end-2 c = search (rules, put_laws)
 
 pub returns : goal.returns
 returns c = search (rules, put_laws)

@@ -1,4 +1,4 @@
--- The genotype lies over the row from the place on, and behind it stands what stood there. Assumes nothing.
+-- The alleles still to copy, stored from there on, give what all of them give stored from the start. Assumes nothing.
 use Rattle.std.proofs.Common.{rules}
 use Rattle.numbering.proofs.ListLaws.{laws}
 use Rattle.numbering.proofs.list.put_one.Goals as goal

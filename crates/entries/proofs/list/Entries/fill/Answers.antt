@@ -18,8 +18,8 @@ put_entry-at-requires c = search (rules, lay_laws)
 pub loop-i-preserved : goal.loop-i-preserved
 loop-i-preserved c = search (rules, lay_laws)
 
-pub slice_bounds-copy_from_slice-end : goal.slice_bounds-copy_from_slice-end
-slice_bounds-copy_from_slice-end c = search (rules, lay_laws)
+pub slice_bounds-copy-end : goal.slice_bounds-copy-end
+slice_bounds-copy-end c = search (rules, lay_laws)
 
 pub returns-clause-value : goal.returns-clause-value
 returns-clause-value c = search (rules, lay_laws)
