@@ -2,9 +2,10 @@
 // is none of what is asked for, the answer is None.
 ghost use Rattle.std.specs.Prelude.{◌≤◌, ◌<◌, IfSome};
 
-use crate::parts::{first, part};
+use crate::parts::{first, part, text_at};
 use decimal::read::read_decimal;
 use pieces::count::count_pieces;
+use pieces::nth::piece_nth;
 use record::ending::Ending;
 
 // The most bytes of output that a case may lend.
@@ -16,9 +17,12 @@ const BYTES: usize = 32768;
 pub type Text = [u8; BYTES];
 
 // Part k of s between marks. It is empty where two marks meet, where s starts or ends with one, and
-// where there are fewer parts.
+// where there are fewer parts. Kept: by `split` each byte of a long word is looked at by itself.
 pub fn between(s: &[u8], mark: u8, k: usize) -> &[u8] {
-    s.split(|b| *b == mark).nth(k).unwrap_or(&[])
+    match piece_nth(s, mark, k) {
+        Some(range) => text_at(s, range),
+        None => &[],
+    }
 }
 
 // Word k of a case, its verb being word 0. No verb and no argument is empty.
@@ -28,9 +32,10 @@ pub fn word(case: &[u8], k: usize) -> &[u8] {
 
 // The words of a case from word k on, which is word 0 of them.
 pub fn words_from(case: &[u8], k: usize) -> &[u8] {
-    case.splitn(k.saturating_add(1), |b| *b == b' ')
-        .nth(k)
-        .unwrap_or(&[])
+    match piece_nth(case, b' ', k) {
+        Some(range) => part(case, range.start, case.len()),
+        None => &[],
+    }
 }
 
 // Word k of a case as a number.
@@ -78,12 +83,13 @@ pub fn numbers<'a>(case: &[u8], k: usize, row: &'a mut Row) -> Option<&'a [usize
 
 // Word k of a case as an ending.
 pub fn ending(case: &[u8], k: usize) -> Option<Ending> {
-    match word(case, k) {
-        b"none" => Some(Ending::Nothing),
-        b"lf" => Some(Ending::Feed),
-        b"crlf" => Some(Ending::ReturnFeed),
-        _ => None,
-    }
+    let size = match word(case, k) {
+        b"none" => 0,
+        b"lf" => 1,
+        b"crlf" => 2,
+        _ => return None,
+    };
+    Some(Ending::by_size(size))
 }
 
 // The worth of a lower-case hex digit.

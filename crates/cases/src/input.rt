@@ -1,8 +1,9 @@
 // Standard input as lines, each answered once it has ended.
 use crate::case_words::Text;
 use crate::output::Buffer;
-use crate::parts::first;
+use crate::parts::{first, part, text_at};
 use crate::verbs::{answer, refuse};
+use pieces::step::{Piece, piece_at};
 use std::io;
 use std::io::Read;
 
@@ -41,14 +42,15 @@ fn take_bytes(
     out: &mut Buffer,
 ) -> Option<usize> {
     let mut len = begun;
-    let mut rest = bytes;
-    while let Some(end) = rest.iter().position(|b| *b == b'\n') {
-        len = lengthen(line, len, &rest[..end]);
+    // Kept: by `position` each byte of a long line is looked at by itself.
+    let mut from = 0;
+    while let Ok(Piece::More(range, next)) = piece_at(bytes, b'\n', from) {
+        len = lengthen(line, len, text_at(bytes, range));
         end_line(line, len, text, out);
         len = Some(0);
-        rest = &rest[end + 1..];
+        from = next;
     }
-    lengthen(line, len, rest)
+    lengthen(line, len, part(bytes, from, bytes.len()))
 }
 
 // A last line with no LF is a line all the same.
