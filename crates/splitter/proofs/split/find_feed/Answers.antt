@@ -1,11 +1,16 @@
--- `splitter::split::find_feed` meets its contract: it is the first place whose byte passes the test. Assumes nothing.
-use Rattle.std.proofs.Common.{rules, ◌≡◌, length, get_or}
-use borrow.Author.Tests.{tests}
-use Rattle.std.proofs.lemmas.Iterator.{first_from_Range}
-use Rattle.splitter.proofs.EndLaws.{first_fed}
+-- `splitter::split::find_feed` meets its contract: no LF stands before the place that is looked at. Assumes nothing.
+use Rattle.std.proofs.Common.{rules}
+use Rattle.splitter.proofs.EndLaws.{feed_laws}
 use Rattle.splitter.proofs.split.find_feed.Goals as goal
 
+pub loop-i-init : goal.loop-i-init
+loop-i-init c = search (rules, feed_laws)
+
+pub loop-i-preserved : goal.loop-i-preserved
+loop-i-preserved c = search (rules, feed_laws)
+
+pub returns-then-s-i-eq10 : goal.returns-then-s-i-eq10
+returns-then-s-i-eq10 c = search (rules, feed_laws)
+
 pub returns : goal.returns
-returns c =
-    first_fed c.args.s.now c.args.at c.find.result
-    (first_from_Range (record { start = c.args.at; end = length c.args.s.now }) _ _ c.find.result (λ i. get_or c.args.s.now i 0 ≡ 10) (λ i. get_or c.args.s.now i 0 ≡ 10 → ⊥) c.find.ensures.ran (λ x q k. search (rules, tests)) (λ x q k. search (rules, tests)))
+returns c = search (rules, feed_laws)
