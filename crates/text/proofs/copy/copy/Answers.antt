@@ -6,5 +6,8 @@ use Rattle.text.proofs.copy.copy.Goals as goal
 pub returns-then-from-out : goal.returns-then-from-out
 returns-then-from-out c = search (rules, laws)
 
+pub loop-i-preserved : goal.loop-i-preserved
+loop-i-preserved c = search (rules, laws)
+
 pub returns : goal.returns
 returns c = search (rules, laws)
