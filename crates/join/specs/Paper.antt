@@ -1,3 +1,4 @@
+-- The number on paper, and the values, of each answer of this crate (docs/RULES.md, "Numbers answered"). Assumes nothing.
 use Rattle.std.specs.Prelude.{ℕ, [], ◌∷◌, Result, Ok, Err}
 use Rattle.text.specs.Answer.{Answer, says}
 use Rattle.join.specs.declared.columns.JoinError.{JoinError}
