@@ -37,9 +37,7 @@ fn piece_end(s: &[u8], separator: u8, from: usize) -> usize
     find_either(s, separator, separator, near)
 }
 
-// The piece that starts at the place `at`. Inlined, since `piece_nth` asks for it at two places: as a call there it takes a quarter
-// more time for a piece of a short text.
-#[inline(always)]
+// The piece that starts at the place `at`.
 pub fn piece_at(s: &[u8], separator: u8, at: usize) -> Result<Piece, NoPiece>
     ensures { FindsPiece separator s.now at result }
 {
