@@ -1,5 +1,5 @@
 -- Writing, over any width: one pass that judges the list, the codes and the padding laid over the output, and the answer. Assumes nothing.
-use Prim.Native.Nat.{ℕ, suc, ◌+◌, ◌-◌, ◌*◌, ◌/◌, ◌≤◌, ◌<◌, max}
+use Prim.Native.Nat.{ℕ, suc, ◌+◌, ◌-◌, ◌*◌, ◌/◌, ◌^◌, ◌≤◌, ◌<◌, max}
 use mathlib.Core.Path.{◌≡◌, refl, sym, ap, ◌∙◌}
 use mathlib.Core.Bool.{Bool, true, false}
 use mathlib.Core.List.{List, [], ◌∷◌, map}
@@ -8,27 +8,28 @@ use mathlib.Core.Logic.{◌⊎◌, inl, inr}
 use Rattle.std.specs.Prelude.{Result, Ok, Err}
 use native.Mathlib.Omega.{arith}
 use native.Mathlib.Nat.{zero-mul}
-use mir.Val.{bool_byte}
-use lib.ListN.{length, take, drop, replicate, length-map}
+use mir.Syntax as M
+use mir.Val.{bool_byte, Fits}
+use lib.ListN.{length, get_or, take, drop, replicate, length-map}
 use lib.Dec.{eqb, leb}
 use borrow.Author.Tests.{lt-ltb, le-ltb, eq-eqb, ne_eqb, le-leb, lt-leb}
 use borrow.Rule.Slice.PartMut.{put_mid}
 use Rattle.text.specs.Pick.{pick}
 use Rattle.text.specs.Answer.{Answer, says, number_of}
 use Rattle.text.specs.Over.{over, over_at}
-use Rattle.text.proofs.Lists.{rest_all, over_at_nil, over_at_start, over_append}
+use Rattle.text.proofs.Lists.{rest_all, over_at_nil, over_at_start, over_append, length_over}
 use Rattle.text.proofs.CopyLaws.{laid_refused, rest_laid}
 use Rattle.allele.specs.declared.allele.Allele.{Allele}
-use Rattle.allele.specs.Row.{row_of, is_sound, first_unsound, Parallel}
+use Rattle.allele.specs.Row.{allele_of, row_of, is_sound, first_unsound, Parallel}
 use Rattle.spelling.specs.Row.{list_of, IsAt}
 use Rattle.spelling.specs.declared.row.Row.{Row}
 use Rattle.std.specs.Borrow.{Bor}
-use Rattle.allele.proofs.RowLaws.{unsound_none, unsound_more, unsound_here}
+use Rattle.allele.proofs.RowLaws.{at_is, row_here, row_past, sound_missing, sound_there, unsound_none, unsound_more, unsound_here}
 use Rattle.genotype.specs.Answers as G
 use Rattle.genotype.proofs.AnswerLaws.{row_even, row_uneven_nm, row_uneven_np}
 use Rattle.bcf.specs.Layout.{size, padding, largest, little_of, code_of, bytes_of}
 use Rattle.bcf.specs.Writing.{entries_for, vector_of, most_of, width_for, smallest, sound_answer, room_in, entries_answer, sized_answer, list_answer, row_answer, WritesVector}
-use Rattle.bcf.specs.Inner.{judged_by, JudgesList, WritesBy, WritesEntries, WritesSized, WritesList}
+use Rattle.bcf.specs.Inner.{TellsSound, judged_by, JudgesList, JudgesRow, WritesBy, WritesEntries, WritesSized, WritesList}
 use Rattle.bcf.specs.Paper.{write_paper}
 use Rattle.bcf.specs.declared.width.Width.{Width}
 use Rattle.bcf.specs.declared.write.Vector.{Vector}
@@ -49,6 +50,13 @@ module _ (a : Allele) {b : ℕ} (f : b ≡ bool_byte a.phased) where
   pub code_there : a.missing ≡ false → 2 * (a.number + 1) + b ≡ code_of a
   unfolding code_of
   code_there e = rw (e, f, byte_is a.phased)
+
+module _ (x y : ℕ) where
+  pub sound_zero : y ≡ 0 → TellsSound x y true
+  sound_zero e = record { is = λ z. sound_there (allele_of x y z) (rw (eq-eqb y 0 e)) }
+
+  pub sound_number : (y ≡ 0 → ⊥) → TellsSound x y (eqb x 0)
+  sound_number e = record { is = λ z. sound_missing (allele_of x y z) (rw (ne_eqb y 0 e)) }
 
 -- ---- judging
 
@@ -80,6 +88,21 @@ module _ {as' : List Allele} {most k : ℕ} (g : Judging as' most k) where
       let m = rw h at g.most in
       let i : most ≡ most_of as' = omega arith in
       rw (e, i)
+
+-- the same of two slices, whatever the third
+abbrev pub JudgingRow : List ℕ → List ℕ → ℕ → ℕ → Type 0
+JudgingRow n m x k = (p : List ℕ) → Parallel n m p → Judging (row_of n m p) x k
+
+module _ {n m : List ℕ} {most k : ℕ} (g : JudgingRow n m most k) where
+  module _ (h : k < length n) {r : Bool} (s : TellsSound (get_or n k 0) (get_or m k 0) r) where
+    pub judge_next : {x : ℕ} → r ≡ true → x ≡ max (get_or n k 0) most → JudgingRow n m x (k + 1)
+    judge_next t e = λ p q. judge_turn (g p q) (row_here n m p k q h (at_is n m p k)) (s.is (get_or p k 0)) t e
+
+    pub judge_stop : r ≡ false → JudgesRow n m (Err (W.Bad k))
+    judge_stop t = record { is = λ p q. judge_bad (g p q) (row_here n m p k q h (at_is n m p k)) (s.is (get_or p k 0)) t }
+
+  pub judge_end : length n ≤ k → JudgesRow n m (Ok most)
+  judge_end h = record { is = λ p q. judge_past (g p q) (row_past n m p k q h) }
 
 -- ---- the codes
 
@@ -189,12 +212,18 @@ module _ (as' : List Allele) (k : ℕ) (l : List ℕ) where
         pub entries_codes : length as' ≤ length l / size w
         entries_codes = omega arith
 
+        pub entries_fit : {s : ℕ} → s ≡ size w → length l * 1 < 2 ^ 63 → Fits M.w64 (k * s)
+        entries_fit f b = rw f (let i = within in record { fits = omega arith })
+
         module _ {l₁ : List ℕ} (y : l₁ ≡ over (bytes_of w (map code_of as')) l) where
           coded : length (bytes_of w (map code_of as')) ≡ length as' * size w
           coded = bytes_length w (map code_of as') ∙ ap (λ (c : ℕ). c * size w) (length-map as' code_of)
 
           laid_room : length (bytes_of w (map code_of as')) ≤ length l
           laid_room = let c = coded in let i = room_in_lem w (length as') (length l) entries_codes in omega arith
+
+          pub entries_pads : k ≤ length l₁ / size w
+          entries_pads = rw (y, length_over (bytes_of w (map code_of as')) l laid_room) (omega arith)
 
           pub entries_done : {s : ℕ} {l₂ : List ℕ} → s ≡ size w → l₂ ≡ over_at (c * size w) (bytes_of w (replicate (k - c) (padding w))) l₁
               → WritesEntries w k as' l (Ok (record { width = s; len = k * s })) l₂
@@ -271,4 +300,4 @@ pub write_made : (x : Row) {n m p : Bor (List ℕ)} (k : ℕ) (out : List ℕ) (
     → WritesVector n.now m.now p.now k out at r (put_mid at (length out - at) out ys)
 write_made x k out at h e w = rw (← e.0, ← e.1, ← e.2) (write_row k x.numbers.now x.missing.now x.phased.now out at h x.parallel w)
 
-pub ruleset laws = (code_there, code_missing, stuff_first, stuff_room, stuff_turn, stuff_len, stuff_past, sized_large, sized_small, sized_by, write_beyond)
+pub ruleset laws = (sound_zero, sound_number, code_there, code_missing, stuff_first, stuff_room, stuff_turn, stuff_len, stuff_past, sized_large, sized_small, sized_by, write_beyond)

@@ -1,9 +1,9 @@
 -- What the private functions of this crate promise each other. Assumes nothing.
-use Rattle.std.specs.Prelude.{ℕ, ◌≡◌, List, length, Result, Ok, Err}
+use Rattle.std.specs.Prelude.{ℕ, ◌≡◌, Bool, List, length, Result, Ok, Err}
 use Rattle.std.proofs.Math.Option.{Option, some, none}
 use Rattle.text.specs.Answer.{Answer}
 use Rattle.text.specs.Over.{laid}
-use Rattle.allele.specs.Row.{first_unsound}
+use Rattle.allele.specs.Row.{allele_of, row_of, is_sound, first_unsound, Parallel}
 use Rattle.allele.specs.declared.allele.Allele.{Allele}
 use Rattle.genotype.specs.Inner.{Room}
 use Rattle.bcf.specs.Reading.{codes_in}
@@ -23,6 +23,10 @@ pub record Fillable (w : Width) (es : List ℕ) (k : ℕ) (n m p : List ℕ) : T
 
 -- ---- writing
 
+-- whatever the phasing
+pub record TellsSound (number missing : ℕ) (r : Bool) : Type 0 where
+  pub is : (phased : ℕ) → r ≡ is_sound (allele_of number missing phased)
+
 -- 12, or the largest number
 unfoldable pub judged_by : Option ℕ → ℕ → Result ℕ WriteError
 judged_by (some k) most = Err (W.Bad k)
@@ -30,6 +34,10 @@ judged_by none most = Ok most
 
 abbrev pub JudgesList : List Allele → Result ℕ WriteError → Type 0
 JudgesList as' r = r ≡ judged_by (first_unsound 0 as') (most_of as')
+
+-- and whatever the phasings
+pub record JudgesRow (n m : List ℕ) (r : Result ℕ WriteError) : Type 0 where
+  pub is : (p : List ℕ) → Parallel n m p → JudgesList (row_of n m p) r
 
 -- at the start of an output, where the answer is done
 pub record WritesBy (a : Answer) (vs l : List ℕ) (r : Result Vector WriteError) (l' : List ℕ) : Type 0 where

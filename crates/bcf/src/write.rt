@@ -4,11 +4,11 @@ ghost use Rattle.text.specs.Over.{over, over_at};
 ghost use Rattle.spelling.specs.Row.{list_of};
 ghost use Rattle.bcf.specs.Layout.{size, padding, code_of, bytes_of};
 ghost use Rattle.bcf.specs.Writing.{most_of, WritesVector};
-ghost use Rattle.bcf.specs.Inner.{JudgesList, WritesEntries, WritesSized, WritesList};
+ghost use Rattle.bcf.specs.Inner.{TellsSound, JudgesRow, WritesEntries, WritesSized, WritesList};
 
 use crate::width::Width;
 use allele::allele::Allele;
-use spelling::row::{Row, is_sound};
+use spelling::row::Row;
 
 // A vector that was written: entries of so many bytes each, and so many bytes in all.
 #[derive(Clone, Copy, Debug, PartialEq, Eq)]
@@ -36,17 +36,24 @@ pub enum WriteError {
     Short,
 }
 
+// Whether an allele is not missing, or has the number 0.
+fn is_sound(number: u64, missing: u8) -> bool
+    ensures { TellsSound number missing result }
+{
+    missing == 0 || number == 0
+}
+
 // Judges a list in one pass: its largest number, or 12. Its phasings don't matter.
-fn judge(row: Row) -> Result<u64, WriteError>
-    ensures { JudgesList (list_of row.entry) result }
+fn judge(numbers: &[u64], missing: &[u8]) -> Result<u64, WriteError>
+    requires { length numbers.now ≡ length missing.now }
+    ensures { JudgesRow numbers.now missing.now result }
 {
     let mut most = 0;
-    for k in 0..row.len() {
-        let allele = row.at(k);
-        if !is_sound(allele) {
+    for k in 0..numbers.len() {
+        if !is_sound(numbers[k], missing[k]) {
             return Err(WriteError::Bad(k));
         }
-        most = allele.number.max(most);
+        most = numbers[k].max(most);
     }
     Ok(most)
 }
@@ -126,7 +133,7 @@ fn write_rest(row: Row, entries: usize, out: &mut [u8]) -> Result<Vector, WriteE
     if row.len() == 0 {
         return Err(WriteError::Empty);
     }
-    let most = judge(row)?;
+    let most = judge(row.numbers, row.missing)?;
     write_sound(row, most, entries, out)
 }
 

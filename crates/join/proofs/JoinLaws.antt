@@ -172,6 +172,13 @@ module _ (end tabs size room : ℕ) where
   unfolding joined_paper
   fit_short h = rw (lt-leb _ _ h)
 
+  module _ (h : end ≤ room) (l : tabs ≤ room - end) {n : ℕ} (e : n ≡ size) (k : n ≤ room - end - tabs) where
+    pub fit_tabs : room < 2 ^ 64 → Fits w64 (end + tabs)
+    fit_tabs z = record { fits = omega arith }
+
+    pub fit_all : room < 2 ^ 64 → Fits w64 (end + tabs + n)
+    fit_all z = record { fits = omega arith }
+
   pub fit_done : {n : ℕ} → n ≡ size → end ≤ room → tabs ≤ room - end → n ≤ room - end - tabs → joined_paper (Ok (end + tabs + n)) ≡ room_for (end + tabs + size) room
   unfolding joined_paper
   fit_done e h l k = rw (le-leb (end + tabs + size) room (omega arith), e)
@@ -371,4 +378,4 @@ module _ (t ends : List ℕ) (e : Ending) (at : ℕ) (out : List ℕ) where
 
 pub ruleset join_laws = (join_beyond, join_refused, join_rises, join_columns, join_fit, join_some, join_sum, join_end, join_fits, join_done)
 
-pub ruleset laws = (bad_empty, bad_found, return_none, return_not, return_byte, loses_feed, utf8_is, count_eight, count_ten, count_some, last_is, judge_first, judge_bad, judge_broken, judge_turn, fit_short, fit_done, judge_room, list_fine, list_wrong, list_rising, list_few, list_columns, put_nothing, feed_room, return_room, put_feed, put_return_feed)
+pub ruleset laws = (bad_empty, bad_found, return_none, return_not, return_byte, loses_feed, utf8_is, count_eight, count_ten, count_some, last_is, judge_first, judge_bad, judge_broken, judge_turn, fit_short, fit_tabs, fit_all, fit_done, judge_room, list_fine, list_wrong, list_rising, list_few, list_columns, put_nothing, feed_room, return_room, put_feed, put_return_feed)

@@ -15,7 +15,7 @@ use Rattle.std.specs.Prelude.{Result}
 use Rattle.text.specs.Over.{over, over_at, Writes}
 use Rattle.text.specs.declared.copy.NoRoom.{NoRoom}
 use Rattle.text.proofs.CopyLaws.{writes_part}
-use Rattle.text.proofs.Lists.{part_put, over_at_append, over_at_one, over_at_again, length_over_at}
+use Rattle.text.proofs.Lists.{part_put, over_at_append, over_at_one, over_at_again, length_over, length_over_at}
 use Rattle.pieces.specs.Pieces.{joined}
 use Rattle.entries.specs.Entries.{rising, entry_list}
 use Rattle.entries.specs.Inner.{start_of}
@@ -246,4 +246,7 @@ module _ {t ends l₀ l : List ℕ} {start at i : ℕ} (g : Putting t ends l₀ 
     pub put_last : {ys : List ℕ} → ys ≡ take (last - start) (drop start t) → put_mid at (at + (last - start) - at) l ys ≡ over (joined 9 (entry_list t ends)) l₀
     put_last w = rw left_length at (last_bytes g.lay last_column h w)
 
-pub ruleset put_laws = (put_first, column_up, put_lies, put_turn, put_up, put_within, put_room, put_sum, last_copied, put_last)
+    pub put_length : {ys : List ℕ} → ys ≡ take (last - start) (drop start t) → length (put_mid at (at + (last - start) - at) l ys) ≡ length l₀
+    put_length w = ap length (put_last w) ∙ length_over (joined 9 (entry_list t ends)) l₀ g.lay.room
+
+pub ruleset put_laws = (put_first, column_up, put_lies, put_turn, put_up, put_within, put_room, put_sum, last_copied, put_last, put_length)

@@ -19,6 +19,10 @@ use Rattle.listing.specs.declared.ask.Ask.{Ask}
 use Rattle.listing.specs.declared.ask.Ask.TheVariants as A
 use Rattle.listing.proofs.Told.{drive_onward, drive_inside}
 
+-- as many bytes as are lent
+pub part_count : (n : ℕ) (l : List ℕ) → n ≤ length l → n ≡ length (take n l)
+part_count n l h = sym (length-take-le n l h)
+
 -- ---- places that are not in order
 
 pub ask_strays : {last : Bool} {end : ℕ} {s : State} {b l : List ℕ} → (InPlace end s b l → ⊥) → Asks last end s b l (Err (record {})) b l

@@ -139,6 +139,12 @@ module _ {last : Bool} {w : List ℕ} {s₀ s : State} {l₀ l : List ℕ} {x : 
   go_beyond h = stop (misplaced (rw (lt-ltb (length w) s.at h)))
 
   module _ {r : Result State Why} {l' : List ℕ} (v : Takes last w s l r l') where
+    pub taken_stops : {why : Why} → r ≡ Err why → Drives last w s₀ l₀ (record { why = why; state = s }) l'
+    taken_stops {why} q = go (rw q at v)
+      where
+        go : Takes last w s l (Err why) l' → Drives last w s₀ l₀ (record { why = why; state = s }) l'
+        go (stays y e) = rw e (stop y)
+
     module _ {e : State} (q : r ≡ Ok e) (h : s.at ≤ length w) where
       pub taken_less : left w e < left w s
       taken_less = go (rw q at v)

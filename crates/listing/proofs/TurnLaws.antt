@@ -107,6 +107,9 @@ reach_known k h = k h
 
 -- ---- whether it is whole
 
+pub whole_fed : {fed : Bool} (last : Bool) → fed ≡ true → true ≡ (fed || last)
+whole_fed last e = rw e
+
 whole_or : (last : Bool) (l : Line) → is_whole last l ≡ (is_whole false l || last)
 unfolding is_whole
 whole_or last (line t nothing rest) = refl
@@ -209,4 +212,4 @@ module _ (last : Bool) (w : List ℕ) (at : ℕ) {phase : Phase} (r : Turn) (h :
   turn_rest q e = rw (le-ltb (length w) at h, q) e
 
 pub ruleset laws =
-    (reach_known, pass_whole, pass_none, pass_some, end_after, read_long, read_line, read_more, lead_last, lead_none, lead_hash, lead_other, long_whole, long_open, turn_lead, turn_comment, turn_lines, turn_rest)
+    (reach_known, whole_fed, pass_whole, pass_none, pass_some, end_after, read_long, read_line, read_more, lead_last, lead_none, lead_hash, lead_other, long_whole, long_open, turn_lead, turn_comment, turn_lines, turn_rest)

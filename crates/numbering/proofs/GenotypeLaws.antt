@@ -160,4 +160,7 @@ module _ (i p n : ℕ) (l : List ℕ) where
           let f : leb p (length l) ≡ true = le-leb _ _ (rw v.ploidy at w) in
           record { answer = rw (good, f); row = rw (good, f) (rw (v.ploidy, v.alleles) at o) }
 
+      pub place_under : i < how_many p n
+      place_under = let f = k.is in omega arith
+
 pub ruleset laws = (seek_first, seek_more, seek_less, seek_turn, seek_within, seek_low, seek_under, rest_under, put_more, put_room, put_none, place_past, place_short, place_done)

@@ -48,6 +48,9 @@ module _ {cur row₀ row : List ℕ} {at i : ℕ} (g : Copying cur row₀ row at
       let e : at + (i + 1) ≡ suc (at + i) = omega arith in
       record { within = omega arith; long = simp length-set g.long; same = rw e (rw (here cur i h) at g.same) }
 
+  pub copy_end : length cur ≤ i → at + i ≡ at + length cur
+  copy_end h = let w = g.within in omega arith
+
   pub copy_past : length cur ≤ i → row ≡ over_at at cur row₀
   unfolding over_at over
   copy_past h = rw (drop_of_length-le cur h) at g.same ∙ sets-eq cur row₀ at room ∙ rw (drop-drop (length cur) at row₀) (append_assoc (take at row₀) cur _)
@@ -265,4 +268,4 @@ module _ (p n : ℕ) where
             let e : c ≡ length (ordering p n) = k.is ∙ sym (length_ordering p n) in
             record { answer = rw (k.within, f, e); row = rw (k.within, f) (y.rows ∙ rw (block_all p n x long)) }
 
-pub ruleset laws = (copy_first, copy_room, copy_turn, copy_past, go_first, go_store, go_room, go_turn, go_past, first_room, first_turn, base_room, base_listed, scratch_length, list_some, shape_product, list_short, list_room, list_done)
+pub ruleset laws = (copy_first, copy_room, copy_turn, copy_end, copy_past, go_first, go_store, go_room, go_turn, go_past, first_room, first_turn, base_room, base_listed, scratch_length, list_some, shape_product, list_short, list_room, list_done)

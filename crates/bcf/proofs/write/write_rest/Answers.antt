@@ -10,10 +10,10 @@ returns-then-len-eq0 c = list_empty (list_of c.args.row) _ _ c.len.ensures c.if-
 pub returns-in_err-most : goal.returns-in_err-most
 returns-in_err-most c =
     let p = err_from_is_err_and c.from_residual.result c.from_residual.ensures.1 in
-    rw (p.1, p.2) (list_bad (list_of c.args.row) _ _ c.len.ensures c.if-len-eq0.false c.in_err-most.ensures)
+    rw (p.1, p.2) (list_bad (list_of c.args.row) _ _ c.len.ensures c.if-len-eq0.false (c.in_err-most.ensures.is _ c.args.row.parallel))
 
 pub write_sound-requires : goal.write_sound-requires
-write_sound-requires c = list_most (list_of c.args.row) c.in_ok-most.ensures
+write_sound-requires c = list_most (list_of c.args.row) (c.in_ok-most.ensures.is _ c.args.row.parallel)
 
 pub returns : goal.returns
-returns c = list_sound (list_of c.args.row) _ _ c.len.ensures c.if-len-eq0.false c.in_ok-most.ensures c.write_sound.ensures
+returns c = list_sound (list_of c.args.row) _ _ c.len.ensures c.if-len-eq0.false (c.in_ok-most.ensures.is _ c.args.row.parallel) c.write_sound.ensures
