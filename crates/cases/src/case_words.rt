@@ -4,8 +4,9 @@ ghost use Rattle.std.specs.Prelude.{◌≤◌, ◌<◌, IfSome};
 
 use crate::parts::{first, part, text_at};
 use decimal::read::read_decimal;
-use pieces::count::count_pieces;
+use pieces::count::count_byte;
 use pieces::nth::piece_nth;
+use pieces::step::{Piece, piece_at};
 use record::ending::Ending;
 
 // The most bytes of output that a case may lend.
@@ -23,6 +24,20 @@ pub fn between(s: &[u8], mark: u8, k: usize) -> &[u8] {
         Some(range) => text_at(s, range),
         None => &[],
     }
+}
+
+// The part that starts at a place, and where the next one starts, or the end of s.
+pub fn part_from(s: &[u8], mark: u8, from: usize) -> Option<(&[u8], usize)> {
+    match piece_at(s, mark, from) {
+        Ok(Piece::More(range, next)) => Some((text_at(s, range), next)),
+        Ok(Piece::Last(range)) => Some((text_at(s, range), s.len())),
+        Err(_) => None,
+    }
+}
+
+// How many parts there are, one of them where s is empty.
+pub fn count_parts(s: &[u8], mark: u8) -> Option<usize> {
+    count_byte(s, mark).checked_add(1)
 }
 
 // Word k of a case, its verb being word 0. No verb and no argument is empty.
@@ -75,10 +90,14 @@ pub fn numbers<'a>(case: &[u8], k: usize, row: &'a mut Row) -> Option<&'a [usize
     if s == b"-".as_slice() {
         return Some(&[]);
     }
-    for (n, part) in s.split(|b| *b == b',').enumerate() {
-        *row.get_mut(n)? = number_of(part)? as usize;
+    let n = count_parts(s, b',')?;
+    let mut from = 0;
+    for slot in row.get_mut(..n)? {
+        let (part, next) = part_from(s, b',', from)?;
+        *slot = number_of(part)? as usize;
+        from = next;
     }
-    Some(first(row, count_pieces(s, b',')))
+    Some(first(row, n))
 }
 
 // Word k of a case as an ending.

@@ -1,5 +1,5 @@
 // The verbs of rows of allele records, by the crate own: 64 records, of which a case uses the last.
-use crate::case_words::{ROOM, Text, hex, size, two_hex, word, words_from};
+use crate::case_words::{ROOM, Text, count_parts, hex, part_from, size, two_hex, word, words_from};
 use crate::genotypes::{ROW, then_record};
 use crate::output::Buffer;
 use crate::parts::front;
@@ -67,14 +67,17 @@ fn list(words: &[u8]) -> Option<Records> {
     if words == b"-".as_slice() {
         return Some(Records { from: ROW, row });
     }
-    let from = ROW.checked_sub(words.split(|b| *b == b' ').count())?;
-    for (record, s) in row.iter_mut().skip(from).zip(words.split(|b| *b == b' ')) {
+    let from = ROW.checked_sub(count_parts(words, b' ')?)?;
+    let mut at = 0;
+    for record in row.iter_mut().skip(from) {
+        let (s, next) = part_from(words, b' ', at)?;
         let (number, missing, phased) = allele_of(s)?;
         *record = Allele {
             number,
             missing: missing != 0,
             phased: phased != 0,
         };
+        at = next;
     }
     Some(Records { from, row })
 }

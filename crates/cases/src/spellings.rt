@@ -1,9 +1,11 @@
 // The verbs of the genotype writer over parallel slices.
-use crate::case_words::{ROOM, between, number, number_of, place, size, word, words_from};
+use crate::case_words::{
+    ROOM, between, count_parts, number, number_of, part_from, place, size, word, words_from,
+};
 use crate::genotypes::ROW;
 use crate::output::{Buffer, Said};
 use crate::parts::{first, front};
-use pieces::count::{count_byte, count_pieces};
+use pieces::count::count_byte;
 use spelling::write::{WriteError, write_genotype};
 
 pub fn answer(case: &[u8], arguments: usize, out: &mut Buffer) -> Option<()> {
@@ -141,11 +143,15 @@ pub fn list(
     if words == b"-".as_slice() {
         return Some(0);
     }
-    for (k, s) in words.split(|b| *b == b' ').enumerate() {
+    let n = count_parts(words, b' ')?;
+    let mut at = 0;
+    for k in 0..n {
+        let (s, next) = part_from(words, b' ', at)?;
         let (number, absent, joined) = allele_of(s)?;
         *numbers.get_mut(k)? = number;
         *missing.get_mut(k)? = u8::try_from(absent).ok()?;
         *phased.get_mut(k)? = u8::try_from(joined).ok()?;
+        at = next;
     }
-    Some(count_pieces(words, b' '))
+    Some(n)
 }
