@@ -9,11 +9,11 @@ returns-in_err-n c =
     let p = err_from_is_err_and c.from_residual.result c.from_residual.ensures.1 in
     rw p.1 (search (rules, laws, c.in_err-n.ensures, p.2))
 
-pub returns-in-0 : goal.returns-in-0
-returns-in-0 c = search (rules, laws, c.in_ok-n.ensures)
+pub returns-then-n-gt0 : goal.returns-then-n-gt0
+returns-then-n-gt0 c = search (rules, laws, c.in_ok-n.ensures)
 
-pub returns-in-0-2 : goal.returns-in-0-2
-returns-in-0-2 c = search (rules, laws, c.in_ok-n.ensures)
+pub returns-then-s-eq1 : goal.returns-then-s-eq1
+returns-then-s-eq1 c = search (rules, laws, c.in_ok-n.ensures)
 
-pub returns-in_default : goal.returns-in_default
-returns-in_default c = search (rules, laws, c.in_ok-n.ensures)
+pub returns : goal.returns
+returns c = search (rules, laws, c.in_ok-n.ensures)
